@@ -170,7 +170,7 @@ acks_done bay old new told answer code step only is = (
     codes (Err c) only is = inr (is ∙ ap code_number only)
 
 -- a transfer in a bay that isn't acknowledged
-pub transfers_ack : (kind : Kind) (bay : ℕ) (first : Chrn) (count address : ℕ) (old looked new : State) (told : Option Files) (code moved : ℕ) → true ≡ not (is_acknowledged old.station bay) → IsSame old looked → ((course : List Taken) × AcksAlone bay looked told course code moved new) → (course : List Taken) × Transfers kind bay first count address old told course code moved new
+pub transfers_ack : (kind : Kind) (bay : ℕ) (first : Chrn) (count address : ℕ) (old looked new : State) (told : Option Files) (code moved : ℕ) → true ≡ not (is_acknowledged old.station bay) → IsSame 2 old looked → ((course : List Taken) × AcksAlone bay looked told course code moved new) → (course : List Taken) × Transfers kind bay first count address old told course code moved new
 transfers_ack kind bay first count address old looked new told code moved changed same acks = (
   look_at looked ∷ acks.0,
   record {
@@ -187,7 +187,7 @@ transfers_ack kind bay first count address old looked new told code moved change
     by_test false is = acks.1
 
 -- a transfer in an acknowledged bay
-pub transfers_moves : (kind : Kind) (bay : ℕ) (first : Chrn) (count address : ℕ) (old looked new : State) (told : Option Files) (code moved : ℕ) → false ≡ not (is_acknowledged old.station bay) → IsSame old looked → ((course : List Taken) × MovesIn kind address (record_requests kind bay first address count) looked told course code moved new) → (course : List Taken) × Transfers kind bay first count address old told course code moved new
+pub transfers_moves : (kind : Kind) (bay : ℕ) (first : Chrn) (count address : ℕ) (old looked new : State) (told : Option Files) (code moved : ℕ) → false ≡ not (is_acknowledged old.station bay) → IsSame 2 old looked → ((course : List Taken) × MovesIn kind address (record_requests kind bay first address count) looked told course code moved new) → (course : List Taken) × Transfers kind bay first count address old told course code moved new
 transfers_moves kind bay first count address old looked new told code moved changed same moves = (
   look_at looked ∷ moves.0,
   record {
@@ -247,7 +247,7 @@ verifies_in kind bay first count address old new told code moved is verifies =
 
 -- ---- The work of a call.
 
-pub work_changed : (work : Work) (bay : ℕ) (old new : State) (told : Option Files) (code : ℕ) → work ≡ Changed bay → code ≡ (if is_acknowledged old.station bay then 0x00 else 0x06) → IsSame old new → (course : List Taken) × DoesWork work old told course code 0 new
+pub work_changed : (work : Work) (bay : ℕ) (old new : State) (told : Option Files) (code : ℕ) → work ≡ Changed bay → code ≡ (if is_acknowledged old.station bay then 0x00 else 0x06) → IsSame 2 old new → (course : List Taken) × DoesWork work old told course code 0 new
 work_changed work bay old new told code is code_is same = (
   look_at new ∷ [],
   subst (λ (w : Work). DoesWork w old told (look_at new ∷ []) code 0 new) (sym is) (record { course_is = refl; same = same; code_is = code_is; none = refl }),

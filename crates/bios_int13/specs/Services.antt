@@ -122,7 +122,7 @@ pub record AcksAlone (bay : ℕ) (old : State) (told : Option Files) (course : L
 -- The call looks at the bay first. Then it moves the records, or does the acknowledgement that has to come first.
 pub record Transfers (kind : Kind) (bay : ℕ) (first : Chrn) (count address : ℕ) (old : State) (told : Option Files) (course : List Taken) (code moved : ℕ) (new : State) : Type 0 where
   pub looked : State
-  pub same : IsSame old looked
+  pub same : IsSame 2 old looked
   pub later : List Taken
   pub course_is : course ≡ look_at looked ∷ later
   pub goes : MatchBool (is_acknowledged old.station bay)
@@ -139,7 +139,7 @@ pub record IsAnswered (planned : ℕ) (old : State) (course : List Taken) (code 
 -- a call answers whether a bay is acknowledged
 pub record TellsChanged (bay : ℕ) (old : State) (course : List Taken) (code moved : ℕ) (new : State) : Type 0 where
   pub course_is : course ≡ look_at new ∷ []
-  pub same : IsSame old new
+  pub same : IsSame 2 old new
   pub code_is : code ≡ (if is_acknowledged old.station bay then 0x00 else 0x06)
   pub none : moved ≡ 0
 

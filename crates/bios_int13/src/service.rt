@@ -97,7 +97,7 @@ fn do_work<D: Station>(session: &mut Session<D>, work: Work) -> Outcome
 fn change_code<D: Station>(session: &mut Session<D>, bay: u8) -> u8
     requires { bay ≤ 1 }
     ensures value { result ≡ (if is_acknowledged session.old.station bay then 0x00 else 0x06) }
-    ensures same { IsSame session.old session.new }
+    ensures same { IsSame 2 session.old session.new }
 {
     if session.is_changed(bay) {
         Code::Changed.number()

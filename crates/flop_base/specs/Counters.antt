@@ -29,6 +29,8 @@ pub record Counters : Type 0 where
   pub direct : ℕ
   -- the device steps so far, plus those of the gaps that are still to come after port accesses
   pub clock : ℕ
+  -- the gaps that are still to come after port accesses. Each port access uses one up, while there are any
+  pub gaps : ℕ
 
 -- the faults of the drive in a bay
 abbrev pub faults_of : Counters → ℕ → ℕ
@@ -97,11 +99,21 @@ pub record IsDriven (most : ℕ) (old new : Counters) : Type 0 where
 abbrev pub LastsUpTo : ℕ → Counters → Counters → Type 0
 LastsUpTo most old new = new.clock ≤ old.clock + most
 
--- a call past the driver makes at most `most` accesses, begins no data command and lasts no device step
+-- a call makes at most `most` port accesses, and one more for each interrupt that it takes. The gaps show it: for each one
+-- that was used up beyond `most`, an interrupt was taken
+abbrev pub AccessesPortsUpTo : ℕ → Counters → Counters → Type 0
+AccessesPortsUpTo most old new = RoseBy (old.gaps - new.gaps - most) old.taken new.taken
+
+-- the device steps and the port accesses of a call are at most these
+abbrev pub CostsUpTo : ℕ → ℕ → Counters → Counters → Type 0
+CostsUpTo steps accesses old new = LastsUpTo steps old new × AccessesPortsUpTo accesses old new
+
+-- a call past the driver makes at most `most` accesses past it, and begins no data command. It costs neither device steps
+-- nor port accesses
 pub record IsPastDriver (most : ℕ) (old new : Counters) : Type 0 where
   pub accesses : new.direct ≤ old.direct + most
   pub no_commands : new.data_commands ≡ old.data_commands
-  pub no_steps : LastsUpTo 0 old new
+  pub no_cost : CostsUpTo 0 0 old new
 
 -- how counters change when the next spare drive takes the place of the one in a bay: the spare brings its own counts
 pub record TakesSpare (bay : ℕ) (old new : Counters) : Type 0 where

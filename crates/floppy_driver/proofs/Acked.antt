@@ -15,7 +15,7 @@ use Rattle.flop_base.proofs.Counted.{faults_go_on}
 use Rattle.sector_map.specs.Met.{met_in, HasClearAddress}
 use Rattle.sector_map.specs.MetTracks.{MeetsTrack}
 use Rattle.sector_map.proofs.MetTracks.{met_from_mark, met_track, one_met}
-use Rattle.floppy_driver.specs.Rigs.{Rig, IsSound, OnlyAsks, track_under, LastsFor}
+use Rattle.floppy_driver.specs.Rigs.{CostsFor, Rig, IsSound, OnlyAsks, track_under}
 use Rattle.sector_model.specs.Stations.{Bay, StationState, bay_of, set_bay, fresh_bay}
 use Rattle.sector_model.specs.Orders.{IsRefusedAtOnce}
 use Rattle.sector_model.specs.Calls.{HasClearStart, HasNoStart, AcksDrive, Acks}
@@ -24,7 +24,7 @@ use Rattle.floppy_driver.specs.declared.driver.Driver.{Driver}
 use Rattle.floppy_driver.specs.Shown.{is_held, bay_shown, with_waiting, shown, with_notes}
 use Rattle.floppy_driver.specs.Attached.{IsAttached}
 use Rattle.floppy_driver.specs.Acknowledged.{Works, ClearsChange, OnlyReads, HasStart, IsHeldSince}
-use Rattle.floppy_driver.proofs.Lasting.{lasts_shown}
+use Rattle.floppy_driver.proofs.Lasting.{costs_shown}
 use Rattle.floppy_driver.proofs.Rounds.{HasStayedSet}
 use Rattle.floppy_driver.proofs.Shows.{noted_at, bay_shown_at, held_bay, held_shown, spun_at, attached_with, waiting_driven, driven_after, driven_within}
 use Rattle.floppy_driver.proofs.Worked.{works_read, works_after, works_round, driven_round, spun_round, clear_is_full, noted_worked, worked_shown}
@@ -74,8 +74,8 @@ module _ (driver after : Driver) (old : Rig) (bay : ℕ) (new : Rig) (notes : No
     why None e = inl (ap (λ (b : Bay). b.medium) (bay_shown_at driver old spares waiting bay) ∙ e)
     why (Some disk) e = inr (stayed.lost (subst (λ (m : Option Disk). IsSome m) (sym e) refl))
 
-    pub acks_unready : LastsFor bay 12 9031 old new → Acks bay (shown driver old spares waiting) (Err NotReady) (shown after new spares waiting)
-    acks_unready lasts =
+    pub acks_unready : CostsFor bay 12 9031 172 old new → Acks bay (shown driver old spares waiting) (Err NotReady) (shown after new spares waiting)
+    acks_unready costs =
         let before = shown driver old spares waiting in
         acks_bay before (shown after new spares waiting) bay (Err NotReady) in_range
         (record {
@@ -88,7 +88,7 @@ module _ (driver after : Driver) (old : Rig) (bay : ℕ) (new : Rig) (notes : No
                 ∙ ap (λ (b : Bay). record (set_bay before bay b) { counters = with_waiting new.counters waiting }) fresh_shown;
           };
           driven = driven_within 0 6 before.counters (with_waiting new.counters waiting) (omega arith) (waiting_driven 0 old.counters new.counters waiting stayed.driven);
-          lasts = lasts_shown driver old new spares waiting bay 12 9031 lasts;
+          costs = costs_shown driver old new spares waiting bay 12 9031 172 costs;
         })
 
 -- ---- acknowledged
@@ -230,9 +230,9 @@ module _ (driver after : Driver) (start : Rig) (bay count : ℕ) (notes : Notes)
 
   -- ---- the step
 
-  pub acks_done : LastsFor bay 12 9031 start new → (spares : ℕ) (waiting : List DriveCounts) → Acks bay (shown driver start spares waiting) (Ok tt) (shown after new spares waiting)
+  pub acks_done : CostsFor bay 12 9031 172 start new → (spares : ℕ) (waiting : List DriveCounts) → Acks bay (shown driver start spares waiting) (Ok tt) (shown after new spares waiting)
   unfolding disk
-  acks_done lasts spares waiting =
+  acks_done costs spares waiting =
       let before = shown driver start spares waiting in
       let now_medium : in_bay new.media bay ≡ Some full.0 = ap (λ (t : Two (Option Disk)). in_bay t bay) reads.media ∙ medium_now in
       let bay_is : bay_shown notes (in_bay new.media bay) (in_bay new.changes bay) ≡ record { medium = Some full.0; acknowledged = Some (faults_of new.counters bay); rate = notes.rate } =
@@ -256,5 +256,5 @@ module _ (driver after : Driver) (start : Rig) (bay count : ℕ) (notes : Notes)
         driven =
             waiting_driven 6 start.counters new.counters waiting
             (driven_after 0 6 start.counters asked.counters new.counters worked.counts reads.counts (driven_round start bay count old stayed reached mid clears asked asks) reads.driven);
-        lasts = lasts_shown driver start new spares waiting bay 12 9031 lasts;
+        costs = costs_shown driver start new spares waiting bay 12 9031 172 costs;
       })

@@ -1,5 +1,5 @@
 -- Calls that only ask, and calls that set the rate of a bay.
-use Rattle.std.proofs.Common.{◌≡◌, ℕ, ◌≤◌, Bool, true, false, List, Option, Some, None, MatchOption, Result, Ok, Err, refl, sym, ap, ◌∙◌, subst}
+use Rattle.std.proofs.Common.{◌≡◌, ℕ, ◌≤◌, Bool, true, false, List, Option, Some, None, MatchOption, Result, Ok, Err, refl, sym, ap, ◌∙◌, subst, arith}
 use Rattle.std.specs.Prelude.{not, if◌then◌else◌}
 use Rattle.std.proofs.lemmas.Bool.{le-leb}
 use Rattle.raw_image.specs.Disk.{Disk}
@@ -7,29 +7,29 @@ use Rattle.flop_base.specs.declared.answers.Rate.{Rate}
 use Rattle.flop_base.specs.declared.answers.Code.{Code}
 use Rattle.flop_base.specs.declared.answers.Code.TheVariants.{BadRequest, Changed}
 use Rattle.flop_base.specs.Bays.{Two, in_bay}
-use Rattle.flop_base.specs.Counters.{DriveCounts, LastsUpTo}
-use Rattle.floppy_driver.specs.Rigs.{Rig, LastsFor, OnlyAsks}
+use Rattle.flop_base.specs.Counters.{CostsUpTo, DriveCounts}
+use Rattle.floppy_driver.specs.Rigs.{CostsFor, Rig, OnlyAsks}
 use Rattle.sector_model.specs.Stations.{Bay, StationState, bay_of, set_bay}
 use Rattle.sector_model.specs.Orders.{is_acknowledged, IsRefusedAtOnce}
 use Rattle.sector_model.specs.Calls.{SetsRate, RatesTo, TellsChange}
 use Rattle.floppy_driver.specs.declared.driver.Notes.{Notes}
 use Rattle.floppy_driver.specs.declared.driver.Driver.{Driver}
 use Rattle.floppy_driver.specs.Shown.{notes_of, is_held, bay_shown, with_waiting, shown, with_notes, HasAsked}
-use Rattle.floppy_driver.proofs.Lasting.{no_steps}
+use Rattle.floppy_driver.proofs.Lasting.{asking_costs, question_costs}
 use Rattle.floppy_driver.proofs.Shows.{held_bay, held_shown, held_bay_shown, acknowledged_held, asks_shown, noted_shown}
 
 -- a refusal that follows a question
-pub refused_asking : {A : Type 0} (old : StationState) (code : Code) (new : StationState) → HasAsked old new → LastsUpTo 0 old.counters new.counters → IsRefusedAtOnce {A = A} code old (Err code) new
-refused_asking old code new asked none = record { refused = refl; stays = asked.stays; idle = asked.idle; no_steps = none }
+pub refused_asking : {A : Type 0} (old : StationState) (code : Code) (new : StationState) → HasAsked old new → CostsUpTo 0 6 old.counters new.counters → IsRefusedAtOnce {A = A} code old (Err code) new
+refused_asking old code new asked costs = record { refused = refl; stays = asked.stays; idle = asked.idle; costs = costs }
 
-pub tells_change : (driver after : Driver) (old new : Rig) (bay : ℕ) (held : Bool) (spares : ℕ) (waiting : List DriveCounts) → held ≡ is_held (notes_of driver bay) (in_bay old.changes bay) → shown after old spares waiting ≡ shown driver old spares waiting → OnlyAsks old new → LastsFor bay 0 0 old new → TellsChange bay (shown driver old spares waiting) (not held) (shown after new spares waiting)
-tells_change driver after old new bay held spares waiting is same asks none =
+pub tells_change : (driver after : Driver) (old new : Rig) (bay : ℕ) (held : Bool) (spares : ℕ) (waiting : List DriveCounts) → held ≡ is_held (notes_of driver bay) (in_bay old.changes bay) → shown after old spares waiting ≡ shown driver old spares waiting → OnlyAsks old new → CostsFor bay 0 0 2 old new → TellsChange bay (shown driver old spares waiting) (not held) (shown after new spares waiting)
+tells_change driver after old new bay held spares waiting is same asks costs =
     let asked = asks_shown driver after old new spares waiting same asks in
     record {
       changed = ap not (is ∙ sym (acknowledged_held driver old spares waiting bay));
       stays = asked.stays;
       idle = asked.idle;
-      no_steps = no_steps bay old new none;
+      costs = asking_costs bay 2 old new costs;
     }
 
 module _ (old : StationState) (bay : ℕ) (rate : Rate) (answer : Result (Unit {0}) Code) (new : StationState) (in_range : bay ≤ 1) where
@@ -45,13 +45,13 @@ module _ (old : StationState) (bay : ℕ) (rate : Rate) (answer : Result (Unit {
   rates_done : is_acknowledged old bay ≡ true → SetsRate bay rate old answer new → RatesTo bay rate old answer new
   rates_done is step = rates_by true is step
 
-module _ (driver middle after : Driver) (old new : Rig) (bay : ℕ) (rate : Rate) (spares : ℕ) (waiting : List DriveCounts) (in_range : bay ≤ 1) (same : shown middle old spares waiting ≡ shown driver old spares waiting) (asks : OnlyAsks old new) (none : LastsFor bay 0 0 old new) where
+module _ (driver middle after : Driver) (old new : Rig) (bay : ℕ) (rate : Rate) (spares : ℕ) (waiting : List DriveCounts) (in_range : bay ≤ 1) (same : shown middle old spares waiting ≡ shown driver old spares waiting) (asks : OnlyAsks old new) (costs : CostsFor bay 0 0 2 old new) where
   pub rate_refused : is_held (notes_of driver bay) (in_bay old.changes bay) ≡ false → RatesTo bay rate (shown driver old spares waiting) (Err Changed) (shown middle new spares waiting)
   rate_refused held =
       rates_refused (shown driver old spares waiting) bay rate (Err Changed) (shown middle new spares waiting) in_range
       (acknowledged_held driver old spares waiting bay ∙ held)
       (refused_asking (shown driver old spares waiting) Changed (shown middle new spares waiting) (asks_shown driver middle old new spares waiting same asks)
-      (no_steps bay old new none))
+      (question_costs bay 2 old new (omega arith) costs))
 
   pub rate_done : is_held (notes_of driver bay) (in_bay old.changes bay) ≡ true → after ≡ with_notes middle bay (record (notes_of middle bay) { rate = rate }) → RatesTo bay rate (shown driver old spares waiting) (Ok tt) (shown after new spares waiting)
   rate_done held is =
@@ -76,5 +76,5 @@ module _ (driver middle after : Driver) (old new : Rig) (bay : ℕ) (rate : Rate
             ∙ ap (λ (s : StationState). set_bay s bay (bay_shown rated (in_bay new.media bay) (in_bay new.changes bay))) asked.stays
             ∙ ap (λ (b : Bay). record (set_bay before bay b) { counters = with_waiting new.counters waiting }) is_now;
         idle = asked.idle;
-        no_steps = no_steps bay old new none;
+        costs = asking_costs bay 2 old new costs;
       })

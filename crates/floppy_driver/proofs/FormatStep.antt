@@ -10,19 +10,19 @@ use Rattle.flop_base.specs.declared.answers.Code.{Code}
 use Rattle.flop_base.specs.declared.answers.Code.TheVariants.{BadRequest, Changed, Protected, Seek}
 use Rattle.raw_image.specs.Disk.{Disk}
 use Rattle.flop_base.specs.Bays.{Two, in_bay}
-use Rattle.flop_base.specs.Counters.{DriveCounts, Counters, GoesOn, IsFaultless, DisturbedLess, IsDriven, LastsUpTo}
+use Rattle.flop_base.specs.Counters.{DriveCounts, Counters, GoesOn, IsFaultless, DisturbedLess, IsDriven, CostsUpTo}
 use Rattle.flop_base.proofs.Counted.{goes_on_after, faults_go_on}
 use Rattle.sector_map.specs.Layings.{Format, IsFormattable}
 use Rattle.sector_model.specs.Stations.{Bay, StationState, bay_of, set_bay}
-use Rattle.sector_model.specs.Lasting.{format_steps, format_time, format_turns}
+use Rattle.sector_model.specs.Lasting.{format_once_port_accesses, format_port_accesses, format_steps, format_time, format_turns}
 use Rattle.sector_model.specs.Orders.{is_bay, is_place, is_acknowledged, is_protected, most_format_gap, is_format_request, IsRefusedAtOnce}
 use Rattle.sector_model.specs.Formats.{IsFormatCause, FormatsDrive, FormatsTo}
-use Rattle.floppy_driver.specs.Rigs.{Rig, OnlyAsks, LastsFor}
+use Rattle.floppy_driver.specs.Rigs.{CostsFor, Rig, OnlyAsks}
 use Rattle.floppy_driver.specs.Shown.{notes_of, is_held, with_waiting, shown, HasAsked}
 use Rattle.floppy_driver.specs.Formattings.{IsAttemptRefusal, FormatsIn, HasOnlyMedium}
 use Rattle.floppy_driver.specs.declared.driver.Driver.{Driver}
 use Rattle.floppy_driver.proofs.Shows.{bay_shown_at, acknowledged_held, asks_shown, driven_after}
-use Rattle.floppy_driver.proofs.Lasting.{format_lasts, lasts_shown, no_steps, no_steps_on}
+use Rattle.floppy_driver.proofs.Lasting.{costs_shown, format_costs, question_costs, questions_cost}
 use Rattle.floppy_driver.proofs.Asking.{refused_asking}
 use Rattle.floppy_driver.proofs.ReadBacks.{heads_stay_after}
 
@@ -135,8 +135,8 @@ drive_cause format bay (Err code) old new medium never some unsent refused = rec
 
 -- a format in as many attempts as the station has
 formats_drive : (format : Format) (bay : ℕ) (answer : Result (Unit {0}) Code) (old new : StationState) (before after : Option Disk) → 1 ≤ old.tries → (bay_of old bay).medium ≡ before → (bay_of new bay).medium ≡ after → HasOnlyMedium bay after old new → FormatsIn old.tries format bay before after old.counters answer new.counters
-    → LastsUpTo (format_time old bay format.rate) old.counters new.counters → FormatsDrive format bay old answer new
-formats_drive format bay answer old new before after some was is becomes attempts lasts =
+    → CostsUpTo (format_time old bay format.rate) (format_port_accesses old format.rate) old.counters new.counters → FormatsDrive format bay old answer new
+formats_drive format bay answer old new before after some was is becomes attempts costs =
     let In : Option Disk → Option Disk → Type 0 = λ m n. FormatsIn old.tries format bay m n old.counters answer new.counters in
     let formats : In (bay_of old bay).medium (bay_of new bay).medium = subst (λ (m : Option Disk). In m (bay_of new bay).medium) (sym was) (subst (In before) (sym is) attempts) in
     let ends = formats.ends some in
@@ -153,7 +153,7 @@ formats_drive format bay answer old new before after some was is becomes attempt
       formatted_track = ends.formatted_track;
       refused = drive_cause format bay answer old new (bay_of old bay).medium formats.never some (formats.unsent some) ends.refused;
       driven = formats.driven;
-      lasts = lasts;
+      costs = costs;
     }
 
 -- ---- driver and machine
@@ -199,7 +199,7 @@ module _ (driver middle : Driver) (old : Rig) (bay c h gap3 : ℕ) (held : Bool)
       ∙ ap (λ (r : Rate). nat_le gap3 (most_format_gap r)) rate_shown
       ∙ gap
 
-  module _ (asked : (is_bay bay && is_place c h && nat_le 16 gap3) ≡ true) (fill : ℕ) (new : Rig) (asks : OnlyAsks old new) (none : LastsFor bay 0 0 old new) where
+  module _ (asked : (is_bay bay && is_place c h && nat_le 16 gap3) ≡ true) (fill : ℕ) (new : Rig) (asks : OnlyAsks old new) (none : CostsFor bay 0 0 2 old new) where
     abbrev now : StationState
     now = shown middle new spares waiting
 
@@ -209,12 +209,12 @@ module _ (driver middle : Driver) (old : Rig) (bay c h gap3 : ℕ) (held : Bool)
     pub gap_refused : most_format_gap rate < gap3 → FormatsTo bay c h gap3 fill start (Err BadRequest) now
     gap_refused long =
         step_unasked start bay c h gap3 fill (Err BadRequest) now (request_is false asked (lt-leb gap3 (most_format_gap rate) long))
-        (refused_asking {A = Unit {0}} start BadRequest now has_asked (no_steps bay old new none))
+        (refused_asking {A = Unit {0}} start BadRequest now has_asked (question_costs bay 2 old new (omega arith) none))
 
     pub change_refused : gap3 ≤ most_format_gap rate → held ≡ false → FormatsTo bay c h gap3 fill start (Err Changed) now
     change_refused fits unheld =
         step_unheld start bay c h gap3 fill (Err Changed) now (request_is true asked (le-leb gap3 (most_format_gap rate) fits)) (acknowledged_is ∙ unheld)
-        (refused_asking {A = Unit {0}} start Changed now has_asked (no_steps bay old new none))
+        (refused_asking {A = Unit {0}} start Changed now has_asked (question_costs bay 2 old new (omega arith) none))
 
     protects_is : (answer : Bool) → answer ≡ protects (in_bay new.media bay) → is_protected start bay ≡ answer
     protects_is answer line =
@@ -223,17 +223,17 @@ module _ (driver middle : Driver) (old : Rig) (bay c h gap3 : ℕ) (held : Bool)
         ∙ sym line
 
     -- the machine was also asked whether the medium is protected
-    module _ (fits : gap3 ≤ most_format_gap rate) (holds : held ≡ true) (last : Rig) (too : OnlyAsks new last) (none_too : LastsFor bay 0 0 new last) where
+    module _ (fits : gap3 ≤ most_format_gap rate) (holds : held ≡ true) (last : Rig) (too : OnlyAsks new last) (none_too : CostsFor bay 0 0 4 new last) where
       pub protection_refused : true ≡ protects (in_bay new.media bay) → FormatsTo bay c h gap3 fill start (Err Protected) (shown middle last spares waiting)
       protection_refused line =
           let after = shown middle last spares waiting in
           step_protected start bay c h gap3 fill (Err Protected) after (request_is true asked (le-leb gap3 (most_format_gap rate) fits)) (acknowledged_is ∙ holds) (protects_is true line)
           (refused_asking {A = Unit {0}} start Protected after (asks_shown driver middle old last spares waiting same (asks_after old new last asks too))
-          (no_steps_on old.counters new.counters last.counters (no_steps bay old new none) (no_steps bay new last none_too)))
+          (questions_cost bay old new last none none_too))
 
       -- a format in attempts is the step
-      pub format_step : false ≡ protects (in_bay new.media bay) → (after : Driver) (answer : Result (Unit {0}) Code) (end : Rig) → 1 ≤ driver.tries → middle.tries ≡ driver.tries → GoesOn last.counters end.counters → FormatsIn middle.tries (record { c = c; h = h; rate = rate; gap3 = gap3; fill = fill }) bay (in_bay last.media bay) (in_bay end.media bay) last.counters answer end.counters → HasOnlyMedium bay (in_bay end.media bay) (shown middle last spares waiting) (shown after end spares waiting) → LastsFor bay (middle.tries * format_turns rate) (middle.tries * format_steps rate) last end → FormatsTo bay c h gap3 fill start answer (shown after end spares waiting)
-      format_step line after answer end some tries goes formats medium lasts =
+      pub format_step : false ≡ protects (in_bay new.media bay) → (after : Driver) (answer : Result (Unit {0}) Code) (end : Rig) → 1 ≤ driver.tries → middle.tries ≡ driver.tries → GoesOn last.counters end.counters → FormatsIn middle.tries (record { c = c; h = h; rate = rate; gap3 = gap3; fill = fill }) bay (in_bay last.media bay) (in_bay end.media bay) last.counters answer end.counters → HasOnlyMedium bay (in_bay end.media bay) (shown middle last spares waiting) (shown after end spares waiting) → CostsFor bay (middle.tries * format_turns rate) (middle.tries * format_steps rate) (middle.tries * format_once_port_accesses rate) last end → FormatsTo bay c h gap3 fill start answer (shown after end spares waiting)
+      format_step line after answer end some tries goes formats medium costs =
           let whole = asks_after old new last asks too in
           let stop = shown after end spares waiting in
           let asked_of : HasAsked start (shown middle last spares waiting) = asks_shown driver middle old last spares waiting same whole in
@@ -248,5 +248,6 @@ module _ (driver middle : Driver) (old : Rig) (bay c h gap3 : ℕ) (held : Bool)
           (medium_shown driver old spares waiting bay ∙ sym media) (medium_shown after end spares waiting bay) only
           (formats_shown driver.tries (of_rate (bay_of start bay).rate) bay answer (in_bay last.media bay) (in_bay end.media bay) old.counters last.counters end.counters waiting
           whole.counts goes whole.driven attempts)
-          (lasts_shown driver old end spares waiting bay (driver.tries * format_turns (bay_of start bay).rate) (driver.tries * format_steps (bay_of start bay).rate)
-          (format_lasts bay driver.tries middle.tries rate (bay_of start bay).rate old new last end tries (sym rate_shown) none none_too lasts)))
+          (costs_shown driver old end spares waiting bay (driver.tries * format_turns (bay_of start bay).rate) (driver.tries * format_steps (bay_of start bay).rate)
+          (6 + driver.tries * format_once_port_accesses (bay_of start bay).rate)
+          (format_costs bay driver.tries middle.tries rate (bay_of start bay).rate old new last end tries (sym rate_shown) none none_too costs)))

@@ -1,16 +1,17 @@
--- How long calls last, one after another.
+-- What calls cost, one after another.
 use Rattle.std.proofs.Common.{◌≡◌, ℕ, ◌+◌, ◌*◌, ◌≤◌, List, Option, Some, None, Result, refl, sym, ◌∙◌, ap, subst, arith}
 use Rattle.std.proofs.Math.Nat.{mul-le-mul_right}
 use Rattle.flop_base.specs.Bays.{Two, in_bay}
-use Rattle.flop_base.specs.Counters.{Counters, DriveCounts, LastsUpTo}
+use Rattle.flop_base.proofs.Costs.{accesses_twice, accesses_within, costs_none, costs_twice, costs_within}
+use Rattle.flop_base.specs.Counters.{CostsUpTo, Counters, DriveCounts}
 use Rattle.flop_base.specs.declared.answers.Code.{Code}
 use Rattle.flop_base.specs.declared.answers.Rate.{Rate}
 use Rattle.raw_image.specs.Disk.{Disk}
 use Rattle.sector_map.specs.Changes.{Change, Written}
 use Rattle.sector_map.specs.Layings.{Format, Laying}
-use Rattle.sector_model.specs.Lasting.{format_steps, format_turns, time_in, turn_of}
+use Rattle.sector_model.specs.Lasting.{format_once_port_accesses, format_steps, format_turns, time_in, turn_of}
 use Rattle.sector_model.specs.Stations.{Bay, StationState, bay_of}
-use Rattle.floppy_driver.specs.Rigs.{Rig, LastsFor, turn_in}
+use Rattle.floppy_driver.specs.Rigs.{CostsFor, Rig, turn_in}
 use Rattle.floppy_driver.specs.Shown.{HasAsked, shown}
 use Rattle.floppy_driver.specs.Writing.{FormatsTrack, WritesData}
 use Rattle.floppy_driver.specs.declared.driver.Driver.{Driver}
@@ -44,21 +45,30 @@ adds : (a b c turn other t u n m : ℕ) → other ≡ turn → b ≤ a + (t * tu
 adds a b c turn other t u n m same first second =
     let next : c ≤ b + (u * turn + m) = subst (λ x. c ≤ b + (u * x + m)) same second in omega (arith, first, next)
 
-pub lasts_on : (bay t u n m : ℕ) (a b c : Rig) → LastsFor bay t n a b → LastsFor bay u m b c → LastsFor bay (t + u) (n + m) a c
-lasts_on bay t u n m a b c first second = record {
+pub costs_on : (bay t u n m p q : ℕ) (a b c : Rig) → CostsFor bay t n p a b → CostsFor bay u m q b c → CostsFor bay (t + u) (n + m) (p + q) a c
+costs_on bay t u n m p q a b c first second = record {
   turn = second.turn ∙ first.turn;
-  few = adds a.counters.clock b.counters.clock c.counters.clock (turn_in a bay) (turn_in b bay) t u n m first.turn first.few second.few;
+  costs = (
+    adds a.counters.clock b.counters.clock c.counters.clock (turn_in a bay) (turn_in b bay) t u n m first.turn first.costs.0 second.costs.0,
+    accesses_twice p q a.counters b.counters c.counters first.costs.1 second.costs.1,
+  );
 }
 
 grows : (a b turn t u n m : ℕ) → t ≤ u → n ≤ m → b ≤ a + (t * turn + n) → b ≤ a + (u * turn + m)
 grows a b turn t u n m more later few = omega (arith, later, few, mul-le-mul_right turn more)
 
-pub lasts_within : (bay t u n m : ℕ) (a b : Rig) → t ≤ u → n ≤ m → LastsFor bay t n a b → LastsFor bay u m a b
-lasts_within bay t u n m a b more later lasts = record { turn = lasts.turn; few = grows a.counters.clock b.counters.clock (turn_in a bay) t u n m more later lasts.few }
+pub costs_for : (bay t u n m p q : ℕ) (a b : Rig) → t ≤ u → n ≤ m → p ≤ q → CostsFor bay t n p a b → CostsFor bay u m q a b
+costs_for bay t u n m p q a b more later many costs = record {
+  turn = costs.turn;
+  costs = (
+    grows a.counters.clock b.counters.clock (turn_in a bay) t u n m more later costs.costs.0,
+    accesses_within p q a.counters b.counters many costs.costs.1,
+  );
+}
 
 -- nothing was done
-pub lasts_any : (bay t n : ℕ) (rig : Rig) → LastsFor bay t n rig rig
-lasts_any bay t n rig = record { turn = refl; few = omega arith }
+pub costs_any : (bay t n p : ℕ) (rig : Rig) → CostsFor bay t n p rig rig
+costs_any bay t n p rig = record { turn = refl; costs = costs_none (t * turn_in rig bay + n) p rig.counters }
 
 -- ---- attempts
 
@@ -66,53 +76,61 @@ next_times : (k next t : ℕ) → next ≡ k + 1 → k * t + t ≡ next * t
 next_times k next t is = subst (λ x. k * t + t ≡ x * t) (sym is) (omega arith)
 
 -- one more attempt
-pub lasts_next : (bay t n k next : ℕ) (a b c : Rig) → next ≡ k + 1 → LastsFor bay (k * t) (k * n) a b → LastsFor bay t n b c → LastsFor bay (next * t) (next * n) a c
-lasts_next bay t n k next a b c is before one =
-    subst (λ turns. LastsFor bay turns (next * n) a c) (next_times k next t is)
-    (subst (λ steps. LastsFor bay (k * t + t) steps a c) (next_times k next n is) (lasts_on bay (k * t) t (k * n) n a b c before one))
+pub costs_next : (bay t n p k next : ℕ) (a b c : Rig) → next ≡ k + 1 → CostsFor bay (k * t) (k * n) (k * p) a b → CostsFor bay t n p b c → CostsFor bay (next * t) (next * n) (next * p) a c
+costs_next bay t n p k next a b c is before one =
+    subst (λ turns. CostsFor bay turns (next * n) (next * p) a c) (next_times k next t is)
+    (subst (λ steps. CostsFor bay (k * t + t) steps (next * p) a c) (next_times k next n is)
+    (subst (λ accesses. CostsFor bay (k * t + t) (k * n + n) accesses a c) (next_times k next p is) (costs_on bay (k * t) t (k * n) n (k * p) p a b c before one)))
 
 -- fewer attempts than there may be
-pub lasts_fewer : (bay t n k tries : ℕ) (a b : Rig) → k ≤ tries → LastsFor bay (k * t) (k * n) a b → LastsFor bay (tries * t) (tries * n) a b
-lasts_fewer bay t n k tries a b few lasts = lasts_within bay (k * t) (tries * t) (k * n) (tries * n) a b (mul-le-mul_right t few) (mul-le-mul_right n few) lasts
+pub costs_fewer : (bay t n p k tries : ℕ) (a b : Rig) → k ≤ tries → CostsFor bay (k * t) (k * n) (k * p) a b → CostsFor bay (tries * t) (tries * n) (tries * p) a b
+costs_fewer bay t n p k tries a b few costs =
+    costs_for bay (k * t) (tries * t) (k * n) (tries * n) (k * p) (tries * p) a b (mul-le-mul_right t few) (mul-le-mul_right n few) (mul-le-mul_right p few) costs
 
 -- a format after two questions
-pub format_lasts : (bay tries other : ℕ) (rate kept : Rate) (a b c d : Rig) → other ≡ tries → rate ≡ kept → LastsFor bay 0 0 a b → LastsFor bay 0 0 b c
-    → LastsFor bay (other * format_turns rate) (other * format_steps rate) c d → LastsFor bay (tries * format_turns kept) (tries * format_steps kept) a d
-format_lasts bay tries other rate kept a b c d many same first second last =
-    let as_kept = subst (λ r. LastsFor bay (other * format_turns r) (other * format_steps r) c d) same last in
-    let as_many = subst (λ k. LastsFor bay (k * format_turns kept) (k * format_steps kept) c d) many as_kept in
+pub format_costs : (bay tries other : ℕ) (rate kept : Rate) (a b c d : Rig) → other ≡ tries → rate ≡ kept → CostsFor bay 0 0 2 a b → CostsFor bay 0 0 4 b c
+    → CostsFor bay (other * format_turns rate) (other * format_steps rate) (other * format_once_port_accesses rate) c d
+    → CostsFor bay (tries * format_turns kept) (tries * format_steps kept) (6 + tries * format_once_port_accesses kept) a d
+format_costs bay tries other rate kept a b c d many same first second last =
+    let as_kept = subst (λ r. CostsFor bay (other * format_turns r) (other * format_steps r) (other * format_once_port_accesses r) c d) same last in
+    let as_many = subst (λ k. CostsFor bay (k * format_turns kept) (k * format_steps kept) (k * format_once_port_accesses kept) c d) many as_kept in
     let turns = tries * format_turns kept in
     let steps = tries * format_steps kept in
-    lasts_within bay (0 + (0 + turns)) turns (0 + (0 + steps)) steps a d (omega arith) (omega arith)
-    (lasts_on bay 0 (0 + turns) 0 (0 + steps) a b d first (lasts_on bay 0 turns 0 steps b c d second as_many))
+    let accesses = tries * format_once_port_accesses kept in
+    costs_for bay (0 + (0 + turns)) turns (0 + (0 + steps)) steps (2 + (4 + accesses)) (6 + accesses) a d (omega arith) (omega arith) (omega arith)
+    (costs_on bay 0 (0 + turns) 0 (0 + steps) 2 (4 + accesses) a b d first (costs_on bay 0 turns 0 steps 4 accesses b c d second as_many))
 
 -- ---- as a station shows it
 
 -- a question
-pub no_steps : (bay : ℕ) (old new : Rig) → LastsFor bay 0 0 old new → LastsUpTo 0 old.counters new.counters
-no_steps bay old new lasts = let few = lasts.few in omega arith
+pub asking_costs : (bay accesses : ℕ) (old new : Rig) → CostsFor bay 0 0 accesses old new → CostsUpTo 0 accesses old.counters new.counters
+asking_costs bay accesses old new costs = let lasts = costs.costs.0 in (omega (arith, lasts), costs.costs.1)
 
-pub no_steps_on : (a b c : Counters) → LastsUpTo 0 a b → LastsUpTo 0 b c → LastsUpTo 0 a c
-no_steps_on a b c first second = omega (arith, first, second)
+-- one question, of which at most six port accesses are counted
+pub question_costs : (bay accesses : ℕ) (old new : Rig) → accesses ≤ 6 → CostsFor bay 0 0 accesses old new → CostsUpTo 0 6 old.counters new.counters
+question_costs bay accesses old new few costs = costs_within 0 0 accesses 6 old.counters new.counters (omega arith) few (asking_costs bay accesses old new costs)
+
+-- the change line is looked at, and it is asked whether the medium is protected
+pub questions_cost : (bay : ℕ) (a b c : Rig) → CostsFor bay 0 0 2 a b → CostsFor bay 0 0 4 b c → CostsUpTo 0 6 a.counters c.counters
+questions_cost bay a b c first second = costs_twice 0 0 2 4 a.counters b.counters c.counters (asking_costs bay 2 a b first) (asking_costs bay 4 b c second)
 
 turn_shown : (driver : Driver) (rig : Rig) (spares : ℕ) (waiting : List DriveCounts) (bay : ℕ) → turn_of (bay_of (shown driver rig spares waiting) bay).medium ≡ turn_in rig bay
 turn_shown driver rig spares waiting bay = ap (λ (b : Bay). turn_of b.medium) (bay_shown_at driver rig spares waiting bay)
 
-pub lasts_shown : (driver : Driver) (old new : Rig) (spares : ℕ) (waiting : List DriveCounts) (bay turns steps : ℕ) → LastsFor bay turns steps old new
-    → LastsUpTo (time_in (shown driver old spares waiting) bay turns steps) old.counters new.counters
-lasts_shown driver old new spares waiting bay turns steps lasts =
-    subst (λ t. new.counters.clock ≤ old.counters.clock + (turns * t + steps)) (sym (turn_shown driver old spares waiting bay)) lasts.few
-
-after_none : (a b c most : ℕ) → b ≤ a + 0 → c ≤ b + most → c ≤ a + most
-after_none a b c most first second = omega (arith, first, second)
+pub costs_shown : (driver : Driver) (old new : Rig) (spares : ℕ) (waiting : List DriveCounts) (bay turns steps accesses : ℕ) → CostsFor bay turns steps accesses old new
+    → CostsUpTo (time_in (shown driver old spares waiting) bay turns steps) accesses old.counters new.counters
+costs_shown driver old new spares waiting bay turns steps accesses costs =
+    subst (λ t. CostsUpTo (turns * t + steps) accesses old.counters new.counters) (sym (turn_shown driver old spares waiting bay)) costs.costs
 
 -- attempts after questions
-pub lasts_asked : (start : StationState) (driver : Driver) (old new : Rig) (spares : ℕ) (waiting : List DriveCounts) (bay turns steps : ℕ) → HasAsked start (shown driver old spares waiting)
-    → LastsUpTo 0 start.counters old.counters → LastsFor bay (driver.tries * turns) (driver.tries * steps) old new
-    → LastsUpTo (time_in start bay (start.tries * turns) (start.tries * steps)) start.counters new.counters
-lasts_asked start driver old new spares waiting bay turns steps asked none lasts =
+pub costs_asked : (start : StationState) (driver : Driver) (old new : Rig) (spares : ℕ) (waiting : List DriveCounts) (bay turns steps accesses : ℕ) → HasAsked start (shown driver old spares waiting)
+    → CostsUpTo 0 6 start.counters old.counters → CostsFor bay (driver.tries * turns) (driver.tries * steps) (driver.tries * accesses) old new
+    → CostsUpTo (time_in start bay (start.tries * turns) (start.tries * steps)) (6 + start.tries * accesses) start.counters new.counters
+costs_asked start driver old new spares waiting bay turns steps accesses asked first costs =
     let tries : driver.tries ≡ start.tries = ap (λ (s : StationState). s.tries) asked.stays in
     let turn : turn_in old bay ≡ turn_of (bay_of start bay).medium = sym (turn_shown driver old spares waiting bay) ∙ ap (λ (s : StationState). turn_of (bay_of s bay).medium) asked.stays in
-    let many = subst (λ k. new.counters.clock ≤ old.counters.clock + (k * turns * turn_in old bay + k * steps)) tries lasts.few in
-    let same = subst (λ t. new.counters.clock ≤ old.counters.clock + (start.tries * turns * t + start.tries * steps)) turn many in
-    after_none start.counters.clock old.counters.clock new.counters.clock _ none same
+    let many = subst (λ k. CostsUpTo (k * turns * turn_in old bay + k * steps) (k * accesses) old.counters new.counters) tries costs.costs in
+    let same = subst (λ t. CostsUpTo (start.tries * turns * t + start.tries * steps) (start.tries * accesses) old.counters new.counters) turn many in
+    let time = time_in start bay (start.tries * turns) (start.tries * steps) in
+    costs_within (0 + time) time (6 + start.tries * accesses) (6 + start.tries * accesses) start.counters new.counters (omega arith) (omega arith)
+    (costs_twice 0 time 6 (start.tries * accesses) start.counters old.counters new.counters first same)

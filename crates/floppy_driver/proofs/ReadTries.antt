@@ -9,13 +9,13 @@ use Rattle.track_model.specs.declared.Look.{Look}
 use Rattle.track_model.specs.declared.Look.TheVariants as look
 use Rattle.track_model.specs.Fields.{content_size}
 use Rattle.track_model.proofs.Unique.{one_look_at}
-use Rattle.flop_base.specs.Counters.{Counters, IsFaultless, DisturbedLess, GoesOn, LastsUpTo}
+use Rattle.flop_base.specs.Counters.{Counters, IsFaultless, DisturbedLess, CostsUpTo, GoesOn}
 use Rattle.flop_base.specs.Lists.{with_items}
 use Rattle.flop_base.specs.Memory.{SameOutside}
 use Rattle.flop_base.proofs.Counted.{goes_on_after, goes_on_itself, faults_go_on}
 use Rattle.sector_map.specs.Met.{HasClearAddress, HasLook, AllFound}
 use Rattle.floppy_driver.specs.Reading.{IsReadReason}
-use Rattle.sector_model.specs.Lasting.{read_time}
+use Rattle.sector_model.specs.Lasting.{read_port_accesses, read_time}
 use Rattle.sector_model.specs.Stations.{StationState, bay_of, met}
 use Rattle.sector_model.specs.Reads.{IsRead, ReadsDrive}
 use Rattle.floppy_driver.specs.Shown.{HasAsked}
@@ -153,12 +153,12 @@ module _ (start : StationState) (bay : ℕ) (key : Chrn) (address : ℕ) where
           last = λ one. failed_since (IsSure start.tries (count + 1)) failed new attempt.counts attempt.failed;
         }
 
-    done_after : (count : ℕ) (code : Code) (sure : Type 0) (deleted : Bool) (new : StationState) → count + 1 ≤ start.tries → HasTriedRead bay key address count start code between → TriesRead sure bay key address between (Ok deleted) new → LastsUpTo (read_time start bay) start.counters new.counters → ReadsDrive bay key address start (Ok deleted) new
-    done_after count code sure deleted new few tried attempt lasts = record {
+    done_after : (count : ℕ) (code : Code) (sure : Type 0) (deleted : Bool) (new : StationState) → count + 1 ≤ start.tries → HasTriedRead bay key address count start code between → TriesRead sure bay key address between (Ok deleted) new → CostsUpTo (read_time start bay) (read_port_accesses start) start.counters new.counters → ReadsDrive bay key address start (Ok deleted) new
+    done_after count code sure deleted new few tried attempt costs = record {
       found = read_since deleted new tried.memory attempt.counts attempt.done;
       refused = tt;
       driven = driven_within (count + 1) start.tries start.counters new.counters few (driven_after count 1 start.counters counters new.counters goes attempt.counts tried.driven attempt.driven);
-      lasts = lasts;
+      costs = costs;
     }
 
   -- one more attempt failed
@@ -169,15 +169,15 @@ module _ (start : StationState) (bay : ℕ) (key : Chrn) (address : ℕ) where
       (subst (λ (s : StationState). TriesRead (IsSure start.tries (count + 1)) bay key address s (Err failed) new) tried.becomes attempt)
 
   -- one more attempt was done
-  read_done : (count : ℕ) (code : Code) (sure : Type 0) (deleted : Bool) (mid new : StationState) → count + 1 ≤ start.tries → HasTriedRead bay key address count start code mid → TriesRead sure bay key address mid (Ok deleted) new → LastsUpTo (read_time start bay) start.counters new.counters → ReadsDrive bay key address start (Ok deleted) new
-  read_done count code sure deleted mid new few tried attempt lasts =
+  read_done : (count : ℕ) (code : Code) (sure : Type 0) (deleted : Bool) (mid new : StationState) → count + 1 ≤ start.tries → HasTriedRead bay key address count start code mid → TriesRead sure bay key address mid (Ok deleted) new → CostsUpTo (read_time start bay) (read_port_accesses start) start.counters new.counters → ReadsDrive bay key address start (Ok deleted) new
+  read_done count code sure deleted mid new few tried attempt costs =
       done_after mid.memory mid.counters tried.counts count code sure deleted new few
       (subst (λ (s : StationState). HasTriedRead bay key address count start code s) tried.becomes tried)
-      (subst (λ (s : StationState). TriesRead sure bay key address s (Ok deleted) new) tried.becomes attempt) lasts
+      (subst (λ (s : StationState). TriesRead sure bay key address s (Ok deleted) new) tried.becomes attempt) costs
 
   -- all attempts failed
-  read_failed : (code : Code) (now : StationState) → 1 ≤ start.tries → HasTriedRead bay key address start.tries start code now → LastsUpTo (read_time start bay) start.counters now.counters → ReadsDrive bay key address start (Err code) now
-  read_failed code now some tried lasts =
+  read_failed : (code : Code) (now : StationState) → 1 ≤ start.tries → HasTriedRead bay key address start.tries start code now → CostsUpTo (read_time start bay) (read_port_accesses start) start.counters now.counters → ReadsDrive bay key address start (Err code) now
+  read_failed code now some tried costs =
       let failed = tried.last some in
       let reason = failed.reason (last_sure start.tries some) in
       record {
@@ -198,7 +198,7 @@ module _ (start : StationState) (bay : ℕ) (key : Chrn) (address : ℕ) where
           becomes = tried.becomes;
         };
         driven = tried.driven;
-        lasts = lasts;
+        costs = costs;
       }
 
   -- ---- the same, by the number of the attempt
@@ -216,11 +216,11 @@ module _ (start : StationState) (bay : ℕ) (key : Chrn) (address : ℕ) where
       subst (λ (a : ℕ). HasTriedRead bay key address a start failed new) back
       (tried_at (attempt - 1) attempt tries code failed mid new (omega arith) some same tried once)
 
-  pub done_at : (attempt tries : ℕ) (code : Code) (sure : Type 0) (deleted : Bool) (mid new : StationState) → 1 ≤ attempt → attempt ≤ tries → tries ≡ start.tries → HasTriedRead bay key address (attempt - 1) start code mid → TriesRead sure bay key address mid (Ok deleted) new → LastsUpTo (read_time start bay) start.counters new.counters → ReadsDrive bay key address start (Ok deleted) new
-  done_at attempt tries code sure deleted mid new first last same tried once lasts =
-      read_done (attempt - 1) code sure deleted mid new (omega arith) tried once lasts
+  pub done_at : (attempt tries : ℕ) (code : Code) (sure : Type 0) (deleted : Bool) (mid new : StationState) → 1 ≤ attempt → attempt ≤ tries → tries ≡ start.tries → HasTriedRead bay key address (attempt - 1) start code mid → TriesRead sure bay key address mid (Ok deleted) new → CostsUpTo (read_time start bay) (read_port_accesses start) start.counters new.counters → ReadsDrive bay key address start (Ok deleted) new
+  done_at attempt tries code sure deleted mid new first last same tried once costs =
+      read_done (attempt - 1) code sure deleted mid new (omega arith) tried once costs
 
-  pub failed_all : (attempt tries : ℕ) (code : Code) (now : StationState) → attempt ≡ tries + 1 → 1 ≤ tries → tries ≡ start.tries → HasTriedRead bay key address (attempt - 1) start code now → LastsUpTo (read_time start bay) start.counters now.counters → ReadsDrive bay key address start (Err code) now
-  failed_all attempt tries code now past some same tried lasts =
+  pub failed_all : (attempt tries : ℕ) (code : Code) (now : StationState) → attempt ≡ tries + 1 → 1 ≤ tries → tries ≡ start.tries → HasTriedRead bay key address (attempt - 1) start code now → CostsUpTo (read_time start bay) (read_port_accesses start) start.counters now.counters → ReadsDrive bay key address start (Err code) now
+  failed_all attempt tries code now past some same tried costs =
       let all : attempt - 1 ≡ start.tries = omega arith in
-      read_failed code now (omega arith) (subst (λ (a : ℕ). HasTriedRead bay key address a start code now) all tried) lasts
+      read_failed code now (omega arith) (subst (λ (a : ℕ). HasTriedRead bay key address a start code now) all tried) costs

@@ -11,7 +11,7 @@ use Rattle.track_model.specs.Sectors.{IsLone, IsSector, IsUnder}
 use Rattle.track_model.specs.Windows.{window_place}
 use Rattle.track_model.proofs.Sectored.{lone_found}
 use Rattle.flop_base.specs.Bays.{Two}
-use Rattle.flop_base.specs.Counters.{faults_of, IsFaultless, FaultsRoseLess, DisturbedLess, LastsUpTo}
+use Rattle.flop_base.specs.Counters.{faults_of, IsFaultless, FaultsRoseLess, CostsUpTo, DisturbedLess}
 use Rattle.sector_map.specs.Disks.{IsRegularDisk, IsOnMap}
 use Rattle.sector_map.specs.Changes.{Change, Written, IsChange}
 use Rattle.sector_map.specs.ChangedDisks.{HasWritten, change_at, entry_of}
@@ -21,7 +21,7 @@ use Rattle.sector_map.proofs.RegularTracks.{key_cylinder, one_address}
 use Rattle.sector_map.proofs.Joined.{change_of_none_regular}
 use Rattle.sector_map.proofs.Rewritten.{rewritten_keeps_sectors, rewritten_keeps_address}
 use Rattle.sector_model.specs.Stations.{Bay, StationState, Becomes, bay_of, set_bay, met}
-use Rattle.sector_model.specs.Lasting.{write_time}
+use Rattle.sector_model.specs.Lasting.{write_port_accesses, write_time}
 use Rattle.sector_model.specs.Writes.{IsLastRead, IsWritten, KeepsRegular, WritesDrive}
 use Rattle.floppy_driver.specs.Shown.{HasAsked}
 use Rattle.floppy_driver.specs.Writings.{IsReadBack, TriesWrite, WroteWhole}
@@ -131,8 +131,8 @@ found_on_map written p disk regular here c q place has address found content =
 
 -- ---- all attempts were refused
 
-pub ends_tried : (written : Written) (bay : ℕ) (start now : StationState) (code : Code) → IsWriteStart written bay start → HasTriedWrite written bay start.tries start code now → LastsUpTo (write_time start bay) start.counters now.counters → WritesDrive written bay start (Err code) now
-ends_tried written bay start now code starts tried lasts =
+pub ends_tried : (written : Written) (bay : ℕ) (start now : StationState) (code : Code) → IsWriteStart written bay start → HasTriedWrite written bay start.tries start code now → CostsUpTo (write_time start bay) (write_port_accesses start) start.counters now.counters → WritesDrive written bay start (Err code) now
+ends_tried written bay start now code starts tried costs =
     let cause = tried.last starts.some_tries (last_sure start.tries starts.some_tries) in
     record {
       changes = tried.so_far.changes;
@@ -159,7 +159,7 @@ ends_tried written bay start now code starts tried lasts =
           keeps_regular written bay start now (Err code) starts disk is regular (tried.so_far.regular disk is regular)
           (λ p here spared after is_in same ok. absurd (false≢true ok));
       driven = tried.so_far.driven;
-      lasts = lasts;
+      costs = costs;
     }
 
 -- ---- an attempt was done
@@ -241,8 +241,8 @@ module _ (written : Written) (bay : ℕ) (start mid new : StationState) (count :
     ]
     done_on_map (inr lone) = lone_on_map lone
 
-  pub ends_done : count + 1 ≤ start.tries → LastsUpTo (write_time start bay) start.counters new.counters → WritesDrive written bay start (Ok tt) new
-  ends_done few lasts =
+  pub ends_done : count + 1 ≤ start.tries → CostsUpTo (write_time start bay) (write_port_accesses start) start.counters new.counters → WritesDrive written bay start (Ok tt) new
+  ends_done few costs =
       let so_far = wrote_more written bay start mid new count sure (Ok tt) starts tried.so_far attempt in
       record {
         changes = so_far.changes;
@@ -258,7 +258,7 @@ module _ (written : Written) (bay : ℕ) (start mid new : StationState) (count :
             (λ p here spared after is_in same ok.
             done_on_map disk is regular p here spared after is_in same (address_after disk is regular p here after same));
         driven = driven_within (2 * (count + 1)) (2 * start.tries) start.counters new.counters (omega arith) so_far.driven;
-        lasts = lasts;
+        costs = costs;
       }
     where
       address_after : (disk : Disk) → (bay_of start bay).medium ≡ Some disk → IsRegularDisk disk → (p : ℕ) → IsAddressAt (met (bay_of start bay) written.key.c written.key.h) p written.key → (after : Disk) → IsSameOrChanged written p disk after → IsAddressAt (track_of after written.key.c written.key.h) p written.key

@@ -8,14 +8,14 @@ use Rattle.flop_base.specs.declared.answers.Code.{Code}
 use Rattle.raw_image.specs.Disk.{Disk, IsDisk}
 use Rattle.track_model.specs.Fields.{content_size}
 use Rattle.flop_base.specs.Bays.{in_bay}
-use Rattle.flop_base.specs.Counters.{DriveCounts, faults_of, GoesOn, LastsUpTo}
+use Rattle.flop_base.specs.Counters.{DriveCounts, faults_of, CostsUpTo, GoesOn}
 use Rattle.flop_base.specs.Memory.{user_bytes, bytes_from}
 use Rattle.flop_base.proofs.Counted.{goes_on_after, goes_on_itself}
 use Rattle.sector_map.specs.Changes.{Written}
 use Rattle.sector_map.proofs.Writable.{FitsKey}
 use Rattle.sector_model.specs.Stations.{Bay, StationState, bay_of}
 use Rattle.sector_model.specs.Asked.{IsAsked}
-use Rattle.sector_model.specs.Lasting.{write_time}
+use Rattle.sector_model.specs.Lasting.{write_port_accesses, write_time}
 use Rattle.sector_model.specs.Writes.{WritesDrive, written_from}
 use Rattle.floppy_driver.specs.Rigs.{Rig, AreBytes, IsSound}
 use Rattle.floppy_driver.specs.declared.driver.Driver.{Driver}
@@ -106,12 +106,12 @@ module _ (first : Driver) (from : Rig) (bay : ℕ) (key : Chrn) (address : ℕ) 
         subst (λ s. TriesWrite s (written_from start key address deleted) bay (shown driver rig spares waiting) answer (shown after new spares waiting)) sure
         (subst (λ w. TriesWrite (IsSure driver.tries attempt) w bay (shown driver rig spares waiting) answer (shown after new spares waiting)) written (tries spares waiting))
 
-    done_since : answer ≡ Ok tt → count + 1 ≤ first.tries → LastsUpTo (write_time start bay) start.counters new.counters → WritesDrive (written_from start key address deleted) bay start (Ok tt) (shown after new spares waiting)
-    done_since ok few lasts =
+    done_since : answer ≡ Ok tt → count + 1 ≤ first.tries → CostsUpTo (write_time start bay) (write_port_accesses start) start.counters new.counters → WritesDrive (written_from start key address deleted) bay start (Ok tt) (shown after new spares waiting)
+    done_since ok few costs =
         let all = same_tries first from bay key address deleted can asked.within start spares waiting so in
         let attempt_ok : TriesWrite (IsSure start.tries (count + 1)) (written_from start key address deleted) bay (shown driver rig spares waiting) (Ok tt) (shown after new spares waiting) = subst (λ (r : Result (Unit {0}) Code). TriesWrite (IsSure start.tries (count + 1)) (written_from start key address deleted) bay (shown driver rig spares waiting) r (shown after new spares waiting)) ok attempt_since in
         ends_done (written_from start key address deleted) bay start (shown driver rig spares waiting) (shown after new spares waiting) count before (IsSure start.tries (count + 1))
-        (is_start first from bay key address deleted can asked.within start spares waiting so) (between.tried start spares waiting so) attempt_ok (omega arith) lasts
+        (is_start first from bay key address deleted can asked.within start spares waiting so) (between.tried start spares waiting so) attempt_ok (omega arith) costs
 
     refused_since : (code : Code) → answer ≡ Err code → HasTriedWrite (written_from start key address deleted) bay (count + 1) start code (shown after new spares waiting)
     refused_since code is =
@@ -120,8 +120,8 @@ module _ (first : Driver) (from : Rig) (bay : ℕ) (key : Chrn) (address : ℕ) 
         (is_start first from bay key address deleted can asked.within start spares waiting so) (between.tried start spares waiting so) attempt_err
 
   -- the attempt was done
-  pub between_done : answer ≡ Ok tt → attempt ≤ first.tries → (start : StationState) (spares : ℕ) (waiting : List DriveCounts) → HasAsked start (shown first from spares waiting) → LastsUpTo (write_time start bay) start.counters new.counters → WritesDrive (written_from start key address deleted) bay start (Ok tt) (shown after new spares waiting)
-  between_done ok few start spares waiting so lasts = done_since start spares waiting so ok (omega arith) lasts
+  pub between_done : answer ≡ Ok tt → attempt ≤ first.tries → (start : StationState) (spares : ℕ) (waiting : List DriveCounts) → HasAsked start (shown first from spares waiting) → CostsUpTo (write_time start bay) (write_port_accesses start) start.counters new.counters → WritesDrive (written_from start key address deleted) bay start (Ok tt) (shown after new spares waiting)
+  between_done ok few start spares waiting so costs = done_since start spares waiting so ok (omega arith) costs
 
   pub between_counts : GoesOn rig.counters new.counters → GoesOn from.counters new.counters
   between_counts counts = goes_on_after from.counters rig.counters new.counters between.counts counts
@@ -139,10 +139,10 @@ module _ (first : Driver) (from : Rig) (bay : ℕ) (key : Chrn) (address : ℕ) 
   }
 
 -- all attempts were refused
-pub between_all : (first : Driver) (from : Rig) (bay : ℕ) (key : Chrn) (address : ℕ) (deleted : Bool) (count : ℕ) (code : Code) (driver : Driver) (rig : Rig) → CanWrite first from bay → IsAsked bay key address → BetweenWrites first from bay key address deleted count code driver rig → count ≡ first.tries → (start : StationState) (spares : ℕ) (waiting : List DriveCounts) → HasAsked start (shown first from spares waiting) → LastsUpTo (write_time start bay) start.counters rig.counters → WritesDrive (written_from start key address deleted) bay start (Err code) (shown driver rig spares waiting)
-between_all first from bay key address deleted count code driver rig can asked between all start spares waiting so lasts =
+pub between_all : (first : Driver) (from : Rig) (bay : ℕ) (key : Chrn) (address : ℕ) (deleted : Bool) (count : ℕ) (code : Code) (driver : Driver) (rig : Rig) → CanWrite first from bay → IsAsked bay key address → BetweenWrites first from bay key address deleted count code driver rig → count ≡ first.tries → (start : StationState) (spares : ℕ) (waiting : List DriveCounts) → HasAsked start (shown first from spares waiting) → CostsUpTo (write_time start bay) (write_port_accesses start) start.counters rig.counters → WritesDrive (written_from start key address deleted) bay start (Err code) (shown driver rig spares waiting)
+between_all first from bay key address deleted count code driver rig can asked between all start spares waiting so costs =
     let tried = between.tried start spares waiting so in
     let count_is : count ≡ start.tries = all ∙ same_tries first from bay key address deleted can asked.within start spares waiting so in
     ends_tried (written_from start key address deleted) bay start (shown driver rig spares waiting) code
     (is_start first from bay key address deleted can asked.within start spares waiting so)
-    (subst (λ (n : ℕ). HasTriedWrite (written_from start key address deleted) bay n start code (shown driver rig spares waiting)) count_is tried) lasts
+    (subst (λ (n : ℕ). HasTriedWrite (written_from start key address deleted) bay n start code (shown driver rig spares waiting)) count_is tried) costs

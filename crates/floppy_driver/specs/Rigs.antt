@@ -3,7 +3,7 @@ use Rattle.std.specs.Prelude.{◌≡◌, ℕ, ◌+◌, ◌*◌, ◌<◌, ◌≤�
 use Rattle.raw_image.specs.Disk.{Disk, IsDisk}
 use Rattle.flop_base.specs.declared.answers.Rate.{Rate}
 use Rattle.flop_base.specs.Bays.{Two, in_bay}
-use Rattle.flop_base.specs.Counters.{Counters, GoesOn, IsDriven, LastsUpTo}
+use Rattle.flop_base.specs.Counters.{CostsUpTo, Counters, GoesOn, IsDriven}
 use Rattle.flop_base.specs.Memory.{user_bytes}
 use Rattle.sector_map.specs.Met.{met_in}
 use Rattle.sector_model.specs.Lasting.{turn_of}
@@ -51,11 +51,11 @@ track_under rig bay rate head = met_in (in_bay rig.media bay) rate (in_bay rig.c
 abbrev pub turn_in : Rig → ℕ → ℕ
 turn_in rig bay = turn_of (in_bay rig.media bay)
 
--- a call lasts at most `turns` revolutions of the medium in a bay and `steps` device steps. A revolution stays as long
--- as it was
-pub record LastsFor (bay turns steps : ℕ) (old new : Rig) : Type 0 where
+-- a call costs at most `turns` revolutions of the medium in a bay, `steps` device steps, and `accesses` port accesses. A
+-- revolution stays as long as it was
+pub record CostsFor (bay turns steps accesses : ℕ) (old new : Rig) : Type 0 where
   pub turn : turn_in new bay ≡ turn_in old bay
-  pub few : LastsUpTo (turns * turn_in old bay + steps) old.counters new.counters
+  pub costs : CostsUpTo (turns * turn_in old bay + steps) accesses old.counters new.counters
 
 -- a drive that is at speed stays so
 pub record StaysSpun (old new : Two Bool) : Type 0 where

@@ -2,7 +2,7 @@
 ghost use Rattle.std.specs.Prelude.{◌≡◌, ◌≤◌, true, List, ℕ};
 ghost use Rattle.flop_base.specs.Bays.{in_bay};
 ghost use Rattle.flop_base.specs.Counters.{DriveCounts, GoesOn};
-ghost use Rattle.floppy_driver.specs.Rigs.{IsSound, LastsFor};
+ghost use Rattle.floppy_driver.specs.Rigs.{CostsFor, IsSound};
 ghost use Rattle.floppy_driver.specs.Acknowledged.{ClearsChange, FindsRate};
 
 use crate::Commands;
@@ -20,7 +20,7 @@ fn find_rate<C: Commands>(machine: &mut C, bay: u8) -> Rate
     requires bay { bay ≤ 1 }
     requires spun { in_bay (C.rig machine.old).spun bay ≡ true }
     ensures finds { FindsRate bay (C.rig machine.old) result (C.rig machine.new) }
-    ensures lasts { LastsFor bay 12 1566 (C.rig machine.old) (C.rig machine.new) }
+    ensures costs { CostsFor bay 12 1566 72 (C.rig machine.old) (C.rig machine.new) }
     ensures idle { C.is_idle machine.new }
 {
     for _attempt in 0..ROUNDS {
@@ -49,7 +49,7 @@ impl Driver {
             bay (shown self.old (C.rig machine.old) spares waiting) result
             (shown self.new (C.rig machine.new) spares waiting) }
         ensures counts { GoesOn (C.rig machine.old).counters (C.rig machine.new).counters }
-        ensures lasts { LastsFor bay 12 9031 (C.rig machine.old) (C.rig machine.new) }
+        ensures costs { CostsFor bay 12 9031 172 (C.rig machine.old) (C.rig machine.new) }
         ensures idle { C.is_idle machine.new }
         ensures attached { IsAttached self.new (C.rig machine.new) }
     {
@@ -74,7 +74,7 @@ impl Driver {
         requires bay { bay ≤ 1 }
         requires spun { in_bay (C.rig machine.old).spun bay ≡ true }
         ensures held { IsHeldSince bay (C.rig machine.old) reached (notes_of self.new bay) (C.rig machine.new) }
-        ensures lasts { LastsFor bay 12 1566 (C.rig machine.old) (C.rig machine.new) }
+        ensures costs { CostsFor bay 12 1566 72 (C.rig machine.old) (C.rig machine.new) }
         ensures notes { self.new ≡ with_notes self.old bay (notes_of self.new bay) }
         ensures idle { C.is_idle machine.new }
     {
@@ -102,7 +102,7 @@ fn clear_change<C: Commands>(machine: &mut C, bay: u8) -> bool
     requires bay { bay ≤ 1 }
     requires sound { IsSound (C.rig machine.old) }
     ensures clears { ClearsChange bay (C.rig machine.old) result (C.rig machine.new) }
-    ensures lasts { LastsFor bay 0 405 (C.rig machine.old) (C.rig machine.new) }
+    ensures costs { CostsFor bay 0 405 31 (C.rig machine.old) (C.rig machine.new) }
     ensures sound { IsSound (C.rig machine.new) }
     ensures idle { C.is_idle machine.new }
 {

@@ -7,7 +7,7 @@ ghost use Rattle.flop_base.specs.Memory.{user_bytes, bytes_from};
 ghost use Rattle.track_model.specs.Fields.{IsSizeCode, content_size};
 ghost use Rattle.sector_map.specs.Changes.{Change};
 ghost use Rattle.sector_map.specs.Layings.{Laying};
-ghost use Rattle.floppy_driver.specs.Rigs.{Rig, IsSound, IsReset, LastsFor, OnlyAsks};
+ghost use Rattle.floppy_driver.specs.Rigs.{CostsFor, Rig, IsSound, IsReset, OnlyAsks};
 ghost use Rattle.floppy_driver.specs.Heads.{Recalibrates, Seeks};
 ghost use Rattle.floppy_driver.specs.Reading.{ReadsData, ReadsBack, ReadsId};
 ghost use Rattle.floppy_driver.specs.Writing.{WritesData, FormatsTrack};
@@ -19,7 +19,8 @@ use flop_base::{Chrn, Code, Rate};
 ///
 /// Each call ends with the controller idle. `bay` is 0 or 1. A data command needs a medium in the bay that turns at
 /// speed. The time that a call lasts is counted in device steps, without those of the gaps that its port accesses use
-/// up.
+/// up. The port accesses are counted too. A call makes at most as many as its clause `costs` says, and one more for each
+/// interrupt that it takes.
 pub trait Commands: Drop {
     /// The state that the contracts of the commands speak of.
     ghost rig: { Self → Rig };
@@ -30,7 +31,7 @@ pub trait Commands: Drop {
     /// Resets the controller and sets the machine up for the other calls.
     fn reset(&mut self)
         ensures resets { IsReset (rig self.old) (rig self.new) }
-        ensures lasts { LastsFor 0 0 2 (rig self.old) (rig self.new) }
+        ensures costs { CostsFor 0 0 2 22 (rig self.old) (rig self.new) }
         ensures idle { is_idle self.new };
 
     /// The change line of a drive (PC/AT). An exchange of the medium sets it, and it stays set until a pulse comes
@@ -40,7 +41,7 @@ pub trait Commands: Drop {
         requires bay { bay ≤ 1 }
         ensures line { result ≡ in_bay (rig self.old).changes bay }
         ensures asks { OnlyAsks (rig self.old) (rig self.new) }
-        ensures lasts { LastsFor bay 0 0 (rig self.old) (rig self.new) }
+        ensures costs { CostsFor bay 0 0 2 (rig self.old) (rig self.new) }
         ensures sound { IsSound (rig self.new) }
         ensures idle { is_idle self.new };
 
@@ -50,7 +51,7 @@ pub trait Commands: Drop {
         requires bay { bay ≤ 1 }
         ensures line { result ≡ option_map_or (λ disk. disk.protected) (in_bay (rig self.old).media bay) false }
         ensures asks { OnlyAsks (rig self.old) (rig self.new) }
-        ensures lasts { LastsFor bay 0 0 (rig self.old) (rig self.new) }
+        ensures costs { CostsFor bay 0 0 4 (rig self.old) (rig self.new) }
         ensures sound { IsSound (rig self.new) }
         ensures idle { is_idle self.new };
 
@@ -59,7 +60,7 @@ pub trait Commands: Drop {
         requires idle { is_idle self.old }
         requires bay { bay ≤ 1 }
         ensures asks { OnlyAsks (rig self.old) (rig self.new) }
-        ensures lasts { LastsFor bay 0 6250 (rig self.old) (rig self.new) }
+        ensures costs { CostsFor bay 0 6250 1 (rig self.old) (rig self.new) }
         ensures spun { IsSome (in_bay (rig self.old).media bay) → in_bay (rig self.new).spun bay ≡ true }
         ensures sound { IsSound (rig self.new) }
         ensures idle { is_idle self.new };
@@ -69,7 +70,7 @@ pub trait Commands: Drop {
         requires idle { is_idle self.old }
         requires bay { bay ≤ 1 }
         ensures step { Recalibrates bay (rig self.old) result (rig self.new) }
-        ensures lasts { LastsFor bay 0 81 (rig self.old) (rig self.new) }
+        ensures costs { CostsFor bay 0 81 6 (rig self.old) (rig self.new) }
         ensures sound { IsSound (rig self.new) }
         ensures idle { is_idle self.new };
 
@@ -80,7 +81,7 @@ pub trait Commands: Drop {
         requires bay { bay ≤ 1 }
         requires target { target ≤ 79 }
         ensures step { Seeks bay target (rig self.old) (rig self.new) }
-        ensures lasts { LastsFor bay 0 81 (rig self.old) (rig self.new) }
+        ensures costs { CostsFor bay 0 81 7 (rig self.old) (rig self.new) }
         ensures sound { IsSound (rig self.new) }
         ensures idle { is_idle self.new };
 
@@ -91,7 +92,7 @@ pub trait Commands: Drop {
         requires head { head ≤ 1 }
         requires spun { in_bay (rig self.old).spun bay ≡ true }
         ensures step { ReadsId bay head rate (rig self.old) result (rig self.new) }
-        ensures lasts { LastsFor bay 2 261 (rig self.old) (rig self.new) }
+        ensures costs { CostsFor bay 2 261 12 (rig self.old) (rig self.new) }
         ensures sound { IsSound (rig self.new) }
         ensures idle { is_idle self.new };
 
@@ -106,7 +107,7 @@ pub trait Commands: Drop {
         requires page { address / 65536 ≡ (address + content_size key.n - 1) / 65536 }
         requires spun { in_bay (rig self.old).spun bay ≡ true }
         ensures step { ReadsData bay key rate address (rig self.old) result (rig self.new) }
-        ensures lasts { LastsFor bay 2 261 (rig self.old) (rig self.new) }
+        ensures costs { CostsFor bay 2 261 29 (rig self.old) (rig self.new) }
         ensures sound { IsSound (rig self.new) }
         ensures idle { is_idle self.new };
 
@@ -118,7 +119,7 @@ pub trait Commands: Drop {
         requires coded { IsSizeCode key.n }
         requires spun { in_bay (rig self.old).spun bay ≡ true }
         ensures step { ReadsBack bay key rate (rig self.old) result (rig self.new) }
-        ensures lasts { LastsFor bay 2 261 (rig self.old) (rig self.new) }
+        ensures costs { CostsFor bay 2 261 29 (rig self.old) (rig self.new) }
         ensures sound { IsSound (rig self.new) }
         ensures idle { is_idle self.new };
 
@@ -143,7 +144,7 @@ pub trait Commands: Drop {
         ensures step { (change : Option Change) × WritesData bay rate (record { key = key; deleted = deleted; content = bytes_from (rig self.old).memory address (content_size key.n) })
             change
             (rig self.old) result (rig self.new) }
-        ensures lasts { LastsFor bay 2 261 (rig self.old) (rig self.new) }
+        ensures costs { CostsFor bay 2 261 29 (rig self.old) (rig self.new) }
         ensures sound { IsSound (rig self.new) }
         ensures idle { is_idle self.new };
 
@@ -158,7 +159,7 @@ pub trait Commands: Drop {
         requires unprotected { option_map_or (λ disk. disk.protected) (in_bay (rig self.old).media bay) false ≡ false }
         ensures step { (laying : Option Laying) × FormatsTrack bay (record { c = c; h = h; rate = rate; gap3 = gap3; fill = fill })
             laying (rig self.old) result (rig self.new) }
-        ensures lasts { LastsFor bay 2 261 (rig self.old) (rig self.new) }
+        ensures costs { CostsFor bay 2 261 26 (rig self.old) (rig self.new) }
         ensures sound { IsSound (rig self.new) }
         ensures idle { is_idle self.new };
 

@@ -49,7 +49,7 @@ impl Driver {
     ghost use Rattle.floppy_driver.specs.Shown.{shown, notes_of, with_notes, is_held, IsFreshDriver};
     ghost use Rattle.floppy_driver.specs.Attached.{IsAttached, CanSetUp};
     ghost use Rattle.floppy_driver.specs.Attempts.{CanTry};
-    ghost use Rattle.floppy_driver.specs.Rigs.{Rig, IsReset, LastsFor, OnlyAsks};
+    ghost use Rattle.floppy_driver.specs.Rigs.{CostsFor, Rig, IsReset, OnlyAsks};
     ghost use Rattle.sector_model.specs.Calls.{RatesTo, SetsTries, TellsChange};
 
     /// Sets a machine up. The change line of each empty drive must be set.
@@ -57,7 +57,7 @@ impl Driver {
         requires empty { CanSetUp (C.rig machine.old) }
         ensures fresh { IsFreshDriver result }
         ensures resets { IsReset (C.rig machine.old) (C.rig machine.new) }
-        ensures lasts { LastsFor 0 0 2 (C.rig machine.old) (C.rig machine.new) }
+        ensures costs { CostsFor 0 0 2 22 (C.rig machine.old) (C.rig machine.new) }
         ensures idle { C.is_idle machine.new }
         ensures attached { IsAttached result (C.rig machine.new) }
     {
@@ -96,7 +96,7 @@ impl Driver {
         ensures shown { (spares : ℕ) (waiting : List DriveCounts) → shown self.new (C.rig machine.old) spares waiting
             ≡ shown self.old (C.rig machine.old) spares waiting }
         ensures asks { OnlyAsks (C.rig machine.old) (C.rig machine.new) }
-        ensures lasts { LastsFor bay 0 0 (C.rig machine.old) (C.rig machine.new) }
+        ensures costs { CostsFor bay 0 0 2 (C.rig machine.old) (C.rig machine.new) }
         ensures tries { self.new.tries ≡ self.old.tries }
         ensures rate { (notes_of self.new bay).rate ≡ (notes_of self.old bay).rate }
         ensures ready { result ≡ true → CanTry self.new (C.rig machine.new) bay }
@@ -119,7 +119,7 @@ impl Driver {
             bay (shown self.old (C.rig machine.old) spares waiting) result
             (shown self.new (C.rig machine.new) spares waiting) }
         ensures counts { GoesOn (C.rig machine.old).counters (C.rig machine.new).counters }
-        ensures lasts { LastsFor bay 0 0 (C.rig machine.old) (C.rig machine.new) }
+        ensures costs { CostsFor bay 0 0 2 (C.rig machine.old) (C.rig machine.new) }
         ensures idle { C.is_idle machine.new }
         ensures attached { IsAttached self.new (C.rig machine.new) }
     {
@@ -148,7 +148,7 @@ impl Driver {
             bay rate (shown self.old (C.rig machine.old) spares waiting) result
             (shown self.new (C.rig machine.new) spares waiting) }
         ensures counts { GoesOn (C.rig machine.old).counters (C.rig machine.new).counters }
-        ensures lasts { LastsFor bay 0 0 (C.rig machine.old) (C.rig machine.new) }
+        ensures costs { CostsFor bay 0 0 2 (C.rig machine.old) (C.rig machine.new) }
         ensures idle { C.is_idle machine.new }
         ensures attached { IsAttached self.new (C.rig machine.new) }
     {

@@ -1,13 +1,13 @@
 // Formatting a track.
-ghost use Rattle.std.specs.Prelude.{◌≡◌, ◌≤◌, ◌*◌, ◌↔◌, ◌&&◌, IsTrue, true, nat_le, List, ℕ, if◌then◌else◌};
+ghost use Rattle.std.specs.Prelude.{◌≡◌, ◌≤◌, ◌+◌, ◌*◌, ◌↔◌, ◌&&◌, IsTrue, true, nat_le, List, ℕ, if◌then◌else◌};
 ghost use Rattle.flop_base.specs.declared.answers.Rate.TheVariants.{R500};
 ghost use Rattle.sector_model.specs.Orders.{is_bay, is_place};
 ghost use Rattle.flop_base.specs.Standard.{sectors_at};
 ghost use Rattle.track_model.specs.Fields.{IsSizeCode};
 ghost use Rattle.flop_base.specs.Bays.{in_bay};
 ghost use Rattle.flop_base.specs.Counters.{DriveCounts, GoesOn};
-ghost use Rattle.floppy_driver.specs.Rigs.{IsSound, LastsFor, track_under};
-ghost use Rattle.sector_model.specs.Lasting.{format_steps, format_turns};
+ghost use Rattle.floppy_driver.specs.Rigs.{CostsFor, IsSound, track_under};
+ghost use Rattle.sector_model.specs.Lasting.{format_once_port_accesses, format_steps, format_turns};
 ghost use Rattle.floppy_driver.specs.Writings.{CanWrite};
 ghost use Rattle.floppy_driver.specs.Formattings.{format_of, IsValidFormat, FormatsIn, HasOnlyMedium};
 ghost use Rattle.floppy_driver.specs.Formattings.{IsFilled, IsBlankUnder, HoldsRecord, HoldsRecords, ReadsRecords};
@@ -54,8 +54,9 @@ impl Driver {
             bay c h gap3 fill (shown self.old (C.rig machine.old) spares waiting) result
             (shown self.new (C.rig machine.new) spares waiting) }
         ensures counts { GoesOn (C.rig machine.old).counters (C.rig machine.new).counters }
-        ensures lasts { LastsFor bay (self.old.tries * format_turns (notes_of self.old bay).rate)
-            (self.old.tries * format_steps (notes_of self.old bay).rate) (C.rig machine.old) (C.rig machine.new) }
+        ensures costs { CostsFor bay (self.old.tries * format_turns (notes_of self.old bay).rate)
+            (self.old.tries * format_steps (notes_of self.old bay).rate)
+            (6 + self.old.tries * format_once_port_accesses (notes_of self.old bay).rate) (C.rig machine.old) (C.rig machine.new) }
         ensures idle { C.is_idle machine.new }
         ensures attached { IsAttached self.new (C.rig machine.new) }
     {
@@ -111,7 +112,8 @@ impl Driver {
             bay (in_bay (C.rig machine.new).media bay) (shown self.old (C.rig machine.old) spares waiting)
             (shown self.new (C.rig machine.new) spares waiting) }
         ensures counts { GoesOn (C.rig machine.old).counters (C.rig machine.new).counters }
-        ensures lasts { LastsFor bay (self.old.tries * format_turns asked.rate) (self.old.tries * format_steps asked.rate) (C.rig machine.old) (C.rig machine.new) }
+        ensures costs { CostsFor bay (self.old.tries * format_turns asked.rate) (self.old.tries * format_steps asked.rate)
+            (self.old.tries * format_once_port_accesses asked.rate) (C.rig machine.old) (C.rig machine.new) }
         ensures idle { C.is_idle machine.new }
         ensures attached { IsAttached self.new (C.rig machine.new) }
     {
@@ -142,7 +144,7 @@ impl Driver {
             bay (in_bay (C.rig machine.new).media bay) (shown self.old (C.rig machine.old) spares waiting)
             (shown self.new (C.rig machine.new) spares waiting) }
         ensures counts { GoesOn (C.rig machine.old).counters (C.rig machine.new).counters }
-        ensures lasts { LastsFor bay (format_turns asked.rate) (format_steps asked.rate) (C.rig machine.old) (C.rig machine.new) }
+        ensures costs { CostsFor bay (format_turns asked.rate) (format_steps asked.rate) (format_once_port_accesses asked.rate) (C.rig machine.old) (C.rig machine.new) }
         ensures can { CanWrite self.new (C.rig machine.new) bay }
         ensures tries { self.new.tries ≡ self.old.tries }
         ensures idle { C.is_idle machine.new }
@@ -181,7 +183,7 @@ fn read_back_all<C: Commands>(machine: &mut C, bay: u8, asked: Asked) -> Result<
         (HoldsRecords (track_under (C.rig machine.old) bay asked.rate asked.h) asked.c asked.h (sectors_at asked.rate) asked.fill)
         (C.rig machine.old)
         result (C.rig machine.new) }
-    ensures lasts { LastsFor bay (sectors_at asked.rate * 2) (sectors_at asked.rate * 261) (C.rig machine.old) (C.rig machine.new) }
+    ensures costs { CostsFor bay (sectors_at asked.rate * 2) (sectors_at asked.rate * 261) (sectors_at asked.rate * 29) (C.rig machine.old) (C.rig machine.new) }
     ensures sound { IsSound (C.rig machine.new) }
     ensures idle { C.is_idle machine.new }
 {
@@ -213,7 +215,7 @@ fn read_back_filled<C: Commands>(
     ensures reads { ReadsRecords bay 1 (IsBlankUnder (C.rig machine.old) bay rate key.h)
         (HoldsRecord (track_under (C.rig machine.old) bay rate key.h) key fill)
         (C.rig machine.old) result (C.rig machine.new) }
-    ensures lasts { LastsFor bay 2 261 (C.rig machine.old) (C.rig machine.new) }
+    ensures costs { CostsFor bay 2 261 29 (C.rig machine.old) (C.rig machine.new) }
     ensures sound { IsSound (C.rig machine.new) }
     ensures idle { C.is_idle machine.new }
 {

@@ -1,7 +1,7 @@
 // Preparing an attempt: the heads go to the cylinder of the command.
 ghost use Rattle.std.specs.Prelude.{◌≡◌, ◌≤◌, true, IsSome};
 ghost use Rattle.flop_base.specs.Bays.{in_bay};
-ghost use Rattle.floppy_driver.specs.Rigs.{IsSound, LastsFor};
+ghost use Rattle.floppy_driver.specs.Rigs.{CostsFor, IsSound};
 ghost use Rattle.floppy_driver.specs.Prepared.{GoesToTrack0};
 
 use crate::Commands;
@@ -14,7 +14,7 @@ pub(crate) fn go_to_track_0<C: Commands>(machine: &mut C, bay: u8) -> bool
     requires bay { bay ≤ 1 }
     requires sound { IsSound (C.rig machine.old) }
     ensures goes { GoesToTrack0 bay (C.rig machine.old) result (C.rig machine.new) }
-    ensures lasts { LastsFor bay 0 162 (C.rig machine.old) (C.rig machine.new) }
+    ensures costs { CostsFor bay 0 162 12 (C.rig machine.old) (C.rig machine.new) }
     ensures sound { IsSound (C.rig machine.new) }
     ensures idle { C.is_idle machine.new }
 {
@@ -47,7 +47,7 @@ impl Driver {
         requires known { way ≡ Prepare.Seek → IsSome (notes_of self.old bay).known }
         ensures prepared { IsPrepared bay target way (C.rig machine.old) (notes_of self.old bay) result
             (C.rig machine.new) (notes_of self.new bay) }
-        ensures lasts { LastsFor bay 0 243 (C.rig machine.old) (C.rig machine.new) }
+        ensures costs { CostsFor bay 0 243 19 (C.rig machine.old) (C.rig machine.new) }
         ensures notes { self.new ≡ with_notes self.old bay (notes_of self.new bay) }
         ensures sound { IsSound (C.rig machine.new) }
         ensures idle { C.is_idle machine.new }

@@ -1,7 +1,7 @@
 // Reading a sector.
 ghost use Rattle.std.specs.Prelude.{◌≡◌, ◌≤◌, ◌+◌, ◌-◌, ◌*◌, ◌/◌, List, ℕ};
 ghost use Rattle.track_model.specs.Fields.{content_size};
-ghost use Rattle.flop_base.specs.Counters.{DriveCounts, GoesOn, LastsUpTo};
+ghost use Rattle.flop_base.specs.Counters.{DriveCounts, CostsUpTo, GoesOn};
 
 use crate::Commands;
 use crate::driver::Driver;
@@ -14,7 +14,7 @@ impl Driver {
     ghost use Rattle.floppy_driver.specs.Attached.{IsAttached};
     ghost use Rattle.floppy_driver.specs.Attempts.{CanTry, IsSure};
     ghost use Rattle.floppy_driver.specs.Readings.{TriesRead};
-    ghost use Rattle.floppy_driver.specs.Rigs.{LastsFor};
+    ghost use Rattle.floppy_driver.specs.Rigs.{CostsFor};
     ghost use Rattle.sector_model.specs.Stations.{StationState};
     ghost use Rattle.sector_model.specs.Asked.{IsAsked};
     ghost use Rattle.sector_model.specs.Reads.{Reads, ReadsDrive};
@@ -34,7 +34,7 @@ impl Driver {
             bay key address (shown self.old (C.rig machine.old) spares waiting) result
             (shown self.new (C.rig machine.new) spares waiting) }
         ensures counts { GoesOn (C.rig machine.old).counters (C.rig machine.new).counters }
-        ensures lasts { LastsFor bay (self.old.tries * 2) (self.old.tries * 504) (C.rig machine.old) (C.rig machine.new) }
+        ensures costs { CostsFor bay (self.old.tries * 2) (self.old.tries * 504) (2 + self.old.tries * 48) (C.rig machine.old) (C.rig machine.new) }
         ensures idle { C.is_idle machine.new }
         ensures attached { IsAttached self.new (C.rig machine.new) }
     {
@@ -63,10 +63,10 @@ impl Driver {
         requires asked { IsAsked bay key address }
         requires page { address / 65536 ≡ (address + content_size key.n - 1) / 65536 }
         ensures step { (start : StationState) (spares : ℕ) (waiting : List DriveCounts)
-            → HasAsked start (shown self.old (C.rig machine.old) spares waiting) → LastsUpTo 0 start.counters (C.rig machine.old).counters
+            → HasAsked start (shown self.old (C.rig machine.old) spares waiting) → CostsUpTo 0 6 start.counters (C.rig machine.old).counters
             → ReadsDrive bay key address start result (shown self.new (C.rig machine.new) spares waiting) }
         ensures counts { GoesOn (C.rig machine.old).counters (C.rig machine.new).counters }
-        ensures lasts { LastsFor bay (self.old.tries * 2) (self.old.tries * 504) (C.rig machine.old) (C.rig machine.new) }
+        ensures costs { CostsFor bay (self.old.tries * 2) (self.old.tries * 504) (self.old.tries * 48) (C.rig machine.old) (C.rig machine.new) }
         ensures idle { C.is_idle machine.new }
         ensures ready { CanTry self.new (C.rig machine.new) bay }
     {
@@ -99,7 +99,7 @@ impl Driver {
             bay key address (shown self.old (C.rig machine.old) spares waiting) result
             (shown self.new (C.rig machine.new) spares waiting) }
         ensures tries { self.new.tries ≡ self.old.tries }
-        ensures lasts { LastsFor bay 2 504 (C.rig machine.old) (C.rig machine.new) }
+        ensures costs { CostsFor bay 2 504 48 (C.rig machine.old) (C.rig machine.new) }
         ensures counts { GoesOn (C.rig machine.old).counters (C.rig machine.new).counters }
         ensures idle { C.is_idle machine.new }
         ensures ready { CanTry self.new (C.rig machine.new) bay }

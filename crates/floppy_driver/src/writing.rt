@@ -2,10 +2,10 @@
 ghost use Rattle.std.specs.Prelude.{◌≡◌, ◌≤◌, ◌+◌, ◌-◌, ◌*◌, ◌/◌, ◌↔◌, List, ℕ, IsTrue, true, false};
 ghost use Rattle.std.specs.Option.{option_map_or};
 ghost use Rattle.flop_base.specs.Bays.{in_bay};
-ghost use Rattle.flop_base.specs.Counters.{DriveCounts, GoesOn, LastsUpTo};
+ghost use Rattle.flop_base.specs.Counters.{DriveCounts, CostsUpTo, GoesOn};
 ghost use Rattle.flop_base.specs.Memory.{user_bytes, bytes_from};
 ghost use Rattle.track_model.specs.Fields.{content_size};
-ghost use Rattle.floppy_driver.specs.Rigs.{IsSound, LastsFor};
+ghost use Rattle.floppy_driver.specs.Rigs.{CostsFor, IsSound};
 ghost use Rattle.sector_model.specs.Asked.{IsAsked};
 ghost use Rattle.floppy_driver.specs.Writings.{AreBytesAlike, WritesChecked};
 
@@ -39,7 +39,7 @@ impl Driver {
             bay key address deleted (shown self.old (C.rig machine.old) spares waiting) result
             (shown self.new (C.rig machine.new) spares waiting) }
         ensures counts { GoesOn (C.rig machine.old).counters (C.rig machine.new).counters }
-        ensures lasts { LastsFor bay (self.old.tries * 4) (self.old.tries * 765) (C.rig machine.old) (C.rig machine.new) }
+        ensures costs { CostsFor bay (self.old.tries * 4) (self.old.tries * 765) (6 + self.old.tries * 77) (C.rig machine.old) (C.rig machine.new) }
         ensures idle { C.is_idle machine.new }
         ensures attached { IsAttached self.new (C.rig machine.new) }
     {
@@ -72,11 +72,11 @@ impl Driver {
         requires page { address / 65536 ≡ (address + content_size key.n - 1) / 65536 }
         requires ready { CanWrite self.old (C.rig machine.old) bay }
         ensures step { (start : StationState) (spares : ℕ) (waiting : List DriveCounts)
-            → HasAsked start (shown self.old (C.rig machine.old) spares waiting) → LastsUpTo 0 start.counters (C.rig machine.old).counters
+            → HasAsked start (shown self.old (C.rig machine.old) spares waiting) → CostsUpTo 0 6 start.counters (C.rig machine.old).counters
             → WritesDrive (written_from start key address deleted) bay start result
             (shown self.new (C.rig machine.new) spares waiting) }
         ensures counts { GoesOn (C.rig machine.old).counters (C.rig machine.new).counters }
-        ensures lasts { LastsFor bay (self.old.tries * 4) (self.old.tries * 765) (C.rig machine.old) (C.rig machine.new) }
+        ensures costs { CostsFor bay (self.old.tries * 4) (self.old.tries * 765) (self.old.tries * 77) (C.rig machine.old) (C.rig machine.new) }
         ensures idle { C.is_idle machine.new }
         ensures ready { CanWrite self.new (C.rig machine.new) bay }
     {
@@ -111,7 +111,7 @@ impl Driver {
             bay (shown self.old (C.rig machine.old) spares waiting)
             result (shown self.new (C.rig machine.new) spares waiting) }
         ensures tries { self.new.tries ≡ self.old.tries }
-        ensures lasts { LastsFor bay 4 765 (C.rig machine.old) (C.rig machine.new) }
+        ensures costs { CostsFor bay 4 765 77 (C.rig machine.old) (C.rig machine.new) }
         ensures memory { (C.rig machine.new).memory ≡ (C.rig machine.old).memory }
         ensures counts { GoesOn (C.rig machine.old).counters (C.rig machine.new).counters }
         ensures idle { C.is_idle machine.new }
@@ -145,7 +145,7 @@ fn write_checked<C: Commands>(
     ensures checked { WritesChecked bay rate (record { key = key; deleted = deleted; content = bytes_from (C.rig machine.old).memory address (content_size key.n) })
         (C.rig machine.old)
         result (C.rig machine.new) }
-    ensures lasts { LastsFor bay 4 522 (C.rig machine.old) (C.rig machine.new) }
+    ensures costs { CostsFor bay 4 522 58 (C.rig machine.old) (C.rig machine.new) }
     ensures sound { IsSound (C.rig machine.new) }
     ensures idle { C.is_idle machine.new }
 {

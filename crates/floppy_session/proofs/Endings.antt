@@ -16,6 +16,7 @@ use Rattle.sector_model.specs.Stations.{bay_of}
 use Rattle.sector_model.specs.States.{State, IsSame, ChangesMedium}
 use Rattle.sector_model.specs.Steps.{Step, StopsAt, StopCause, StoresMedium, refusal_of, is_loaded}
 use Rattle.sector_model.specs.Runs.{EndsBay, DropsMedium, EndStopsAt, AtSecond, IsEndStop}
+use Rattle.flop_base.proofs.Costs.{costs_none}
 use Rattle.flop_base.proofs.Counted.{goes_on_itself}
 
 -- the step of the request that was asked, if that request is the named one
@@ -23,11 +24,12 @@ pub step_at : (old new : State) (told : Option Files) (asked named : Request) (a
 step_at old new told asked named answer same step = subst (λ (r : Request). Step r old told answer new told) (sym same) step
 
 -- a state is the same as itself
-pub same_still : (state : State) → IsSame state state
-same_still state = record {
+pub same_still : (accesses : ℕ) (state : State) → IsSame accesses state state
+same_still accesses state = record {
   names = refl;
   stays = refl;
-  idle = record { accesses = omega arith; no_commands = refl; no_steps = omega arith };
+  idle = record { most_commands = omega arith; interrupts = omega arith; past_driver = refl };
+  costs = costs_none 0 accesses state.station.counters;
   counts = goes_on_itself state.station.counters;
 }
 
@@ -42,7 +44,7 @@ format_refused state told bay c h past = (
       refused = refl;
       stays = refl;
       idle = record { most_commands = omega arith; interrupts = omega arith; past_driver = refl };
-      no_steps = omega arith;
+      costs = costs_none 0 6 state.station.counters;
     }),
   ),
 )
@@ -55,7 +57,7 @@ pub stops_loading : (state : State) (told told_after : Option Files) (bay : ℕ)
 stops_loading state told told_after bay name ended low empty cause files = record {
   taken = insert_taken state bay name low empty;
   cause = cause bay;
-  after = same_still state;
+  after = same_still 0 state;
   files = files;
 }
 

@@ -9,6 +9,7 @@ use Rattle.flop_base.specs.Counters.{GoesOn}
 use Rattle.sector_model.specs.Calls.{SetsMemory}
 use Rattle.sector_model.specs.States.{State}
 use Rattle.sector_model.specs.Steps.{Fills}
+use Rattle.flop_base.proofs.Costs.{costs_after, costs_none}
 use Rattle.flop_base.proofs.Counted.{goes_on_after, goes_on_itself}
 
 module _ (memory : List ℕ) (address : ℕ) where
@@ -57,7 +58,7 @@ pub fills_none : (old : State) (address byte : ℕ) → Fills address 0 byte old
 fills_none old address byte = record {
   names = refl;
   becomes = ap (λ (memory : List ℕ). let station : StationState = record old.station { memory = memory } in station) (sym (with_items-nil old.station.memory address));
-  access = record { accesses = omega arith; no_commands = refl; no_steps = omega arith };
+  access = record { accesses = omega arith; no_commands = refl; no_cost = costs_none 0 0 old.station.counters };
   counts = goes_on_itself old.station.counters;
 }
 
@@ -76,7 +77,7 @@ fills_more old mid new address i byte filled names sets counts size inside =
       access = record {
         accesses = omega (arith, filled.access.accesses, sets.access.accesses);
         no_commands = sets.access.no_commands ∙ filled.access.no_commands;
-        no_steps = omega (arith, filled.access.no_steps, sets.access.no_steps);
+        no_cost = costs_after 0 0 old.station.counters mid.station.counters new.station.counters filled.access.no_cost sets.access.no_cost;
       };
       counts = goes_on_after _ _ _ filled.counts counts;
     }

@@ -32,7 +32,7 @@ impl<D: Station> Session<D> {
     pub fn is_changed(&mut self, bay: u8) -> bool
         requires { bay ≤ 1 }
         ensures value { result ≡ not (is_acknowledged self.old.station bay) }
-        ensures same { IsSame self.old self.new }
+        ensures same { IsSame 2 self.old self.new }
     {
         self.station.changed(bay)
     }

@@ -14,8 +14,8 @@ use Rattle.laws_chip.specs.Seeks.{SeeksBehind}
 
 -- ---- pulses
 
--- the pulses from this cylinder to the target. A RECALIBRATE, which has no target, gives those to cylinder 0, and so
--- many at most
+-- the pulses from this cylinder to the target. A RECALIBRATE has no target: it gives the pulses to cylinder 0, but never
+-- more than `most`
 abbrev pub pulses_to : Option ℕ → ℕ → ℕ → ℕ
 pulses_to None cylinder most = min cylinder most
 pulses_to (Some target) cylinder most = (cylinder - target) + (target - cylinder)

@@ -34,7 +34,7 @@ use Rattle.laws_commands.specs.Accesses.{AccessesAtMost}
 -- how much the count of accesses rises in a request that stopped the run
 stopped_rises : (old new : State) (asked : Request) → AfterStop asked old new → new.station.counters.direct ≤ old.station.counters.direct + accesses_of asked
 stopped_rises old new (request.Eject bay) stopped = stopped.exchanged.access.accesses
-stopped_rises old new other stopped = let idle = stopped.idle.accesses in omega (arith, idle)
+stopped_rises old new other stopped = let idle = stopped.idle.past_driver in omega (arith, idle)
 
 -- the requests of a script make at most this many accesses, whatever the answers are
 abbrev AsksAtMost : ℕ → Script → Type 0

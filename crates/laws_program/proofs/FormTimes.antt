@@ -1,6 +1,8 @@
--- How long a subcommand (form) lasts at most, and how many data commands it sends.
-use Rattle.std.proofs.Common.{arith, ◌≡◌, ◌∙◌, ℕ, ◌+◌, ◌≤◌, List, [], ◌∷◌, ◌++◌, Option, Some, None, Result, Ok, Err, refl, ap, sym, subst, append-nil}
-use Rattle.flop_base.specs.Counters.{Counters, DriveCounts, IsPastDriver}
+-- How long a subcommand (form) lasts at most, how many port accesses it makes, and how many data commands it sends.
+use Rattle.std.proofs.Common.{arith, ◌≡◌, ◌∙◌, ℕ, ◌+◌, ◌-◌, ◌≤◌, List, [], ◌∷◌, ◌++◌, length, Option, Some, None, Result, Ok, Err, refl, ap, sym, subst, append-nil}
+use Rattle.flop_base.proofs.Costs.{accesses_twice, accesses_within, costs_none}
+use Rattle.flop_base.specs.Counters.{AccessesPortsUpTo, Counters, DriveCounts, IsPastDriver, LastsUpTo}
+use Rattle.flop_base.specs.Counts.{RoseBy}
 use Rattle.flop_base.specs.Shelf.{Files}
 use Rattle.flop_base.specs.declared.answers.Status.{Status}
 use Rattle.floppy_jobs.specs.declared.calls.CallLine.{CallLine}
@@ -8,14 +10,16 @@ use Rattle.floppy_jobs.specs.declared.request.Request.{Request}
 use Rattle.floppy_jobs.specs.declared.request.Request.TheVariants as request
 use Rattle.pc_bus.specs.Boards.{Board}
 use Rattle.laws_machine.specs.OnSteps.Lasts.{clock_of}
+use Rattle.laws_machine.specs.OnSteps.Uses.{Uses}
+use Rattle.machine_commands.specs.Shown.{counters_of}
 use Rattle.floppy_jobs.specs.Texts.{job_of}
-use Rattle.sector_model.specs.States.{State, ChangesMedium}
+use Rattle.sector_model.specs.States.{State, IsSame, ChangesMedium}
 use Rattle.sector_model.specs.Stations.{StationState}
 use Rattle.sector_model.specs.Steps.{AfterStop}
 use Rattle.sector_model.specs.Runs.{Taken, Run, Ends, EndsBay, Stored, Left, EndStopsAt, AtFirst, AtSecond}
 use Rattle.sector_model.specs.Plays.{World, Plays, There, Missing, TooLong, Faulty, Starved, PlaysParsed, PlaysRequests, Played, Stopped, BrokenOff, EndStopped}
-use Rattle.sector_model.specs.Times.{course_time}
-use Rattle.sector_model.proofs.JobTimes.{run_lasts}
+use Rattle.sector_model.specs.Times.{course_port_accesses, course_time}
+use Rattle.sector_model.proofs.JobTimes.{run_costs}
 use Rattle.sector_model.proofs.Runs.{run_more}
 use Rattle.commands.specs.Scripts.{Script, RunsScript}
 use Rattle.commands.proofs.Running.{HasRun, script_ran}
@@ -34,52 +38,61 @@ use Rattle.floppy_tools.specs.Machines.{RunsOver}
 use Rattle.laws_program.specs.Steps.{EachStep, SendsFew, course_commands, most_commands}
 use Rattle.laws_program.proofs.StepCauses.{each_sends}
 
--- A count that rises in a run by no more than this sum, and not at all by calls past the driver.
-record IsBound (count : Counters → ℕ) (sum : StationState → List Taken → ℕ) : Type 0 where
+-- A bound `R most old new` on what counters show of a call, which adds up from call to call. A run keeps within this sum,
+-- and calls past the driver add nothing.
+record IsBound (R : ℕ → Counters → Counters → Type 0) (sum : StationState → List Taken → ℕ) : Type 0 where
+  none : (a : Counters) → R 0 a a
+  more : (few most : ℕ) (a b : Counters) → few ≤ most → R few a b → R most a b
+  twice : (n m : ℕ) (a b c : Counters) → R n a b → R m b c → R (n + m) a c
   run : (old new : State) (told after : Option Files) (course : List Taken) → Run old told course new after
-      → count new.station.counters ≤ count old.station.counters + sum old.station course
-  past : (most : ℕ) (old new : Counters) → IsPastDriver most old new → count new ≤ count old
+      → R (sum old.station course) old.station.counters new.station.counters
+  past : (most : ℕ) (a b : Counters) → IsPastDriver most a b → R 0 a b
+  same : (old new : State) → IsSame 0 old new → R 0 old.station.counters new.station.counters
 
-module _ (count : Counters → ℕ) (sum : StationState → List Taken → ℕ) (bound : IsBound count sum) where
+module _ (R : ℕ → Counters → Counters → Type 0) (sum : StationState → List Taken → ℕ) (bound : IsBound R sum) where
   abbrev Within : World → List Taken → World → Type 0
-  Within old course new = count new.state.station.counters ≤ count old.state.station.counters + sum old.state.station course
+  Within old course new = R (sum old.state.station course) old.state.station.counters new.state.station.counters
 
-  -- ---- Nothing is counted where a run stops, or after its last request.
+  -- ---- Nothing is added where a run stops, or after its last request.
 
   changed_stays : (old new : State) (bay : ℕ) (name : Option (List ℕ)) (medium : Option _) → ChangesMedium bay name medium old new
-      → count new.station.counters ≤ count old.station.counters
+      → R 0 old.station.counters new.station.counters
   changed_stays old new bay name medium changes = bound.past _ _ _ changes.exchanged.access
 
-  stopped_stays : (old new : State) (asked : Request) → AfterStop asked old new → count new.station.counters ≤ count old.station.counters
+  stopped_stays : (old new : State) (asked : Request) → AfterStop asked old new → R 0 old.station.counters new.station.counters
   stopped_stays old new (request.Eject bay) stopped = changed_stays old new bay _ _ stopped
-  stopped_stays old new _ stopped = bound.past _ _ _ stopped.idle
+  stopped_stays old new _ stopped = bound.same old new stopped
 
   bay_stays : (old new : State) (told after : Option Files) (bay : ℕ) → EndsBay bay old told new after
-      → count new.station.counters ≤ count old.station.counters
+      → R 0 old.station.counters new.station.counters
   bay_stays old new told after bay (Stored stores) = changed_stays old new bay _ _ stores.4
-  bay_stays old new told after bay (Left left) = bound.past _ _ _ left.same.idle
+  bay_stays old new told after bay (Left left) = bound.same old new left.same
 
-  ends_stay : (old new : State) (told after : Option Files) → Ends old told new after → count new.station.counters ≤ count old.station.counters
+  ends_stay : (old new : State) (told after : Option Files) → Ends old told new after → R 0 old.station.counters new.station.counters
   ends_stay old new told after ends =
-      let first = bay_stays old ends.0 told ends.1 0 ends.2 in
-      let second = bay_stays ends.0 new ends.1 after 1 ends.3 in
-      omega (arith, first, second)
+      bound.twice 0 0 old.station.counters ends.0.station.counters new.station.counters (bay_stays old ends.0 told ends.1 0 ends.2)
+      (bay_stays ends.0 new ends.1 after 1 ends.3)
 
   end_stop_stays : (old new : State) (told after : Option Files) → EndStopsAt old told new after
-      → count new.station.counters ≤ count old.station.counters
+      → R 0 old.station.counters new.station.counters
   end_stop_stays old new told after (AtFirst drops same) = changed_stays old new 0 _ _ drops.changes
   end_stop_stays old new told after (AtSecond mid ends drops) =
-      let first = bay_stays old mid told after 0 ends in
-      let second = changed_stays mid new 1 _ _ drops.changes in
-      omega (arith, first, second)
+      bound.twice 0 0 old.station.counters mid.station.counters new.station.counters (bay_stays old mid told after 0 ends)
+      (changed_stays mid new 1 _ _ drops.changes)
 
   run_and : (old mid : State) (told after : Option Files) (course : List Taken) (new : Counters) → Run old told course mid after
-      → count new ≤ count mid.station.counters → count new ≤ count old.station.counters + sum old.station course
-  run_and old mid told after course new run stays = let ran = bound.run old mid told after course run in omega (arith, ran, stays)
+      → R 0 mid.station.counters new → R (sum old.station course) old.station.counters new
+  run_and old mid told after course new run stays =
+      let most = sum old.station course in
+      bound.more (most + 0) most old.station.counters new (omega arith)
+      (bound.twice most 0 old.station.counters mid.station.counters new (bound.run old mid told after course run) stays)
 
-  -- the count stays where nothing was run and the state stays
+  -- nothing is added where nothing was run and the state stays
   idle_within : (old new : World) (course : List Taken) → new.state ≡ old.state → Within old course new
-  idle_within old new course same = let stays = ap (λ (s : State). count s.station.counters) same in omega (arith, stays)
+  idle_within old new course same =
+      let counters = old.state.station.counters in
+      subst (λ (s : State). R (sum old.state.station course) counters s.station.counters) (sym same)
+      (bound.more 0 (sum old.state.station course) counters counters (omega arith) (bound.none counters))
 
   -- ---- Scripts.
 
@@ -104,8 +117,7 @@ module _ (count : Counters → ℕ) (sum : StationState → List Taken → ℕ) 
       let run = run_more old.state p.mid old.files p.files new.files p.before p.last p.run p.step in
       let within = bound.run old.state p.last.after old.files new.files (p.before ++ p.last ∷ []) run in
       subst (λ (steps : List Taken). Within old steps new) (sym p.course_is)
-      (subst (λ (s : State). count s.station.counters ≤ count old.state.station.counters + sum old.state.station (p.before ++ p.last ∷ []))
-      (sym p.after) within)
+      (subst (λ (s : State). R (sum old.state.station (p.before ++ p.last ∷ [])) old.state.station.counters s.station.counters) (sym p.after) within)
   requests_within requests old course new ended (EndStopped p) =
       run_and old.state p.mid old.files p.files course new.state.station.counters p.run (end_stop_stays p.mid new.state p.files new.files p.stops)
 
@@ -134,7 +146,7 @@ module _ (count : Counters → ℕ) (sum : StationState → List Taken → ℕ) 
       (stopped_stays mid.state new.state asked stops.after))
   breaks_within kept line old mid before last course new ended run (AtPut round does is after grows fault) whole =
       subst (λ (steps : List Taken). Within old steps new) (sym (whole ∙ ap (λ (row : List Taken). before ++ row) is))
-      (subst (λ (s : State). count s.station.counters ≤ count old.state.station.counters + sum old.state.station (before ++ round.course)) after
+      (subst (λ (s : State). R (sum old.state.station (before ++ round.course)) old.state.station.counters s.station.counters) after
       (bound.run old.state round.after old.files new.files (before ++ round.course)
       (run_both old.state mid.state round.after old.files mid.files new.files before round.course run
       (line_run line kept mid.state mid.files round new.files does))))
@@ -197,10 +209,30 @@ module _ (count : Counters → ℕ) (sum : StationState → List Taken → ℕ) 
   does_within (Some asked) old course new ended does = asked_within asked old course new ended does
   does_within None old course new ended alone = idle_within old new course alone.tells.state
 
--- ---- The clock, and the data commands.
+-- ---- The clock, the port accesses, and the data commands.
 
-times_bound : IsBound (λ (c : Counters). c.clock) course_time
-times_bound = record { run = run_lasts; past = λ most old new past. (let none = past.no_steps in omega arith) }
+abbrev pub CommandsUpTo : ℕ → Counters → Counters → Type 0
+CommandsUpTo most old new = new.data_commands ≤ old.data_commands + most
+
+times_bound : IsBound LastsUpTo course_time
+times_bound = record {
+  none = λ a. omega arith;
+  more = λ few most a b less first. omega (arith, less, first);
+  twice = λ n m a b c first second. omega (arith, first, second);
+  run = λ old new told after course run. (run_costs old new told after course run).0;
+  past = λ most a b past. past.no_cost.0;
+  same = λ old new same. same.costs.0;
+}
+
+accesses_bound : IsBound AccessesPortsUpTo course_port_accesses
+accesses_bound = record {
+  none = λ a. (costs_none 0 0 a).1;
+  more = accesses_within;
+  twice = accesses_twice;
+  run = λ old new told after course run. (run_costs old new told after course run).1;
+  past = λ most a b past. past.no_cost.1;
+  same = λ old new same. same.costs.1;
+}
 
 run_sends : (old new : State) (told after : Option Files) (course : List Taken) → EachStep SendsFew old course → Run old told course new after
     → new.station.counters.data_commands ≤ old.station.counters.data_commands + course_commands old.station course
@@ -210,10 +242,14 @@ run_sends old new told after (taken ∷ later) each run =
     let others = run_sends taken.after new run.0 after later each.1 run.2 in
     omega (arith, first, others)
 
-commands_bound : IsBound (λ (c : Counters). c.data_commands) course_commands
+commands_bound : IsBound CommandsUpTo course_commands
 commands_bound = record {
+  none = λ a. omega arith;
+  more = λ few most a b less first. omega (arith, less, first);
+  twice = λ n m a b c first second. omega (arith, first, second);
   run = λ old new told after course run. run_sends old new told after course (each_sends old new told after course run) run;
-  past = λ most old new past. (let none = past.no_commands in omega (arith, none));
+  past = λ most a b past. (let none = past.no_commands in omega (arith, none));
+  same = λ old new same. same.idle.most_commands;
 }
 
 -- the device steps of a run over a machine
@@ -221,16 +257,32 @@ pub machine_lasts : (asked : Option Form) (spares : List DriveCounts) (old new :
     → (over : RunsOver asked old spares before new after ended)
     → clock_of new ≤ clock_of old + (2 + course_time over.start.station over.runs.course)
 machine_lasts asked spares old new before after ended over =
-    let began = over.set_up.starts.lasts in
+    let began = over.set_up.starts.costs.0 in
     let shown = ap (λ (c : Counters). c.clock) over.shows.counters in
-    let ran = does_within (λ (c : Counters). c.clock) course_time times_bound asked (world over.start before.files before.report) over.runs.course
+    let ran = does_within LastsUpTo course_time times_bound asked (world over.start before.files before.report) over.runs.course
     (world over.last after.files after.report) ended over.runs.does in
     omega (arith, began, shown, ran)
+
+-- the port accesses of a run over a machine
+pub machine_uses : (asked : Option Form) (spares : List DriveCounts) (old new : Board) (before after : Outside) (ended : Status)
+    → (over : RunsOver asked old spares before new after ended)
+    → Uses (22 + course_port_accesses over.start.station over.runs.course) old new
+machine_uses asked spares old new before after ended over =
+    let last : Counters = over.last.station.counters in
+    let most = course_port_accesses over.start.station over.runs.course in
+    let ran = does_within AccessesPortsUpTo course_port_accesses accesses_bound asked (world over.start before.files before.report) over.runs.course
+    (world over.last after.files after.report) ended over.runs.does in
+    let all : AccessesPortsUpTo (22 + most) (counters_of old) last =
+    accesses_twice 22 most (counters_of old) over.start.station.counters last over.set_up.starts.costs.1 ran in
+    let gaps : last.gaps ≡ length new.bus.gaps = ap (λ (c : Counters). c.gaps) over.shows.counters in
+    let taken : last.taken ≡ new.bus.taken = ap (λ (c : Counters). c.taken) over.shows.counters in
+    subst (λ n. RoseBy (length old.bus.gaps - n - (22 + most)) old.bus.taken new.bus.taken) gaps
+    (subst (λ n. RoseBy (length old.bus.gaps - last.gaps - (22 + most)) old.bus.taken n) taken all)
 
 -- the data commands of a run over a machine
 pub machine_sends : (asked : Option Form) (spares : List DriveCounts) (old new : Board) (before after : Outside) (ended : Status)
     → (over : RunsOver asked old spares before new after ended)
     → over.last.station.counters.data_commands ≤ over.start.station.counters.data_commands + course_commands over.start.station over.runs.course
 machine_sends asked spares old new before after ended over =
-    does_within (λ (c : Counters). c.data_commands) course_commands commands_bound asked (world over.start before.files before.report)
+    does_within CommandsUpTo course_commands commands_bound asked (world over.start before.files before.report)
     over.runs.course (world over.last after.files after.report) ended over.runs.does

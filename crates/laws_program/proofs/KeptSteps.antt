@@ -62,7 +62,7 @@ module _ (Holds : List ℕ → Type 0) (names : Names) (old : State) (told : Opt
   stays_kept : (new : State) (after : Option Files) → Stays old.station new.station → new.names ≡ old.names → after ≡ told → IsKept Holds names new after
   stays_kept new after stays same still = on_bays new after old.station.bays (ap (λ (s : StationState). s.bays) stays) kept.held same still
 
-  pub same_kept : (new : State) (after : Option Files) → IsSame old new → after ≡ told → IsKept Holds names new after
+  pub same_kept : {accesses : ℕ} (new : State) (after : Option Files) → IsSame accesses old new → after ≡ told → IsKept Holds names new after
   same_kept new after same still = stays_kept new after same.stays same.names still
 
   -- a bay was changed, and has a disk if and only if it has a name

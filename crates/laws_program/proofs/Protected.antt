@@ -100,7 +100,7 @@ module _ (name : List ℕ) (disk : Disk) (valid : IsDisk disk) (guarded : disk.p
       let here = named_still new names bay named in
       media bay (guard bay here) ∙ here)
 
-  refused_kept : (new : State) (after : Option Files) → IsSame old new → after ≡ told → Keeps new after
+  refused_kept : {accesses : ℕ} (new : State) (after : Option Files) → IsSame accesses old new → after ≡ told → Keeps new after
   refused_kept new after same still = same_media new after same.names still
       (λ bay guards. becomes_medium (record old.station { counters = new.station.counters }) new.station bay same.stays)
 

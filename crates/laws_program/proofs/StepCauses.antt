@@ -25,6 +25,7 @@ use Rattle.sector_model.specs.Formats.{Lays, FormatsTo}
 use Rattle.sector_model.specs.Steps.{Step, IsDriverCall, IsRefused, refusal_of, read_reply, reply_of}
 use Rattle.sector_model.specs.Texts.{is_refusal}
 use Rattle.sector_model.specs.Runs.{Taken, Run}
+use Rattle.sector_model.proofs.JobTimes.{same_within}
 use Rattle.laws_commands.proofs.Bays.{ok_taken}
 use Rattle.laws_program.specs.Steps.{EachStep, format_in, IsFormat, FormatsTrack, by_driver, refusal_at_once, IsWriteRefused, IsDriveCause, TellsCause, most_commands, Sends, SendsFew}
 use Rattle.laws_program.proofs.Stepping.{becomes_medium, either, driven_less, fine_call, ok_not}
@@ -82,7 +83,7 @@ ByDrive asked old new answer =
 
 -- the request was refused at once
 abbrev AtOnce : State → State → Reply → Reason → Type 0
-AtOnce old new answer cause = (answer ≡ reply.Refused cause) × IsSame old new
+AtOnce old new answer cause = (answer ≡ reply.Refused cause) × IsSame 6 old new
 
 -- the answer follows the order of refusals
 abbrev ByOrder : Option Reason → Request → State → State → Reply → Type 0
@@ -97,16 +98,7 @@ module _ (asked : Request) (old new : State) (answer : Reply) where
   at_once : {T : Type 0} (told after : Option Files) (called : Result T Code) (code : Code) → IsDriverCall old told new after
       → IsRefusedAtOnce code old.station called new.station → answer ≡ reply.Refused (reason.Driver code) → AtOnce old new answer (reason.Driver code)
   at_once told after called code call refused is =
-      let idle = refused.idle in
-      let counts = call.counts in (
-        is,
-        record {
-          names = call.names;
-          stays = refused.stays;
-          idle = record { accesses = omega (arith, idle.past_driver); no_commands = omega (arith, idle.most_commands, counts.data_commands); no_steps = refused.no_steps };
-          counts = counts;
-        },
-      )
+      (is, record { names = call.names; stays = refused.stays; idle = refused.idle; costs = refused.costs; counts = call.counts })
 
   call_tells : {T P : Type 0} (refusal : Option Code) (told after : Option Files) (called : Result T Code) → IsDriverCall old told new after
       → ((code : Code) → called ≡ Err code → answer ≡ reply.Refused (reason.Driver code))
@@ -126,7 +118,7 @@ module _ (asked : Request) (old new : State) (answer : Reply) where
   own_tells : {P : Type 0} (told after : Option Files) (refusal : Option Reason) → MatchOption refusal P (λ cause. IsRefused cause old told answer new after)
       → (P → is_refusal answer ≡ false) → ByOrder refusal asked old new answer
   own_tells told after None step done = not_refused (done step)
-  own_tells told after (Some cause) step done = (step.answered, step.same)
+  own_tells told after (Some cause) step done = (step.answered, same_within 0 6 old new (omega arith) step.same)
 
   drive_tells : (called : Result (Unit {0}) Code) → answer ≡ reply_of called → IfErr called (λ code. IsDriveCause asked old code new)
       → ByDrive asked old new answer
@@ -211,8 +203,8 @@ idle_sends : {T : Type 0} (most : ℕ) (code : Code) (old new : StationState) (c
     → Sends most old.counters new.counters
 idle_sends most code old new called refused = sent most old.counters new.counters (driven_less most old.counters new.counters refused.idle)
 
-same_sends : (old new : State) → IsSame old new → Sends 0 old.station.counters new.station.counters
-same_sends old new same = sent_none old.station.counters new.station.counters same.idle.no_commands same.counts.taken
+same_sends : {accesses : ℕ} (old new : State) → IsSame accesses old new → Sends 0 old.station.counters new.station.counters
+same_sends old new same = sent 0 old.station.counters new.station.counters same.idle
 
 write_sends : (bay address : ℕ) (key : Chrn) (deleted : Bool) (old new : StationState) (called : Result (Unit {0}) Code)
     → WritesTo bay key address deleted old called new → Sends (2 * old.tries) old.counters new.counters

@@ -20,6 +20,7 @@ use Rattle.sector_model.specs.declared.reply.Reply.TheVariants as reply
 use Rattle.sector_model.specs.declared.reply.Reason.{Reason}
 use Rattle.sector_model.specs.declared.reply.Reason.TheVariants as reason
 use Rattle.sector_model.specs.Stations.{bay_of, set_bay, fresh_bay}
+use Rattle.sector_model.specs.Lasting.{dump_port_accesses}
 use Rattle.sector_model.specs.Orders.{is_bay}
 use Rattle.sector_model.specs.States.{State, IsSame, ChangesMedium}
 use Rattle.sector_model.specs.Steps.{Step, Does, Fills, IsDriverCall, IsRefused, refusal_of, is_loaded, unless_bad, is_blank_request, spare_refusal, blank_of, reply_of, read_reply}
@@ -191,7 +192,7 @@ module _ (one two one_new two_new : State) (told other told_after other_after : 
       first.becomes second.becomes)
       (files_stay files files_too)
 
-  dumped : (address count : ℕ) → address + count ≤ user_bytes → answer ≡ reply.Bytes address (bytes_from one.station.memory address count) → answer_too ≡ reply.Bytes address (bytes_from two.station.memory address count) → told_after ≡ told → other_after ≡ other → IsSame one one_new → IsSame two two_new → Agrees
+  dumped : (address count : ℕ) → address + count ≤ user_bytes → answer ≡ reply.Bytes address (bytes_from one.station.memory address count) → answer_too ≡ reply.Bytes address (bytes_from two.station.memory address count) → told_after ≡ told → other_after ≡ other → IsSame (dump_port_accesses count) one one_new → IsSame (dump_port_accesses count) two two_new → Agrees
   dumped address count within is is_too files files_too first second =
       let size = same.stations.size in
       let size_too = same.stations.other_size in

@@ -172,7 +172,7 @@ TellsCause old taken =
     MatchOption (refusal_at_once old taken.asked)
     ((cause : Reason) → taken.answer ≡ reply.Refused cause
     → (code : Code) × (cause ≡ reason.Driver code) × IsDriveCause taken.asked old code taken.after)
-    (λ cause. (taken.answer ≡ reply.Refused cause) × IsSame old taken.after)
+    (λ cause. (taken.answer ≡ reply.Refused cause) × IsSame 6 old taken.after)
 
 -- ---- Data commands.
 

@@ -5,8 +5,9 @@ ghost use Rattle.floppy_jobs.specs.declared.request.Request.{Request};
 ghost use Rattle.flop_base.specs.Counters.{DriveCounts};
 ghost use Rattle.pc_bus.specs.Boards.{Board};
 ghost use Rattle.laws_machine.specs.OnSteps.Lasts.{clock_of};
+ghost use Rattle.laws_machine.specs.OnSteps.Uses.{Uses};
 ghost use Rattle.sector_model.specs.Ties.{TiesCounts, IsJob, accesses_of_job};
-ghost use Rattle.sector_model.specs.Times.{course_time};
+ghost use Rattle.sector_model.specs.Times.{course_port_accesses, course_time};
 ghost use Rattle.archive_commands.specs.Files.{Outside};
 ghost use Rattle.floppy_words.specs.declared.form.Form.{Form};
 ghost use Rattle.floppy_words.specs.declared.form.Form.TheVariants as form;
@@ -43,6 +44,15 @@ pub fn each_form_lasts()
     ensures { (asked : Option Form) (spares : List DriveCounts) (old new : Board) (before after : Outside) (ended : Status)
         (over : RunsOver asked old spares before new after ended)
         → clock_of new ≤ clock_of old + (2 + course_time over.start.station over.runs.course) }
+{}
+
+/// A law: a run over a machine makes at most 22 port accesses for its set-up, the sum of what its requests make, and one
+/// more for each interrupt that it takes. This holds whatever the arguments ask for, also if the run stopped before its
+/// end. The gaps that are used up show it: the law holds for every list of gaps, however long the list is.
+pub fn each_form_makes_few_port_accesses()
+    ensures { (asked : Option Form) (spares : List DriveCounts) (old new : Board) (before after : Outside) (ended : Status)
+        (over : RunsOver asked old spares before new after ended)
+        → Uses (22 + course_port_accesses over.start.station over.runs.course) old new }
 {}
 
 /// A law: a run over a machine sends no more data commands than its requests may, whatever the arguments ask for. A

@@ -30,7 +30,10 @@ mod words;
 pub use accesses::{accesses_guard_media, commands_end_in_time};
 pub use archive::{disk_laid_anew, disk_of_an_imd, imd_of_a_disk, survey_of_a_disk};
 pub use copy::{copied_disk_is_a_target, copy_of_a_disk};
-pub use counts::{counts_are_tied, each_form_lasts, each_form_sends_few, job_accesses};
+pub use counts::{
+    counts_are_tied, each_form_lasts, each_form_makes_few_port_accesses, each_form_sends_few,
+    job_accesses,
+};
 pub use determined::job_answers_are_determined;
 pub use ends::{
     copy_ends_well, export_ends_well, format_ends_well, formatdd_ends_well,

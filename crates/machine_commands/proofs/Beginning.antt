@@ -16,6 +16,7 @@ use Rattle.laws_machine.specs.OnReads.Ends.{most_steps_of}
 use Rattle.laws_machine.specs.OnReads.Scenes.{IsScene}
 use Rattle.laws_machine.specs.OnReads.Underway.{IsSet}
 use Rattle.laws_machine.specs.OnSteps.Lasts.{Lasts}
+use Rattle.laws_machine.specs.OnSteps.Uses.{Uses}
 use Rattle.laws_machine.specs.OnWrites.Underway.{IsReadSet}
 use Rattle.laws_machine.proofs.OnAwaits.Courses.{goes_begins}
 use Rattle.laws_machine.proofs.OnReads.Beginnings.{is_set}
@@ -23,7 +24,7 @@ use Rattle.machine_commands.specs.Awaited.{AreCounts}
 use Rattle.machine_commands.proofs.Idling.{IsResting, StaysIdle, Idles}
 use Rattle.machine_commands.proofs.Bytes.{AreMore, IsListening, byte_more, first_bytes, listens_with, sends_parts, with_bytes}
 use Rattle.machine_commands.proofs.Endings.{HasFinished, IsSending, has_finished}
-use Rattle.machine_commands.proofs.Lasting.{before, finishes_last, prepares_last, sends_last}
+use Rattle.machine_commands.proofs.Lasting.{Costs, before, costs_within, finishes_cost, prepares_cost, sends_cost}
 use Rattle.machine_commands.proofs.Preparing.{HasDisk, IsSetTo, disk_stays, is_prepared, prepared, ready_prepared}
 use Rattle.machine_commands.proofs.Questions.{not_held, ready_listens}
 use Rattle.machine_commands.proofs.Selecting.{is_dor}
@@ -209,19 +210,20 @@ pub record HasRun (order : Order) (scene : Scene) (motors : Motors) (rate : Rate
   pub over : HasFinished order scene start outcome new
   pub lasts : Lasts (most_steps_of scene.disk.words_per_track + 3) old new
 
-pub record IsRun (order : Order) (s : Sent) (bay address size : ℕ) (motors : Motors) (rate : Rate) (old : Board) (outcome : result Done Code) (new : Board) : Type 0 where
+pub record IsRun (order : Order) (s : Sent) (bay address size : ℕ) (motors : Motors) (rate : Rate) (accesses : ℕ) (old : Board) (outcome : result Done Code) (new : Board) : Type 0 where
   pub disk : Disk
   pub start : Board
+  pub uses : Uses accesses old new
   pub run : HasRun order (scene_of s bay disk address size start) motors rate start old outcome new
 
-pub is_run : (order : Order) (s : Sent) (bay address size : ℕ) (motors : Motors) (rate : Rate) (channel : Board → Channel) (first : List ℕ) (next byte : ℕ) (old ready set sent : Board)
+pub is_run : (order : Order) (s : Sent) (bay address size : ℕ) (motors : Motors) (rate : Rate) (setting accesses : ℕ) (channel : Board → Channel) (first : List ℕ) (next byte : ℕ) (old ready set sent : Board)
     (outcome : result Done Code) (new : Board) → IsIdle motors old → bay ≤ 1 → in_bay (rig_of old).spun bay ≡ true → address + size ≤ 1048576 → Prepares motors bay rate old ready
-    → (IsResting (controller_of ready) → IsSetTo ready (channel ready) set) → Lasts 0 ready set → AreMore [] first → answer (first ++ next ∷ []) ≡ More → Sends (first ++ (next ∷ byte ∷ [])) set sent
+    → (IsResting (controller_of ready) → IsSetTo ready (channel ready) set) → Costs 0 setting ready set → 2 + (setting + (length (first ++ (next ∷ byte ∷ [])) + 8)) ≤ accesses → AreMore [] first → answer (first ++ next ∷ []) ≡ More → Sends (first ++ (next ∷ byte ∷ [])) set sent
     → Finishes sent outcome new
     → ((disk : Disk) (board : Board) → IsSetFor order (scene_of s bay disk address size board) (channel ready))
     → ((disk : Disk) (board : Board) → IsTaking (first ++ next ∷ []) byte (controller_of board) → IsLast order (scene_of s bay disk address size board) byte (controller_of board))
-    → IsRun order s bay address size motors rate old outcome new
-is_run order s bay address size motors rate channel first next byte old ready set sent outcome new idle small spun inside prepares sets sets_last more whole sends finishes set_for last =
+    → IsRun order s bay address size motors rate accesses old outcome new
+is_run order s bay address size motors rate setting accesses channel first next byte old ready set sent outcome new idle small spun inside prepares sets sets_cost few more whole sends finishes set_for last =
     let is = is_prepared motors bay rate old ready idle small spun prepares in
     let target = prepared motors bay rate (controller_of old) in
     let listens : IsListening target = ready_listens motors bay target small refl (ready_prepared motors bay rate (controller_of old) idle.ready) in
@@ -251,9 +253,18 @@ is_run order s bay address size motors rate channel first next byte old ready se
       last = last is.disk start (is_taking_byte motors bay bytes byte start all.sending (ap (λ f. f.command) part.idles.controller_is));
     } in
     let goes = goes_begins order scene byte start sent part.last can (stands_ready motors bay start all.sending) in
+    let most = most_steps_of is.disk.words_per_track + 3 in
+    let bytes_all = first ++ (next ∷ byte ∷ []) in
+    let costs : Costs most accesses old new =
+    costs_within most most (2 + (setting + (length bytes_all + 8))) accesses old new (omega arith) few
+    (before most 2 (setting + (length bytes_all + 8)) old ready new (prepares_cost motors bay rate old ready prepares)
+    (before most setting (length bytes_all + 8) ready set new sets_cost
+    (before most (length bytes_all) 8 set sent new (sends_cost bytes_all set sent sends)
+    (finishes_cost order scene start (sending_free motors bay start all.sending) all.short outcome sent new goes finishes)))) in
     record {
       disk = is.disk;
       start = start;
+      uses = costs.uses;
       run = record {
         sent = all;
         scene_is = scene_is;
@@ -262,12 +273,7 @@ is_run order s bay address size motors rate channel first next byte old ready se
         rate_is = all.rate_at;
         selects = selects;
         over = has_finished order scene start (sending_free motors bay start all.sending) outcome sent new goes finishes;
-        lasts =
-            let most = most_steps_of is.disk.words_per_track + 3 in
-            before most old ready new (prepares_last motors bay rate old ready prepares)
-            (before most ready set new sets_last
-            (before most set sent new (sends_last (first ++ (next ∷ byte ∷ [])) set sent sends)
-            (finishes_last order scene start (sending_free motors bay start all.sending) all.short outcome sent new goes finishes)));
+        lasts = costs.lasts;
       };
     }
 

@@ -13,11 +13,13 @@ use Rattle.laws_machine.specs.OnAwaits.Awaits.{IsAwaited}
 use Rattle.laws_machine.specs.OnAwaits.Goes.{GoesOn}
 use Rattle.laws_machine.specs.OnReads.Ends.{most_steps_of, steps_taken}
 use Rattle.laws_machine.specs.OnSteps.Lasts.{Lasts}
+use Rattle.laws_machine.specs.OnSteps.Uses.{Uses}
 use Rattle.laws_machine.proofs.OnAwaits.Courses.{going, goes_status, goes_stray, goes_wait, goes_waits}
 use Rattle.laws_machine.proofs.OnAwaits.Few.{few}
 use Rattle.laws_machine.proofs.OnSteps.DataEnds.{step_ends}
 use Rattle.laws_machine.proofs.OnSteps.Lasting.{lasts_input, lasts_none, lasts_taken, lasts_twice, lasts_unset, lasts_wait, lasts_within}
 use Rattle.laws_machine.proofs.OnSteps.Runs.{inputs, unset, wait, waits}
+use Rattle.laws_machine.proofs.OnSteps.Using.{uses_input, uses_look, uses_none, uses_taken, uses_twice, uses_wait, uses_waits}
 use Rattle.pc_bus.specs.Boards.{latch_of}
 use Rattle.pc_bus.specs.Steps.{RunsUnset}
 use Rattle.machine_commands.proofs.Idling.{Idles, IsResting}
@@ -232,6 +234,30 @@ module _ (order : Order) (scene : Scene) (start : Board) (free : is_held (contro
           let read = read_still in
           omega arith
 
+      -- a watch that finds no results was ended by an interrupt
+      fails_set : ready ≡ false → (latch_of watch.waited).is_set ≡ true
+      fails_set no_results =
+          sym watch.waits.answer
+          ∙ true_from_ne_false watch.set
+          (λ low.
+          let whole : watch.waits.steps ≡ 65536 = watch.waits.all low in
+          let fewer_left = fails_still no_results in
+          let few_left = still_most old was in
+          let small = small_most old was in
+          omega arith)
+
+      fails_use : ready ≡ false → Uses 0 old new
+      fails_use no_results =
+          uses_twice 0 0 old watch.stepped new (uses_wait 1 old watch.stepped watch.steps)
+          (uses_twice 0 0 watch.stepped watch.waited new (uses_waits 65536 watch.set watch.stepped watch.waited watch.waits)
+          (uses_look 0x3F4 watch.value watch.waited new (fails_set no_results) watch.reads))
+
+      watch_uses : Uses 1 old new
+      watch_uses =
+          uses_twice 0 1 old watch.stepped new (uses_wait 1 old watch.stepped watch.steps)
+          (uses_twice 0 1 watch.stepped watch.waited new (uses_waits 65536 watch.set watch.stepped watch.waited watch.waits)
+          (uses_twice 0 1 watch.waited (latch_taken watch.waited) new (uses_taken watch.waited) (uses_input 0x3F4 watch.value (latch_taken watch.waited) new watch.reads)))
+
       -- the last watch may begin after the end
       last_still : 1 + watch.waits.steps ≤ still old + 1
       last_still =
@@ -272,5 +298,19 @@ module _ (order : Order) (scene : Scene) (start : Board) (free : is_held (contro
           let all = still_most old was in
           lasts_within (before.steps + (1 + watch.waits.steps)) (most + 2) old new (omega arith)
           (lasts_twice before.steps (1 + watch.waits.steps) old between new before.lasts (watch_lasts true between new goes watch)))
+      | inr watches ↦ (let left = (watches_go 65537 old new watches was).left in let all = most_left (controller_of old).phase in absurd (omega arith))
+    ]
+
+    -- each watch looks at a port once. The interrupt that ended a watch in vain pays for that
+    watches_use : (n : ℕ) (old new : Board) → Watches n old new → GoesOn order scene start old → Uses 0 old new
+    watches_use zero old new same was = subst (λ b. Uses 0 old b) (sym same) (uses_none old)
+    watches_use (suc n) old new (between, watches, watch) was =
+        let goes = (watches_go n old between watches was).goes in
+        uses_twice 0 0 old between new (watches_use n old between watches was) (fails_use false between new goes watch refl)
+
+    pub awaits_use : (old new : Board) → AwaitsResults old new → GoesOn order scene start old → Uses 1 old new
+    awaits_use old new awaits was = elim awaits [
+      | inl (n, between, watches, watch) ↦
+          uses_twice 0 1 old between new (watches_use n old between watches was) (watch_uses true between new (watches_go n old between watches was).goes watch)
       | inr watches ↦ (let left = (watches_go 65537 old new watches was).left in let all = most_left (controller_of old).phase in absurd (omega arith))
     ]

@@ -10,14 +10,14 @@ use Rattle.fdc_phases.specs.declared.phases.Phase.TheVariants as phase
 use Rattle.laws_machine.specs.OnFormats.Results.{AreKeysOf, FormatEndedIn}
 use Rattle.laws_machine.proofs.OnFormats.Results.{lays_disk}
 use Rattle.laws_machine.proofs.OnOrders.Ends.{ended}
-use Rattle.floppy_driver.specs.Rigs.{LastsFor}
+use Rattle.floppy_driver.specs.Rigs.{CostsFor}
 use Rattle.floppy_driver.proofs.Lasting.{format_turn}
 use Rattle.machine_commands.proofs.Beginning.{IsRun, head_of_sent, is_run, set_from_memory, small_drive}
 use Rattle.machine_commands.proofs.FormatRigs.{IsFormatOn, format_shown}
-use Rattle.machine_commands.proofs.Lasting.{channel_lasts}
+use Rattle.machine_commands.proofs.Lasting.{channel_costs}
 use Rattle.machine_commands.proofs.Outcomes.{outcome_is, told_as}
 use Rattle.machine_commands.proofs.Preparing.{channel_sets}
-use Rattle.machine_commands.proofs.Seeing.{idle_after, medium_before, memory_before, run_lasts}
+use Rattle.machine_commands.proofs.Seeing.{idle_after, medium_before, memory_before, run_costs}
 use Rattle.machine_commands.proofs.WriteRigs.{overruns}
 
 few_sectors : (rate : Rate) → (1 ≤ sectors_at rate) × (sectors_at rate ≤ 18)
@@ -29,7 +29,7 @@ pub record IsFormatted (motors : Motors) (bay : ℕ) (asked : Format) (outcome :
   pub idle : IsIdle motors new
   pub laying : Option Laying
   pub formats : FormatsTrack bay asked laying (rig_of old) (told_of outcome) (rig_of new)
-  pub lasts : LastsFor bay 2 261 (rig_of old) (rig_of new)
+  pub costs : CostsFor bay 2 261 26 (rig_of old) (rig_of new)
 
 -- the keys of a format stand in memory
 pub record HasKeys (asked : Format) (board : Board) : Type 0 where
@@ -48,10 +48,10 @@ format_done motors bay asked outcome old new idle small low spun unprotected key
     let spelled = spells_format head_drive standard_code sectors asked.gap3 asked.fill (omega arith) (omega arith) in
     let last = sectors * 4 - 1 in
     let all : last + 1 ≡ 4 * sectors = omega arith in
-    let ran : IsRun (Write (Track numbers)) sent bay keys_at (last + 1) motors asked.rate old outcome new =
-    is_run (Write (Track numbers)) sent bay keys_at (last + 1) motors asked.rate (λ b. set_up 0x4A keys_at last (after_write 0x08 0 (channel_of b))) (0x4D ∷ head_drive ∷ standard_code ∷ sectors ∷ [])
+    let ran : IsRun (Write (Track numbers)) sent bay keys_at (last + 1) motors asked.rate 26 old outcome new =
+    is_run (Write (Track numbers)) sent bay keys_at (last + 1) motors asked.rate 10 26 (λ b. set_up 0x4A keys_at last (after_write 0x08 0 (channel_of b))) (0x4D ∷ head_drive ∷ standard_code ∷ sectors ∷ [])
     asked.gap3 asked.fill old sends.ready sends.set sends.sent outcome new idle small spun (omega arith) sends.prepares
-    (λ rests. channel_sets 0x4A keys_at last sends.ready sends.set rests sends.sets) (channel_lasts 0x4A keys_at last sends.ready sends.set sends.sets) (spelled.code, (spelled.head, (spelled.size, (spelled.many, tt)))) spelled.gap sends.sends sends.finishes
+    (λ rests. channel_sets 0x4A keys_at last sends.ready sends.set rests sends.sets) (channel_costs 0x4A keys_at last sends.ready sends.set sends.sets) (omega arith) (spelled.code, (spelled.head, (spelled.size, (spelled.many, tt)))) spelled.gap sends.sends sends.finishes
     (λ disk board. (last, refl, set_from_memory keys_at last (channel_of sends.ready) (omega arith) (omega arith)))
     (λ disk board takes. record {
       whole = takes.whole (Ready (FormatTrack head_drive standard_code sectors asked.gap3 asked.fill)) spelled.whole;
@@ -85,5 +85,5 @@ format_done motors bay asked outcome old new idle small low spun unprotected key
       idle = idle_after ran.run first second;
       laying = laying;
       formats = subst (λ r. FormatsTrack bay asked laying (rig_of old) r (rig_of new)) (sym told) shown;
-      lasts = run_lasts ran.run (format_turn bay asked laying (rig_of old) (told_of (told_as over.results.ending after)) (rig_of new) shown);
+      costs = run_costs ran.run 26 ran.uses (format_turn bay asked laying (rig_of old) (told_of (told_as over.results.ending after)) (rig_of new) shown);
     }

@@ -9,7 +9,7 @@ use Rattle.std.proofs.lemmas.List.FromFn.{length-map-range_with_len}
 use Rattle.sector_map.specs.Standard.{key_of, track_keys}
 use Rattle.machine_commands.specs.WriteSent.{IsKeyAt, OnlyMemory, PutsByte, PutsKey, PutsKeys}
 use Rattle.std.specs.Option.{option_map_or}
-use Rattle.floppy_driver.specs.Rigs.{LastsFor, Rig}
+use Rattle.floppy_driver.specs.Rigs.{CostsFor, Rig}
 use Rattle.machine_commands.specs.Shown.{page_part, user_part}
 use Rattle.machine_commands.proofs.Landing.{user_same}
 use Rattle.machine_commands.proofs.PastDriver.{still_idle}
@@ -207,7 +207,7 @@ format_whole motors bay asked outcome old put new idle small low spun free bytes
       laying = is.laying;
       formats = other_page (rig_of old) (page_part (memory_of put)) bay asked is.laying (told_of outcome) (rig_of new)
           (subst (λ r. FormatsTrack bay asked is.laying r (told_of outcome) (rig_of new)) rig is.formats);
-      lasts = let lasts = subst (λ r. LastsFor bay 2 261 r (rig_of new)) rig is.lasts in record { turn = lasts.turn; few = lasts.few };
+      costs = let costs = subst (λ r. CostsFor bay 2 261 26 r (rig_of new)) rig is.costs in record { turn = costs.turn; costs = costs.costs };
     }
 
 -- ---- in the form in which the code's contracts use it

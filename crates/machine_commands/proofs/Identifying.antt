@@ -8,16 +8,16 @@ use Rattle.fdc_phases.specs.Heard.{key_met}
 use Rattle.laws_machine.specs.OnOrders.Orders.{Identify}
 use Rattle.laws_machine.specs.OnReads.Ids.{IdEndedIn, IdEndsAs, sent_id}
 use Rattle.laws_machine.proofs.OnOrders.Ends.{id_ended, id_memory}
-use Rattle.laws_machine.proofs.OnSteps.Lasting.{lasts_none}
 use Rattle.floppy_driver.specs.Reading.{ReadsId}
-use Rattle.floppy_driver.specs.Rigs.{LastsFor}
+use Rattle.floppy_driver.specs.Rigs.{CostsFor}
 use Rattle.floppy_driver.proofs.Lasting.{turn_same}
 use Rattle.machine_commands.specs.Awaited.{SendsReadId, key_told}
 use Rattle.machine_commands.specs.Shown.{user_part, page_part}
 use Rattle.machine_commands.proofs.Beginning.{IsRun, head_of_sent, is_run, small_drive}
+use Rattle.machine_commands.proofs.Lasting.{costs_none}
 use Rattle.machine_commands.proofs.Outcomes.{outcome_is, told_as}
 use Rattle.machine_commands.proofs.Preparing.{none_set}
-use Rattle.machine_commands.proofs.Seeing.{calm_drive, idle_after, memory_after, memory_before, read_sends, run_lasts, track_before}
+use Rattle.machine_commands.proofs.Seeing.{calm_drive, idle_after, memory_after, memory_before, read_sends, run_costs, track_before}
 
 -- what the track has to be for each outcome
 abbrev SaysOf : Scene → ℕ → result Chrn Code → Type 0
@@ -49,9 +49,9 @@ module _ (motors : Motors) (bay head : ℕ) (rate : Rate) (outcome : result Done
   abbrev head_drive : ℕ
   head_drive = head * 4 + bay
 
-  ran : IsRun Identify (sent_id head_drive) bay 0 0 motors rate old outcome new
-  ran = is_run Identify (sent_id head_drive) bay 0 0 motors rate channel_of [] 0x4A head_drive old sends.ready sends.ready sends.sent outcome new idle small spun (omega arith) sends.prepares
-      (λ _. none_set sends.ready) (lasts_none sends.ready) tt (spells_id head_drive).code sends.sends sends.finishes (λ disk board. tt)
+  ran : IsRun Identify (sent_id head_drive) bay 0 0 motors rate 12 old outcome new
+  ran = is_run Identify (sent_id head_drive) bay 0 0 motors rate 0 12 channel_of [] 0x4A head_drive old sends.ready sends.ready sends.sent outcome new idle small spun (omega arith) sends.prepares
+      (λ _. none_set sends.ready) (costs_none sends.ready) (omega arith) tt (spells_id head_drive).code sends.sends sends.finishes (λ disk board. tt)
       (λ disk board takes. record { whole = takes.whole (Ready (ReadId head_drive)) (spells_id head_drive).whole; taking = takes.taking; dma = takes.dma; no_seek = takes.no_seek })
 
   abbrev scene : Scene
@@ -80,5 +80,5 @@ module _ (motors : Motors) (bay head : ℕ) (rate : Rate) (outcome : result Done
   pub read_id_idle : InRange new.first → InRange new.second → IsIdle motors new
   read_id_idle = idle_after ran.run
 
-  pub read_id_lasts : LastsFor bay 2 261 (rig_of old) (rig_of new)
-  read_id_lasts = run_lasts ran.run (turn_same bay (rig_of old) (rig_of new) reads_id.sends.media)
+  pub read_id_costs : CostsFor bay 2 261 12 (rig_of old) (rig_of new)
+  read_id_costs = run_costs ran.run 12 ran.uses (turn_same bay (rig_of old) (rig_of new) reads_id.sends.media)

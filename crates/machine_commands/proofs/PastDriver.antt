@@ -12,6 +12,7 @@ use Rattle.flop_base.proofs.Counted.{drive_same}
 use Rattle.drive_model.specs.Drive.{at_speed, loaded, unloaded, with_motor}
 use Rattle.drive_model.proofs.Passing.{becomes_at}
 use Rattle.laws_machine.specs.OnSteps.Lasts.{clock_of}
+use Rattle.laws_machine.proofs.OnSteps.Using.{stays}
 use Rattle.pc_bus.specs.Boards.{IsEmpty}
 use Rattle.pc_bus.specs.Handling.{Touches, touched}
 use Rattle.fdc_core.specs.Drives.Following.{FollowsMotor}
@@ -31,6 +32,7 @@ record LeavesCounts (old new : Board) : Type 0 where
   never_falls : old.bus.direct ≤ new.bus.direct
   most : new.bus.direct ≤ old.bus.direct + 1
   clock : clock_of new ≡ clock_of old
+  gaps : new.bus.gaps ≡ old.bus.gaps
 
 touched_leaves : (old new : Board) → old.bus.direct ≤ last_count → new.bus ≡ touched old.bus → LeavesCounts old new
 touched_leaves old new few is =
@@ -42,6 +44,7 @@ touched_leaves old new few is =
       never_falls = omega arith;
       most = omega arith;
       clock = ap (λ (b : Bus). clock_of (record old { bus = b })) is;
+      gaps = ap (λ (b : Bus). b.gaps) is;
     }
 
 counts_on : (old new : Board) → LeavesCounts old new → DriveGoesOn (counts_of old.first) (counts_of new.first) → DriveGoesOn (counts_of old.second) (counts_of new.second) → GoesOn (counters_of old) (counters_of new)
@@ -51,7 +54,11 @@ counts_on old new leaves first second =
     leaves.never_falls (omega arith) leaves.sent
 
 past_driver : (old new : Board) → LeavesCounts old new → IsPastDriver 1 (counters_of old) (counters_of new)
-past_driver old new leaves = record { accesses = leaves.most; no_commands = leaves.sent; no_steps = let same = leaves.clock in omega arith }
+past_driver old new leaves = record {
+  accesses = leaves.most;
+  no_commands = leaves.sent;
+  no_cost = let same = leaves.clock in (omega (arith, same), stays old new leaves.gaps leaves.taken);
+}
 
 -- ---- drives
 
@@ -238,6 +245,7 @@ byte_leaves address byte old new few is =
       never_falls = subst (λ n. old.bus.direct ≤ n) (sym same) up;
       most = subst (λ n. n ≤ old.bus.direct + 1) (sym same) most;
       clock = ap clock_of is;
+      gaps = ap (λ (b : Board). b.bus.gaps) is;
     }
 
 pub puts_memory : (address byte : ℕ) (old new : Board) → address < user_bytes → old.bus.direct ≤ last_count → new ≡ record old { bus = byte_set address byte old.bus }

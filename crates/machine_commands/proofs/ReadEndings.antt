@@ -19,16 +19,16 @@ use Rattle.laws_machine.specs.OnReads.Scenes.{IsRecorded}
 use Rattle.laws_machine.proofs.OnOrders.Ends.{read_ended, read_outside}
 use Rattle.laws_machine.proofs.OnReads.TrackMet.{rate_is, recorded}
 use Rattle.floppy_driver.specs.Reading.{FindsField, IsReadReason, IsReadCode, IsReadMiss, ReadsData, ReadsBack}
-use Rattle.floppy_driver.specs.Rigs.{LastsFor}
+use Rattle.floppy_driver.specs.Rigs.{CostsFor}
 use Rattle.floppy_driver.proofs.Lasting.{turn_same}
 use Rattle.machine_commands.specs.Awaited.{SendsRead, mark_told}
 use Rattle.machine_commands.specs.Shown.{user_part, page_part}
 use Rattle.machine_commands.proofs.Beginning.{IsRun, head_of_sent, is_run, set_to_memory, small_drive}
 use Rattle.machine_commands.proofs.Landing.{SameBut, user_same, page_same, user_outside, user_with, page_with}
-use Rattle.machine_commands.proofs.Lasting.{channel_lasts}
+use Rattle.machine_commands.proofs.Lasting.{channel_costs}
 use Rattle.machine_commands.proofs.Outcomes.{outcome_is, told_as}
 use Rattle.machine_commands.proofs.Preparing.{channel_sets}
-use Rattle.machine_commands.proofs.Seeing.{calm_drive, cylinder_before, faultless, idle_after, medium_before, memory_after, memory_before, read_sends, run_lasts, stall_counts, track_before, unstalled}
+use Rattle.machine_commands.proofs.Seeing.{calm_drive, cylinder_before, faultless, idle_after, medium_before, memory_after, memory_before, read_sends, run_costs, stall_counts, track_before, unstalled}
 
 -- ---- what the driver is answered
 
@@ -96,10 +96,10 @@ module _ (motors : Motors) (bay : ℕ) (key : Chrn) (rate : Rate) (address : ℕ
   size_is : left + 1 ≡ content_size key.n
   size_is = let range = size_range key.n coded in omega arith
 
-  ran : IsRun Read sent bay address (left + 1) motors rate old outcome new
-  ran = is_run Read sent bay address (left + 1) motors rate (λ b. set_up 0x46 address left (after_write 0x08 0 (channel_of b))) (0x46 ∷ head_drive ∷ key.c ∷ key.h ∷ key.r ∷ key.n ∷ key.r ∷ []) (read_gap_at rate) 0xFF
+  ran : IsRun Read sent bay address (left + 1) motors rate 29 old outcome new
+  ran = is_run Read sent bay address (left + 1) motors rate 10 29 (λ b. set_up 0x46 address left (after_write 0x08 0 (channel_of b))) (0x46 ∷ head_drive ∷ key.c ∷ key.h ∷ key.r ∷ key.n ∷ key.r ∷ []) (read_gap_at rate) 0xFF
       old sends.ready sends.set sends.sent outcome new idle small spun (let same = size_is in omega arith) sends.prepares (λ rests. channel_sets 0x46 address left sends.ready sends.set rests sends.sets)
-      (channel_lasts 0x46 address left sends.ready sends.set sends.sets)
+      (channel_costs 0x46 address left sends.ready sends.set sends.sets) (omega arith)
       (spelled.code, (spelled.head, (spelled.c, (spelled.h, (spelled.r, (spelled.n, (spelled.last, tt))))))) spelled.gap_length sends.sends sends.finishes
       (λ disk board. (left, refl, set_to_memory address left (channel_of sends.ready) (let range = size_range key.n coded in omega arith) room))
       (λ disk board takes. record {
@@ -254,5 +254,5 @@ module _ (motors : Motors) (bay : ℕ) (key : Chrn) (rate : Rate) (address : ℕ
   pub read_idle : InRange new.first → InRange new.second → IsIdle motors new
   read_idle = idle_after ran.run
 
-  pub read_lasts : LastsFor bay 2 261 (rig_of old) (rig_of new)
-  read_lasts = run_lasts ran.run (turn_same bay (rig_of old) (rig_of new) (read_sends ran.run ran.run.over.goes.listens.drives).media)
+  pub read_costs : CostsFor bay 2 261 29 (rig_of old) (rig_of new)
+  read_costs = run_costs ran.run 29 ran.uses (turn_same bay (rig_of old) (rig_of new) (read_sends ran.run ran.run.over.goes.listens.drives).media)

@@ -1,7 +1,8 @@
 -- Bytes that are sent one by one.
-use Rattle.std.proofs.Common.{◌≡◌, ℕ, ◌+◌, ◌<◌, ◌≤◌, List, [], ◌∷◌, ◌++◌, length, take, get_or, zero, suc, if◌then◌else◌, refl, sym, ◌∙◌, ap, subst, arith}
+use Rattle.std.proofs.Common.{◌≡◌, ℕ, ◌+◌, ◌<◌, ◌≤◌, List, [], ◌∷◌, ◌++◌, length, take, get_or, if◌then◌else◌, refl, sym, ◌∙◌, ap, subst, arith}
 use Rattle.std.proofs.lemmas.List.{take_more}
 use Rattle.machine_commands.proofs.Common.{Board, Outputs, stirred, last_count, counted, Sends, Settles, latch_taken}
+use Rattle.laws_machine.proofs.OnSteps.Using.{runs_taken}
 use Rattle.pc_bus.specs.Steps.{Runs}
 use Rattle.machine_commands.proofs.PastDriver.{counted_if}
 
@@ -17,12 +18,6 @@ sends_next bytes i byte old between new below is sends access =
     subst (λ list. Sends list old new) (sym all) (sends_more (take i bytes) byte old between new sends access)
 
 -- ---- interrupts that are taken
-
--- no device step takes the latch
-runs_taken : (n : ℕ) (old new : Board) → Runs n old new → new.bus.taken ≡ old.bus.taken
-unfolding Runs
-runs_taken zero old new same = ap (λ b. b.bus.taken) same
-runs_taken (suc n) old new (between, runs, step) = ap (λ bus. bus.taken) step.bus ∙ runs_taken n old between runs
 
 pub settles_by : (old between new : Board) → Runs 1 (stirred old) between → new ≡ latch_taken between → old.bus.taken ≤ last_count → Settles old new
 settles_by old between new runs taken small =

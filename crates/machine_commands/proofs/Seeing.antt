@@ -6,8 +6,9 @@ use Rattle.laws_machine.specs.OnAwaits.Awaits.{TurnsOn}
 use Rattle.pc_bus.specs.Counts.{long_holds}
 use Rattle.laws_machine.specs.OnQuiet.Quiet.{HaveTurned}
 use Rattle.laws_machine.specs.OnReads.Ends.{most_steps_of}
+use Rattle.laws_machine.specs.OnSteps.Uses.{Uses}
 use Rattle.floppy_driver.specs.Reading.{SendsRead}
-use Rattle.floppy_driver.specs.Rigs.{HeadsStay, LastsFor, turn_in}
+use Rattle.floppy_driver.specs.Rigs.{CostsFor, HeadsStay, turn_in}
 use Rattle.floppy_driver.specs.Writing.{SendsWrite}
 use Rattle.sector_model.specs.Lasting.{turn_of}
 use Rattle.machine_commands.specs.Shown.{page_part, user_part}
@@ -15,7 +16,7 @@ use Rattle.machine_commands.proofs.Beginning.{HasRun}
 use Rattle.machine_commands.proofs.Endings.{finished_idle}
 use Rattle.machine_commands.proofs.Idling.{KeepsDrive, KeepsSpeed}
 use Rattle.machine_commands.proofs.Bays.{cylinder_in, drive_kept, faults_in, kept_in, medium_in}
-use Rattle.machine_commands.proofs.Lasting.{rig_lasts}
+use Rattle.machine_commands.proofs.Lasting.{rig_costs}
 use Rattle.machine_commands.proofs.Showing.{at_speed_on, two_same}
 
 -- ---- the drives
@@ -186,13 +187,15 @@ module _ {order : Order} {scene : Scene} {motors : Motors} {rate : Rate} {start 
   pub idle_after : InRange new.first → InRange new.second → IsIdle motors new
   idle_after = finished_idle motors scene.bay order scene start outcome new run.sent.sending run.over
 
-  -- ---- how long it lasts
+  -- ---- what it costs
 
   turn_before : turn_in (rig_of old) scene.bay ≡ scene.disk.words_per_track
   turn_before = ap turn_of medium_before
 
-  pub run_lasts : turn_in (rig_of new) scene.bay ≡ turn_in (rig_of old) scene.bay → LastsFor scene.bay 2 261 (rig_of old) (rig_of new)
-  run_lasts same = let turn = turn_before in rig_lasts scene.bay 2 261 (most_steps_of scene.disk.words_per_track + 3) old new same (omega arith) run.lasts
+  pub run_costs : (accesses : ℕ) → Uses accesses old new → turn_in (rig_of new) scene.bay ≡ turn_in (rig_of old) scene.bay → CostsFor scene.bay 2 261 accesses (rig_of old) (rig_of new)
+  run_costs accesses uses same =
+      let turn = turn_before in
+      rig_costs scene.bay 2 261 accesses (most_steps_of scene.disk.words_per_track + 3) old new same (omega arith) (record { lasts = run.lasts; uses = uses })
 
   -- ---- disturbances
 

@@ -13,7 +13,7 @@ use Rattle.irq_events.specs.Holds.{Holds}
 use Rattle.pc_bus.specs.declared.bus.Bus.{Bus}
 use Rattle.pc_bus.specs.Boards.{AreSetIfEmpty, Board, holds_of}
 use Rattle.pc_bus.specs.Calls.{AreCalled}
-use Rattle.floppy_driver.specs.Rigs.{LastsFor, Rig, IsReset}
+use Rattle.floppy_driver.specs.Rigs.{CostsFor, Rig, IsReset}
 use Rattle.sector_model.specs.Stations.{Bay, IsFresh, fresh_bay}
 use Rattle.laws_machine.proofs.OnLines.Showing.{calls_lines, new_lines}
 use Rattle.machine_commands.specs.Shown.{user_part, stalls_left, rig_of}
@@ -91,8 +91,8 @@ module _ (made : Board) (fresh : IsFreshBoard made) (driver : Driver) (new : Rig
         tells = record { first = first; second = second; spares = rest; stalls = omega arith; stalls_below = omega arith };
       }
 
-  pub starts_so : (spares : ℕ) (waiting counts : List DriveCounts) → waiting ≡ counts → LastsFor 0 0 2 (rig_of made) new → Starts made counts (shown driver new spares waiting)
-  starts_so spares waiting counts is lasts =
+  pub starts_so : (spares : ℕ) (waiting counts : List DriveCounts) → waiting ≡ counts → CostsFor 0 0 2 22 (rig_of made) new → Starts made counts (shown driver new spares waiting)
+  starts_so spares waiting counts is costs =
       let most = reset.driven.most_commands in
       let least = reset.counts.data_commands in
       record {
@@ -109,5 +109,5 @@ module _ (made : Board) (fresh : IsFreshBoard made) (driver : Driver) (new : Rig
         };
         data_commands = omega arith;
         direct = reset.driven.past_driver;
-        lasts = let few = lasts.few in omega arith;
+        costs = let few = costs.costs.0 in (omega (arith, few), costs.costs.1);
       }

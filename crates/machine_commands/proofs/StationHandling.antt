@@ -20,7 +20,7 @@ use Rattle.machine_commands.proofs.StationBays.{flags_put}
 -- ---- counts
 
 pub past_driver : (most : ℕ) (old new : Counters) (before after : List DriveCounts) → IsPastDriver most old new → IsPastDriver most (with_waiting old before) (with_waiting new after)
-past_driver most old new before after past = record { accesses = past.accesses; no_commands = past.no_commands; no_steps = past.no_steps }
+past_driver most old new before after past = record { accesses = past.accesses; no_commands = past.no_commands; no_cost = past.no_cost }
 
 pub goes_on : (old new : Counters) (waiting : List DriveCounts) → GoesOn old new → GoesOn (with_waiting old waiting) (with_waiting new waiting)
 goes_on old new waiting goes = record {

@@ -9,15 +9,15 @@ use Rattle.fdc_phases.specs.declared.phases.Phase.TheVariants as phase
 use Rattle.laws_machine.specs.OnWrites.Begins.{write_of}
 use Rattle.laws_machine.specs.OnWrites.Results.{WriteEndedIn}
 use Rattle.laws_machine.proofs.OnOrders.Ends.{ended}
-use Rattle.floppy_driver.specs.Rigs.{LastsFor}
+use Rattle.floppy_driver.specs.Rigs.{CostsFor}
 use Rattle.floppy_driver.proofs.Lasting.{write_turn}
 use Rattle.machine_commands.specs.WriteSent.{SendsWriteBytes}
 use Rattle.machine_commands.proofs.Beginning.{IsRun, head_of_sent, is_run, set_from_memory, small_drive}
-use Rattle.machine_commands.proofs.Lasting.{channel_lasts}
+use Rattle.machine_commands.proofs.Lasting.{channel_costs}
 use Rattle.machine_commands.proofs.Outcomes.{outcome_is, told_as}
 use Rattle.machine_commands.proofs.Preparing.{channel_sets}
 use Rattle.machine_commands.proofs.ReadEndings.{size_range}
-use Rattle.machine_commands.proofs.Seeing.{idle_after, medium_before, run_lasts}
+use Rattle.machine_commands.proofs.Seeing.{idle_after, medium_before, run_costs}
 use Rattle.machine_commands.proofs.WriteRigs.{IsWriteOn, overruns, write_shown}
 
 command_same : (deleted : Bool) (sent : Sent) (gap length_code : ℕ) → write_command deleted sent.head_drive sent.key sent.last_sector gap length_code ≡ write_of deleted sent gap length_code
@@ -29,7 +29,7 @@ pub record IsWritten (motors : Motors) (bay : ℕ) (key : Chrn) (rate : Rate) (a
   pub idle : IsIdle motors new
   pub change : Option Change
   pub writes : WritesData bay rate (record { key = key; deleted = deleted; content = bytes_from (rig_of old).memory address (content_size key.n) }) change (rig_of old) (told_of outcome) (rig_of new)
-  pub lasts : LastsFor bay 2 261 (rig_of old) (rig_of new)
+  pub costs : CostsFor bay 2 261 29 (rig_of old) (rig_of new)
 
 pub write_done : (motors : Motors) (bay : ℕ) (key : Chrn) (rate : Rate) (address : ℕ) (deleted : Bool) (outcome : Result Done Code) (old new : Board) → IsIdle motors old → bay ≤ 1
     → key.h ≤ 1 → IsSizeCode key.n → address + content_size key.n ≤ user_bytes → address % 65536 + (content_size key.n - 1) < 65536 → in_bay (rig_of old).spun bay ≡ true
@@ -43,10 +43,10 @@ write_done motors bay key rate address deleted outcome old new idle small low co
     let (some, few) = size_range key.n coded in
     let last = content_size key.n - 1 in
     let all : last + 1 ≡ content_size key.n = omega arith in
-    let ran : IsRun (Write (Window deleted)) sent bay address (last + 1) motors rate old outcome new =
-    is_run (Write (Window deleted)) sent bay address (last + 1) motors rate (λ b. set_up 0x4A address last (after_write 0x08 0 (channel_of b)))
+    let ran : IsRun (Write (Window deleted)) sent bay address (last + 1) motors rate 29 old outcome new =
+    is_run (Write (Window deleted)) sent bay address (last + 1) motors rate 10 29 (λ b. set_up 0x4A address last (after_write 0x08 0 (channel_of b)))
     (write_code deleted ∷ head_drive ∷ key.c ∷ key.h ∷ key.r ∷ key.n ∷ key.r ∷ []) gap 0xFF old sends.ready sends.set sends.sent outcome new idle small spun (omega arith) sends.prepares
-    (λ rests. channel_sets 0x4A address last sends.ready sends.set rests sends.sets) (channel_lasts 0x4A address last sends.ready sends.set sends.sets) (spelled.code, (spelled.head, (spelled.c, (spelled.h, (spelled.r, (spelled.n, (spelled.last, tt)))))))
+    (λ rests. channel_sets 0x4A address last sends.ready sends.set rests sends.sets) (channel_costs 0x4A address last sends.ready sends.set sends.sets) (omega arith) (spelled.code, (spelled.head, (spelled.c, (spelled.h, (spelled.r, (spelled.n, (spelled.last, tt)))))))
     spelled.gap_length sends.sends sends.finishes (λ disk board. (last, refl, set_from_memory address last (channel_of sends.ready) (omega arith) room))
     (λ disk board takes. record {
       gap = gap;
@@ -76,8 +76,8 @@ write_done motors bay key rate address deleted outcome old new idle small low co
       idle = idle_after ran.run first second;
       change = change;
       writes = subst (λ r. WritesData bay rate (record { key = key; deleted = deleted; content = bytes_from (rig_of old).memory address (content_size key.n) }) change (rig_of old) r (rig_of new)) (sym told) shown;
-      lasts =
-          run_lasts ran.run
+      costs =
+          run_costs ran.run 29 ran.uses
           (write_turn bay rate (record { key = key; deleted = deleted; content = bytes_from (rig_of old).memory address (content_size key.n) }) change (rig_of old)
           (told_of (told_as over.results.ending after)) (rig_of new) shown);
     }

@@ -1,5 +1,5 @@
 -- The machine as its driver sees it.
-use Rattle.std.specs.Prelude.{ℕ, Bool, List, [], take, drop, slice_index, nat_lt, count_by}
+use Rattle.std.specs.Prelude.{ℕ, Bool, List, [], length, take, drop, slice_index, nat_lt, count_by}
 use Rattle.flop_base.specs.Counters.{Counters}
 use Rattle.flop_base.specs.Memory.{user_bytes}
 use Rattle.drive_model.specs.Drive.{DriveState, at_speed}
@@ -38,6 +38,7 @@ counters_of board = record {
   taken = board.bus.taken;
   direct = board.bus.direct;
   clock = clock_of board;
+  gaps = length board.bus.gaps;
 }
 
 -- the number that the controller keeps of a drive's cylinder

@@ -1,6 +1,6 @@
 -- A station before the first request.
 use Rattle.std.specs.Prelude.{◌≡◌, List}
-use Rattle.flop_base.specs.Counters.{DriveCounts, GoesOn, LastsUpTo}
+use Rattle.flop_base.specs.Counters.{CostsUpTo, DriveCounts, GoesOn}
 use Rattle.drive_model.specs.Drive.{DriveState}
 use Rattle.irq_events.specs.declared.pace.Pace.{Pace}
 use Rattle.pc_bus.specs.Boards.{Board, IsEmpty, IsNew}
@@ -17,11 +17,12 @@ pub record IsFreshBoard (board : Board) : Type 0 where
   pub second : IsEmpty bay1
   pub new : IsNew pace bay0 bay1 board
 
--- a station was set up on this board, in at most two device steps apart from gaps. Its spare drives have these counts,
--- and its counts go on from the board's. No data command was sent, and nothing was done past the driver
+-- a station was set up on this board, in at most two device steps apart from gaps, and by at most 22 port accesses. Its
+-- spare drives have these counts, and its counts go on from the board's. No data command was sent, and nothing was done
+-- past the driver
 pub record Starts (board : Board) (spares : List DriveCounts) (station : StationState) : Type 0 where
   pub spares_are : station.counters.spares ≡ spares
   pub counts : GoesOn (with_waiting (counters_of board) spares) station.counters
   pub data_commands : station.counters.data_commands ≡ (counters_of board).data_commands
   pub direct : station.counters.direct ≡ (counters_of board).direct
-  pub lasts : LastsUpTo 2 (counters_of board) station.counters
+  pub costs : CostsUpTo 2 22 (counters_of board) station.counters

@@ -9,7 +9,7 @@ use drive_model::Drive;
 use fdc_core::drives::{may_leap, pass_word_time, pass_word_times};
 
 /// How many device steps are made alone after a try to make many at once found none. Such a try costs as much as one
-/// step or two. A data mark passes in this many steps, and an address field in twice as many.
+/// step or two. A data mark passes in this many steps, and an address field in ten.
 const STEPS_ALONE: u32 = 4;
 
 impl<D: Drive> MachineOf<D> {

@@ -4,6 +4,7 @@ use Rattle.std.specs.Prelude.{slice_set}
 use Rattle.std.proofs.lemmas.List.{ext_get_or, get_or-take, get_or-drop, length-take, length-take-le, length-drop, take_more}
 use Rattle.flop_base.specs.Lists.{with_items}
 use Rattle.flop_base.specs.Memory.{bytes_from, user_bytes}
+use Rattle.flop_base.proofs.Costs.{costs_after, costs_none}
 use Rattle.floppy_session.proofs.Memories.{with_items-nil, set-with_items}
 use Rattle.sector_model.specs.Calls.{SetsMemory}
 use Rattle.sector_model.specs.Stations.{StationState}
@@ -15,7 +16,7 @@ use Rattle.sector_desk.specs.Sectors.{Places}
 pub places_none : (old : StationState) (bytes : List ℕ) → Places (take 0 bytes) old old
 places_none old bytes = record {
   becomes = ap (λ (memory : List ℕ). let station : StationState = record old { memory = memory } in station) (sym (with_items-nil old.memory sector_place));
-  access = record { accesses = omega arith; no_commands = refl; no_steps = omega arith };
+  access = record { accesses = omega arith; no_commands = refl; no_cost = costs_none 0 0 old.counters };
 }
 
 -- one more byte after those that were put
@@ -38,7 +39,7 @@ places_more old mid new bytes i below few size placed sets =
       access = record {
         accesses = omega (arith, long, longer, placed.access.accesses, sets.access.accesses);
         no_commands = sets.access.no_commands ∙ placed.access.no_commands;
-        no_steps = omega (arith, placed.access.no_steps, sets.access.no_steps);
+        no_cost = costs_after 0 0 old.counters mid.counters new.counters placed.access.no_cost sets.access.no_cost;
       };
     }
 

@@ -1,9 +1,10 @@
--- How long the run of a job lasts.
+-- How long the run of a job lasts, and how many port accesses it makes.
 use Rattle.std.proofs.Common.{arith, ◌≡◌, ℕ, ◌+◌, ◌*◌, ◌≤◌, ◌==◌, Bool, true, false, if◌then◌else◌, List, [], ◌∷◌, ◌++◌, sym, ap, subst, Option, Result, Ok, Err}
 use Rattle.std.specs.Prelude.{MatchOption, MatchBool}
 use Rattle.std.proofs.lemmas.List.Sums.{sum_by-cons}
 use Rattle.std.proofs.Math.Nat.{mul-le-mul, mul-le-mul_left, mul-le-mul_right}
-use Rattle.flop_base.specs.Counters.{Counters, LastsUpTo}
+use Rattle.flop_base.proofs.Costs.{costs_after, costs_none, costs_twice, costs_within}
+use Rattle.flop_base.specs.Counters.{Counters, CostsUpTo}
 use Rattle.flop_base.specs.Shelf.{Files}
 use Rattle.flop_base.specs.Standard.{sectors_at}
 use Rattle.flop_base.specs.declared.answers.Code.{Code}
@@ -14,114 +15,138 @@ use Rattle.floppy_jobs.specs.Texts.{job_of}
 use Rattle.floppy_jobs.specs.declared.request.Request.{Request}
 use Rattle.floppy_jobs.specs.declared.request.Request.TheVariants as request
 use Rattle.sector_model.specs.declared.reply.Reply.{Reply}
-use Rattle.sector_model.specs.Lasting.{ack_time, format_steps, format_turns, turn_of}
+use Rattle.sector_model.specs.Lasting.{ack_port_accesses, ack_time, format_once_port_accesses, format_steps, format_turns, turn_of}
 use Rattle.sector_model.specs.Stations.{StationState, bay_of}
 use Rattle.sector_model.specs.Orders.{IsRefusedAtOnce, read_refusal, write_refusal, format_refusal, rate_refusal, is_bay}
-use Rattle.sector_model.specs.States.{State, ChangesMedium}
+use Rattle.sector_model.specs.States.{State, IsSame, ChangesMedium}
 use Rattle.sector_model.specs.Steps.{Step, Does, refusal_of, AfterStop}
 use Rattle.sector_model.specs.Runs.{Taken, Run, requests_of, Ends, EndsBay, Stored, Left, EndStopsAt, AtFirst, AtSecond}
 use Rattle.sector_model.specs.Plays.{World, PlaysRequests, Played, Stopped, BrokenOff, EndStopped, PlaysParsed, Plays, There, Missing, TooLong, Faulty, Starved}
-use Rattle.sector_model.specs.Times.{AreWithin, IsWithin, course_time, job_time, most_time, time_of}
+use Rattle.sector_model.specs.Times.{AreWithin, IsWithin, course_port_accesses, course_time, job_port_accesses, job_time, most_port_accesses, most_time, port_accesses_of, time_of}
 use Rattle.sector_model.proofs.Runs.{run_more}
 use Rattle.sector_model.proofs.Ties.{either}
 
 -- ---- a step
 
+pub same_within : (few most : ℕ) (old new : State) → few ≤ most → IsSame few old new → IsSame most old new
+same_within few most old new less same = record {
+  names = same.names;
+  stays = same.stays;
+  idle = same.idle;
+  costs = costs_within 0 0 few most old.station.counters new.station.counters (omega arith) less same.costs;
+  counts = same.counts;
+}
+
 -- a call of the driver that may be refused at once
-called_lasts : {A : Type 0} {P : Type 0} (refusal : Option Code) (answer : Result A Code) (most : ℕ) (old new : StationState) → MatchOption refusal P (λ code. IsRefusedAtOnce code old answer new)
-    → (P → LastsUpTo most old.counters new.counters) → LastsUpTo most old.counters new.counters
-called_lasts refusal answer most old new called reached = either refusal called reached (λ code refused. (let none = refused.no_steps in omega arith))
+called_costs : {A : Type 0} {P : Type 0} (refusal : Option Code) (answer : Result A Code) (steps accesses : ℕ) (old new : StationState) → MatchOption refusal P (λ code. IsRefusedAtOnce code old answer new)
+    → 6 ≤ accesses → (P → CostsUpTo steps accesses old.counters new.counters) → CostsUpTo steps accesses old.counters new.counters
+called_costs refusal answer steps accesses old new called many reached =
+    either refusal called reached (λ code refused. costs_within 0 steps 6 accesses old.counters new.counters (omega arith) many refused.costs)
 
-acks_last : {P : Type 0} (good : Bool) (old new : StationState) (answer : Result (Unit {0}) Code) (code : Code) (most : ℕ) → MatchBool good P (IsRefusedAtOnce code old answer new)
-    → (P → LastsUpTo most old.counters new.counters) → LastsUpTo most old.counters new.counters
-acks_last true old new answer code most called reached = reached called
-acks_last false old new answer code most called reached = let none = called.no_steps in omega arith
+acks_cost : {P : Type 0} (good : Bool) (old new : StationState) (answer : Result (Unit {0}) Code) (code : Code) (steps accesses : ℕ) → MatchBool good P (IsRefusedAtOnce code old answer new)
+    → 6 ≤ accesses → (P → CostsUpTo steps accesses old.counters new.counters) → CostsUpTo steps accesses old.counters new.counters
+acks_cost true old new answer code steps accesses called many reached = reached called
+acks_cost false old new answer code steps accesses called many reached = costs_within 0 steps 6 accesses old.counters new.counters (omega arith) many called.costs
 
-changed_lasts : (old new : State) (bay : ℕ) (name : Option (List ℕ)) (medium : Option _) → ChangesMedium bay name medium old new → LastsUpTo 0 old.station.counters new.station.counters
-changed_lasts old new bay name medium changes = changes.exchanged.access.no_steps
+changed_costs : (old new : State) (bay : ℕ) (name : Option (List ℕ)) (medium : Option _) → ChangesMedium bay name medium old new → CostsUpTo 0 0 old.station.counters new.station.counters
+changed_costs old new bay name medium changes = changes.exchanged.access.no_cost
 
-does_last : (old new : State) (told after : Option Files) (asked : Request) (answer : Reply) → Does asked old told answer new after → LastsUpTo (time_of asked old.station) old.station.counters new.station.counters
-does_last old new told after (request.Insert bay name) answer does = changed_lasts old new bay _ _ does.2.2
-does_last old new told after (request.Blank bay name cylinders) answer does = changed_lasts old new bay _ _ does.2
-does_last old new told after (request.BlankDd bay name cylinders) answer does = changed_lasts old new bay _ _ does.2
-does_last old new told after (request.Eject bay) answer does = changed_lasts old new bay _ _ does.1.4
-does_last old new told after (request.Ack bay) answer does = acks_last (is_bay bay) old.station new.station does.1.0 _ (ack_time old.station bay) does.1.2 (λ p. p.lasts)
-does_last old new told after (request.Read bay key address) answer does = called_lasts (read_refusal old.station bay key address) does.1.0 _ old.station new.station does.1.2 (λ p. p.lasts)
-does_last old new told after (request.Write bay key address) answer does = called_lasts (write_refusal old.station bay key address) does.1.0 _ old.station new.station does.1.2 (λ p. p.lasts)
-does_last old new told after (request.WriteDeleted bay key address) answer does = called_lasts (write_refusal old.station bay key address) does.1.0 _ old.station new.station does.1.2 (λ p. p.lasts)
-does_last old new told after (request.Format bay c h) answer does = called_lasts (format_refusal old.station bay c h _) does.1.0 _ old.station new.station does.1.2 (λ p. p.lasts)
-does_last old new told after (request.Fill address count byte) answer does = does.2.access.no_steps
-does_last old new told after (request.Dump address count) answer does = does.2.idle.no_steps
-does_last old new told after (request.Unit bay) answer does = does.3.access.no_steps
-does_last old new told after (request.SetRate bay rate) answer does = called_lasts (rate_refusal old.station bay) does.1.0 0 old.station new.station does.1.2 (λ p. p.no_steps)
-does_last old new told after (request.Tries tries) answer does = does.2.no_steps
+abbrev Costs : Request → StationState → StationState → Type 0
+Costs asked old new = CostsUpTo (time_of asked old) (port_accesses_of asked old) old.counters new.counters
 
-step_lasts : (old new : State) (told after : Option Files) (asked : Request) (answer : Reply) → Step asked old told answer new after → LastsUpTo (time_of asked old.station) old.station.counters new.station.counters
-step_lasts old new told after asked answer step =
-    either (refusal_of old asked) step (does_last old new told after asked answer) (λ cause refused. (let none = refused.same.idle.no_steps in omega arith))
+does_costs : (old new : State) (told after : Option Files) (asked : Request) (answer : Reply) → Does asked old told answer new after → Costs asked old.station new.station
+does_costs old new told after (request.Insert bay name) answer does = changed_costs old new bay _ _ does.2.2
+does_costs old new told after (request.Blank bay name cylinders) answer does = changed_costs old new bay _ _ does.2
+does_costs old new told after (request.BlankDd bay name cylinders) answer does = changed_costs old new bay _ _ does.2
+does_costs old new told after (request.Eject bay) answer does = changed_costs old new bay _ _ does.1.4
+does_costs old new told after (request.Ack bay) answer does = acks_cost (is_bay bay) old.station new.station does.1.0 _ (ack_time old.station bay) ack_port_accesses does.1.2 (omega arith) (λ p. p.costs)
+does_costs old new told after (request.Read bay key address) answer does =
+    called_costs (read_refusal old.station bay key address) does.1.0 _ (port_accesses_of (request.Read bay key address) old.station) old.station new.station does.1.2 (omega arith) (λ p. p.costs)
+does_costs old new told after (request.Write bay key address) answer does =
+    called_costs (write_refusal old.station bay key address) does.1.0 _ (port_accesses_of (request.Write bay key address) old.station) old.station new.station does.1.2 (omega arith) (λ p. p.costs)
+does_costs old new told after (request.WriteDeleted bay key address) answer does =
+    called_costs (write_refusal old.station bay key address) does.1.0 _ (port_accesses_of (request.Write bay key address) old.station) old.station new.station does.1.2 (omega arith) (λ p. p.costs)
+does_costs old new told after (request.Format bay c h) answer does =
+    called_costs (format_refusal old.station bay c h _) does.1.0 _ (port_accesses_of (request.Format bay c h) old.station) old.station new.station does.1.2 (omega arith) (λ p. p.costs)
+does_costs old new told after (request.Fill address count byte) answer does = does.2.access.no_cost
+does_costs old new told after (request.Dump address count) answer does = does.2.costs
+does_costs old new told after (request.Unit bay) answer does = does.3.access.no_cost
+does_costs old new told after (request.SetRate bay rate) answer does =
+    called_costs (rate_refusal old.station bay) does.1.0 0 6 old.station new.station does.1.2 (omega arith)
+    (λ p. costs_within 0 0 2 6 old.station.counters new.station.counters (omega arith) (omega arith) p.costs)
+does_costs old new told after (request.Tries tries) answer does = does.2.no_cost
+
+step_costs : (old new : State) (told after : Option Files) (asked : Request) (answer : Reply) → Step asked old told answer new after → Costs asked old.station new.station
+step_costs old new told after asked answer step =
+    either (refusal_of old asked) step (does_costs old new told after asked answer)
+    (λ cause refused. costs_within 0 (time_of asked old.station) 0 (port_accesses_of asked old.station) old.station.counters new.station.counters (omega arith) (omega arith) refused.same.costs)
 
 -- ---- a run, and its end
 
-adds : (a b c n m : ℕ) → b ≤ a + n → c ≤ b + m → c ≤ a + (n + m)
-adds a b c n m first second = omega (arith, first, second)
+abbrev CourseCosts : StationState → List Taken → Counters → Type 0
+CourseCosts old course new = CostsUpTo (course_time old course) (course_port_accesses old course) old.counters new
 
-pub run_lasts : (old new : State) (told after : Option Files) (course : List Taken) → Run old told course new after → LastsUpTo (course_time old.station course) old.station.counters new.station.counters
-run_lasts old new told after [] run = subst (λ (s : State). LastsUpTo 0 old.station.counters s.station.counters) (sym run.0) (omega arith)
-run_lasts old new told after (taken ∷ later) run =
-    adds old.station.counters.clock taken.after.station.counters.clock new.station.counters.clock (time_of taken.asked old.station) (course_time taken.after.station later)
-    (step_lasts old taken.after told run.0 taken.asked taken.answer run.1) (run_lasts taken.after new run.0 after later run.2)
+pub run_costs : (old new : State) (told after : Option Files) (course : List Taken) → Run old told course new after → CourseCosts old.station course new.station.counters
+run_costs old new told after [] run = subst (λ (s : State). CostsUpTo 0 0 old.station.counters s.station.counters) (sym run.0) (costs_none 0 0 old.station.counters)
+run_costs old new told after (taken ∷ later) run =
+    costs_twice (time_of taken.asked old.station) (course_time taken.after.station later) (port_accesses_of taken.asked old.station) (course_port_accesses taken.after.station later)
+    old.station.counters taken.after.station.counters new.station.counters
+    (step_costs old taken.after told run.0 taken.asked taken.answer run.1) (run_costs taken.after new run.0 after later run.2)
 
--- no device step passes after a stop
-stopped_lasts : (old new : State) (asked : Request) → AfterStop asked old new → LastsUpTo 0 old.station.counters new.station.counters
-stopped_lasts old new (request.Eject bay) stopped = changed_lasts old new bay _ _ stopped
-stopped_lasts old new _ stopped = stopped.idle.no_steps
+-- a stop costs nothing
+stopped_costs : (old new : State) (asked : Request) → AfterStop asked old new → CostsUpTo 0 0 old.station.counters new.station.counters
+stopped_costs old new (request.Eject bay) stopped = changed_costs old new bay _ _ stopped
+stopped_costs old new _ stopped = stopped.costs
 
-bay_lasts : (old new : State) (told after : Option Files) (bay : ℕ) → EndsBay bay old told new after → LastsUpTo 0 old.station.counters new.station.counters
-bay_lasts old new told after bay (Stored stores) = changed_lasts old new bay _ _ stores.4
-bay_lasts old new told after bay (Left left) = left.same.idle.no_steps
+bay_costs : (old new : State) (told after : Option Files) (bay : ℕ) → EndsBay bay old told new after → CostsUpTo 0 0 old.station.counters new.station.counters
+bay_costs old new told after bay (Stored stores) = changed_costs old new bay _ _ stores.4
+bay_costs old new told after bay (Left left) = left.same.costs
 
-ends_last : (old new : State) (told after : Option Files) → Ends old told new after → LastsUpTo 0 old.station.counters new.station.counters
-ends_last old new told after ends = let first = bay_lasts old ends.0 told ends.1 0 ends.2 in let second = bay_lasts ends.0 new ends.1 after 1 ends.3 in omega arith
+ends_cost : (old new : State) (told after : Option Files) → Ends old told new after → CostsUpTo 0 0 old.station.counters new.station.counters
+ends_cost old new told after ends =
+    costs_twice 0 0 0 0 old.station.counters ends.0.station.counters new.station.counters (bay_costs old ends.0 told ends.1 0 ends.2) (bay_costs ends.0 new ends.1 after 1 ends.3)
 
-end_stop_lasts : (old new : State) (told after : Option Files) → EndStopsAt old told new after → LastsUpTo 0 old.station.counters new.station.counters
-end_stop_lasts old new told after (AtFirst drops same) = changed_lasts old new 0 _ _ drops.changes
-end_stop_lasts old new told after (AtSecond mid ends drops) = let first = bay_lasts old mid told after 0 ends in let second = changed_lasts mid new 1 _ _ drops.changes in omega arith
+end_stop_costs : (old new : State) (told after : Option Files) → EndStopsAt old told new after → CostsUpTo 0 0 old.station.counters new.station.counters
+end_stop_costs old new told after (AtFirst drops same) = changed_costs old new 0 _ _ drops.changes
+end_stop_costs old new told after (AtSecond mid ends drops) =
+    costs_twice 0 0 0 0 old.station.counters mid.station.counters new.station.counters (bay_costs old mid told after 0 ends) (changed_costs mid new 1 _ _ drops.changes)
 
-run_and : (old mid : State) (told after : Option Files) (course : List Taken) (new : Counters) → Run old told course mid after → LastsUpTo 0 mid.station.counters new
-    → LastsUpTo (course_time old.station course) old.station.counters new
-run_and old mid told after course new run none = let lasts = run_lasts old mid told after course run in omega (arith, lasts, none)
+run_and : (old mid : State) (told after : Option Files) (course : List Taken) (new : Counters) → Run old told course mid after → CostsUpTo 0 0 mid.station.counters new
+    → CourseCosts old.station course new
+run_and old mid told after course new run none =
+    costs_after (course_time old.station course) (course_port_accesses old.station course) old.station.counters mid.station.counters new (run_costs old mid told after course run) none
 
 -- ---- a job
 
-abbrev Lasts : World → List Taken → World → Type 0
-Lasts old course new = LastsUpTo (course_time old.state.station course) old.state.station.counters new.state.station.counters
+abbrev PlayCosts : World → List Taken → World → Type 0
+PlayCosts old course new = CourseCosts old.state.station course new.state.station.counters
 
-requests_last : (old new : World) (requests : List Request) (course : List Taken) (ended : Status) → PlaysRequests requests old course new ended → Lasts old course new
-requests_last old new requests course ended (Played p) = run_and old.state p.mid old.files p.files course new.state.station.counters p.run (ends_last p.mid new.state p.files new.files p.stored)
-requests_last old new requests course ended (Stopped p) = run_and old.state p.mid old.files p.files course new.state.station.counters p.run (stopped_lasts p.mid new.state p.asked p.stops.after)
-requests_last old new requests course ended (BrokenOff p) =
+requests_cost : (old new : World) (requests : List Request) (course : List Taken) (ended : Status) → PlaysRequests requests old course new ended → PlayCosts old course new
+requests_cost old new requests course ended (Played p) = run_and old.state p.mid old.files p.files course new.state.station.counters p.run (ends_cost p.mid new.state p.files new.files p.stored)
+requests_cost old new requests course ended (Stopped p) = run_and old.state p.mid old.files p.files course new.state.station.counters p.run (stopped_costs p.mid new.state p.asked p.stops.after)
+requests_cost old new requests course ended (BrokenOff p) =
     let run = run_more old.state p.mid old.files p.files new.files p.before p.last p.run p.step in
-    let lasts = run_lasts old.state p.last.after old.files new.files (p.before ++ p.last ∷ []) run in
-    subst (λ (steps : List Taken). Lasts old steps new) (sym p.course_is)
-    (subst (λ (s : State). LastsUpTo (course_time old.state.station (p.before ++ p.last ∷ [])) old.state.station.counters s.station.counters) (sym p.after) lasts)
-requests_last old new requests course ended (EndStopped p) = run_and old.state p.mid old.files p.files course new.state.station.counters p.run (end_stop_lasts p.mid new.state p.files new.files p.stops)
+    let costs = run_costs old.state p.last.after old.files new.files (p.before ++ p.last ∷ []) run in
+    subst (λ (steps : List Taken). PlayCosts old steps new) (sym p.course_is)
+    (subst (λ (s : State). CourseCosts old.state.station (p.before ++ p.last ∷ []) s.station.counters) (sym p.after) costs)
+requests_cost old new requests course ended (EndStopped p) = run_and old.state p.mid old.files p.files course new.state.station.counters p.run (end_stop_costs p.mid new.state p.files new.files p.stops)
 
 -- nothing was run and the state stays
-pub stays_last : (old new : World) (course : List Taken) → course ≡ [] → new.state ≡ old.state → Lasts old course new
-stays_last old new course nothing same =
-    subst (λ (steps : List Taken). Lasts old steps new) (sym nothing)
-    (subst (λ (s : State). LastsUpTo 0 old.state.station.counters s.station.counters) (sym same) (omega arith))
+stays_costs : (old new : World) (course : List Taken) → course ≡ [] → new.state ≡ old.state → PlayCosts old course new
+stays_costs old new course nothing same =
+    subst (λ (steps : List Taken). PlayCosts old steps new) (sym nothing)
+    (subst (λ (s : State). CostsUpTo 0 0 old.state.station.counters s.station.counters) (sym same) (costs_none 0 0 old.state.station.counters))
 
-parsed_last : (old new : World) (parsed : Result (List Request) ℕ) (course : List Taken) (ended : Status) → PlaysParsed parsed old course new ended → Lasts old course new
-parsed_last old new (Ok requests) course ended plays = requests_last old new requests course ended plays
-parsed_last old new (Err line) course ended alone = stays_last old new course alone.nothing alone.tells.state
+parsed_costs : (old new : World) (parsed : Result (List Request) ℕ) (course : List Taken) (ended : Status) → PlaysParsed parsed old course new ended → PlayCosts old course new
+parsed_costs old new (Ok requests) course ended plays = requests_cost old new requests course ended plays
+parsed_costs old new (Err line) course ended alone = stays_costs old new course alone.nothing alone.tells.state
 
-pub play_lasts : (old new : World) (job : List ℕ) (course : List Taken) (ended : Status) → Plays job old course new ended → Lasts old course new
-play_lasts old new job course ended (There p) = parsed_last old new (job_of p.text) course ended p.plays
-play_lasts old new job course ended (Missing absent alone) = stays_last old new course alone.nothing alone.tells.state
-play_lasts old new job course ended (TooLong longer alone) = stays_last old new course alone.nothing alone.tells.state
-play_lasts old new job course ended (Faulty nothing idle) = stays_last old new course nothing (ap (λ (w : World). w.state) idle.same)
-play_lasts old new job course ended (Starved nothing idle) = stays_last old new course nothing (ap (λ (w : World). w.state) idle.same)
+pub play_costs : (old new : World) (job : List ℕ) (course : List Taken) (ended : Status) → Plays job old course new ended → PlayCosts old course new
+play_costs old new job course ended (There p) = parsed_costs old new (job_of p.text) course ended p.plays
+play_costs old new job course ended (Missing absent alone) = stays_costs old new course alone.nothing alone.tells.state
+play_costs old new job course ended (TooLong longer alone) = stays_costs old new course alone.nothing alone.tells.state
+play_costs old new job course ended (Faulty nothing idle) = stays_costs old new course nothing (ap (λ (w : World). w.state) idle.same)
+play_costs old new job course ended (Starved nothing idle) = stays_costs old new course nothing (ap (λ (w : World). w.state) idle.same)
 
 -- ---- by the requests alone
 
@@ -177,4 +202,35 @@ course_within turn tries station (taken ∷ later) (here, others) =
     let one = time_within turn tries station taken.asked here in
     let more = course_within turn tries taken.after.station later others in
     let sum = sum_by-cons (most_time turn tries) taken.asked (requests_of later) in
+    omega (arith, one, more, sum)
+
+-- attempts of `p` port accesses each, after six
+accesses_within : (tries most p q : ℕ) → tries ≤ most → p ≤ q → 6 + tries * p ≤ 6 + most * q
+accesses_within tries most p q few less = let many = mul-le-mul few less in omega (arith, many)
+
+port_accesses_within : (turn tries : ℕ) (station : StationState) (asked : Request) → IsWithin turn tries station → port_accesses_of asked station ≤ most_port_accesses tries asked
+port_accesses_within turn tries station (request.Ack bay) within = omega arith
+port_accesses_within turn tries station (request.Read bay key address) within = accesses_within station.tries tries 48 48 within.attempts (omega arith)
+port_accesses_within turn tries station (request.Write bay key address) within = accesses_within station.tries tries 77 77 within.attempts (omega arith)
+port_accesses_within turn tries station (request.WriteDeleted bay key address) within = accesses_within station.tries tries 77 77 within.attempts (omega arith)
+port_accesses_within turn tries station (request.Format bay c h) within =
+    let few = few_sectors (bay_of station bay).rate in
+    accesses_within station.tries tries (format_once_port_accesses (bay_of station bay).rate) 567 within.attempts (omega arith)
+port_accesses_within turn tries station (request.Insert bay name) within = omega arith
+port_accesses_within turn tries station (request.Blank bay name cylinders) within = omega arith
+port_accesses_within turn tries station (request.BlankDd bay name cylinders) within = omega arith
+port_accesses_within turn tries station (request.Eject bay) within = omega arith
+port_accesses_within turn tries station (request.Fill address count byte) within = omega arith
+port_accesses_within turn tries station (request.Dump address count) within = omega arith
+port_accesses_within turn tries station (request.Unit bay) within = omega arith
+port_accesses_within turn tries station (request.SetRate bay rate) within = omega arith
+port_accesses_within turn tries station (request.Tries set) within = omega arith
+
+pub course_accesses_within : (turn tries : ℕ) (station : StationState) (course : List Taken) → AreWithin turn tries station course
+    → course_port_accesses station course ≤ job_port_accesses tries (requests_of course)
+course_accesses_within turn tries station [] within = omega arith
+course_accesses_within turn tries station (taken ∷ later) (here, others) =
+    let one = port_accesses_within turn tries station taken.asked here in
+    let more = course_accesses_within turn tries taken.after.station later others in
+    let sum = sum_by-cons (most_port_accesses tries) taken.asked (requests_of later) in
     omega (arith, one, more, sum)

@@ -75,8 +75,8 @@ tied_more n m old new more tied = record {
   accesses = omega (arith, tied.accesses);
 }
 
-same_tied : (old new : State) → IsSame old new → Tied 0 old.station.counters new.station.counters
-same_tied old new same = past_tied 0 _ _ same.counts same.idle
+same_tied : {accesses : ℕ} (old new : State) → IsSame accesses old new → Tied 0 old.station.counters new.station.counters
+same_tied old new same = driven_tied 0 _ _ same.counts same.idle
 
 changed_tied : (old new : State) (bay : ℕ) (name : Option (List ℕ)) (medium : Option _) → ChangesMedium bay name medium old new → Tied 1 old.station.counters new.station.counters
 changed_tied old new bay name medium changes = past_tied 1 _ _ changes.counts changes.exchanged.access
@@ -148,7 +148,7 @@ stopped_tied old new (request.Tries tries) stopped = same_tied old new stopped
 -- at a stop at most one access goes past the driver: that of an eject, which drops the medium
 stopped_accesses : (old new : State) (asked : Request) → AfterStop asked old new → new.station.counters.direct ≤ old.station.counters.direct + 1
 stopped_accesses old new (request.Eject bay) stopped = stopped.exchanged.access.accesses
-stopped_accesses old new _ stopped = let idle = stopped.idle.accesses in omega arith
+stopped_accesses old new _ stopped = let idle = stopped.idle.past_driver in omega arith
 
 pub stop_accesses : (old new : State) (told after : Option Files) (asked : Request) (cause : Stop) → StopsAt asked old told cause new after → new.station.counters.direct ≤ old.station.counters.direct + 1
 stop_accesses old new told after asked cause stops = stopped_accesses old new asked stops.after

@@ -7,9 +7,9 @@ use Rattle.flop_base.specs.declared.answers.Code.TheVariants.{BadRequest, NotRea
 use Rattle.raw_image.specs.Disk.{Disk, track_of}
 use Rattle.track_model.specs.Fields.{IsAddress}
 use Rattle.track_model.specs.Sectors.{IsClear}
-use Rattle.flop_base.specs.Counters.{faults_of, FaultsRoseBy, FaultsRoseLess, TakesSpare, IsDriven, IsPastDriver, GoesOn, LastsUpTo}
+use Rattle.flop_base.specs.Counters.{faults_of, FaultsRoseBy, FaultsRoseLess, TakesSpare, IsDriven, IsPastDriver, GoesOn, CostsUpTo}
 use Rattle.sector_model.specs.Stations.{StationState, Becomes, Stays, bay_of, set_bay, fresh_bay}
-use Rattle.sector_model.specs.Lasting.{ack_time}
+use Rattle.sector_model.specs.Lasting.{ack_port_accesses, ack_time}
 use Rattle.sector_model.specs.Orders.{is_bay, is_acknowledged, rate_refusal, IsRefusedAtOnce}
 
 -- the track of cylinder 0 and head 0 has a Clear address field
@@ -45,7 +45,7 @@ pub record AcksDrive (bay : ℕ) (old : StationState) (answer : Result (Unit {0}
   pub done : IsOk answer → IsAcknowledged bay old new
   pub refused : IfErr answer (λ code. IsUnready bay old code new)
   pub driven : IsDriven 6 old.counters new.counters
-  pub lasts : LastsUpTo (ack_time old bay) old.counters new.counters
+  pub costs : CostsUpTo (ack_time old bay) ack_port_accesses old.counters new.counters
 
 -- the step of an acknowledgement
 abbrev pub Acks : ℕ → StationState → Result (Unit {0}) Code → StationState → Type 0
@@ -57,7 +57,7 @@ pub record SetsRate (bay : ℕ) (rate : Rate) (old : StationState) (answer : Res
   pub done : IsOk answer
   pub becomes : Becomes (set_bay old bay (record (bay_of old bay) { rate = rate })) new
   pub idle : IsDriven 0 old.counters new.counters
-  pub no_steps : LastsUpTo 0 old.counters new.counters
+  pub costs : CostsUpTo 0 2 old.counters new.counters
 
 -- the step of a change of the rate
 abbrev pub RatesTo : ℕ → Rate → StationState → Result (Unit {0}) Code → StationState → Type 0
@@ -68,14 +68,14 @@ RatesTo bay rate old answer new =
 pub record SetsTries (tries : ℕ) (old new : StationState) : Type 0 where
   pub becomes : Becomes (record old { tries = tries }) new
   pub idle : IsDriven 0 old.counters new.counters
-  pub no_steps : LastsUpTo 0 old.counters new.counters
+  pub no_cost : CostsUpTo 0 0 old.counters new.counters
 
 -- a question was answered: whether the medium was exchanged since the bay was acknowledged
 pub record TellsChange (bay : ℕ) (old : StationState) (answer : Bool) (new : StationState) : Type 0 where
   pub changed : answer ≡ not (is_acknowledged old bay)
   pub stays : Stays old new
   pub idle : IsDriven 0 old.counters new.counters
-  pub no_steps : LastsUpTo 0 old.counters new.counters
+  pub costs : CostsUpTo 0 2 old.counters new.counters
 
 -- a call past the driver that changed nothing
 pub record IsUnmoved (old new : StationState) : Type 0 where

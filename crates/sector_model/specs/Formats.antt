@@ -6,9 +6,9 @@ use Rattle.raw_image.specs.Disk.{Disk, HasTrack, track_of}
 use Rattle.flop_base.specs.Standard.{sectors_at}
 use Rattle.sector_map.specs.Layings.{Format, Laying, IsLaying, formatted, IsFormattable}
 use Rattle.flop_base.specs.Counts.{RoseBy}
-use Rattle.flop_base.specs.Counters.{IsFaultless, IsUndisturbed, DisturbedLess, FaultsRoseBy, IsDriven, LastsUpTo}
+use Rattle.flop_base.specs.Counters.{IsFaultless, IsUndisturbed, DisturbedLess, FaultsRoseBy, IsDriven, CostsUpTo}
 use Rattle.sector_model.specs.Stations.{StationState, Becomes, bay_of, set_bay}
-use Rattle.sector_model.specs.Lasting.{format_time}
+use Rattle.sector_model.specs.Lasting.{format_port_accesses, format_time}
 use Rattle.sector_model.specs.Orders.{format_refusal, IsRefusedAtOnce, IsDeviceRefusal}
 use Rattle.sector_model.specs.Reads.{spoilable}
 
@@ -68,7 +68,7 @@ pub record FormatsDrive (format : Format) (bay : ℕ) (old : StationState) (answ
       → IsFormattable format (bay_of old bay).medium × IsFormatted format (bay_of old bay).medium (bay_of new bay).medium
   pub refused : IfErr answer (λ code. IsFormatCause format (bay_of old bay).medium bay old code new)
   pub driven : IsDriven (old.tries * (1 + sectors_at format.rate)) old.counters new.counters
-  pub lasts : LastsUpTo (format_time old bay format.rate) old.counters new.counters
+  pub costs : CostsUpTo (format_time old bay format.rate) (format_port_accesses old format.rate) old.counters new.counters
 
 -- the step of a format
 abbrev pub FormatsTo : ℕ → ℕ → ℕ → ℕ → ℕ → StationState → Result (Unit {0}) Code → StationState → Type 0

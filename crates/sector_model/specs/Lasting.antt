@@ -1,6 +1,7 @@
--- How long calls of a driver last at most: a number of revolutions of the medium in a bay, and a number of device
--- steps.
-use Rattle.std.specs.Prelude.{ℕ, ◌+◌, ◌*◌, Option}
+-- What calls of a driver cost at most: a number of revolutions of the medium in a bay, a number of device steps, and a
+-- number of port accesses. One port access more may come for each interrupt that is taken, since each watch for the end
+-- of a data command looks at a port once, and a spurious interrupt makes one more watch necessary.
+use Rattle.std.specs.Prelude.{ℕ, zero, suc, ◌+◌, ◌*◌, Option}
 use Rattle.std.specs.Option.{option_map_or}
 use Rattle.flop_base.specs.Standard.{sectors_at}
 use Rattle.flop_base.specs.declared.answers.Rate.{Rate}
@@ -38,3 +39,33 @@ format_steps rate = 504 + sectors_at rate * 261
 
 abbrev pub format_time : StationState → ℕ → Rate → ℕ
 format_time station bay rate = time_in station bay (station.tries * format_turns rate) (station.tries * format_steps rate)
+
+-- ---- port accesses
+
+-- an acknowledgement: one for the motor. In each of three rounds, 31 to move the heads in and out, 2 to look at the
+-- change line, and 12 for each of two READ IDs
+abbrev pub ack_port_accesses : ℕ
+ack_port_accesses = 172
+
+-- A read looks at the change line, which takes two. A write and a format also ask whether the medium is protected, which
+-- takes four. For each of these calls, six are counted
+
+-- an attempt at a read: 19 to move the heads, and 29 for the data command
+abbrev pub read_port_accesses : StationState → ℕ
+read_port_accesses station = 6 + station.tries * 48
+
+-- an attempt at a write has two data commands
+abbrev pub write_port_accesses : StationState → ℕ
+write_port_accesses station = 6 + station.tries * 77
+
+-- an attempt at a format: 19 to move the heads, 26 for the format, and 29 for each record that is read back
+abbrev pub format_once_port_accesses : Rate → ℕ
+format_once_port_accesses rate = 45 + sectors_at rate * 29
+
+abbrev pub format_port_accesses : StationState → Rate → ℕ
+format_port_accesses station rate = 6 + station.tries * format_once_port_accesses rate
+
+-- a dump of memory makes none. A dump of no bytes stands in a course for a look at the change line
+abbrev pub dump_port_accesses : ℕ → ℕ
+dump_port_accesses zero = 2
+dump_port_accesses (suc count) = 0

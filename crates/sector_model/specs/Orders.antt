@@ -7,7 +7,7 @@ use Rattle.flop_base.specs.declared.answers.Rate.TheVariants.{R500, R250}
 use Rattle.flop_base.specs.declared.answers.Code.{Code}
 use Rattle.flop_base.specs.declared.answers.Code.TheVariants.{BadRequest, NoMark, Protected, NotFound, Changed, Overrun, Page, BadCrc, Seek}
 use Rattle.track_model.specs.Fields.{content_size}
-use Rattle.flop_base.specs.Counters.{IsDriven, LastsUpTo}
+use Rattle.flop_base.specs.Counters.{IsDriven, CostsUpTo}
 use Rattle.flop_base.specs.Memory.{user_bytes}
 use Rattle.sector_model.specs.Stations.{StationState, Stays, bay_of}
 
@@ -79,12 +79,13 @@ rate_refusal station bay =
     if not (is_bay bay) then Some BadRequest
     else (if not (is_acknowledged station bay) then Some Changed else None)
 
--- a call that ended with such a refusal: nothing changed, and no data command was sent
+-- a call that ended with such a refusal: nothing changed, and no data command was sent. At most the change line was
+-- looked at, and it was asked whether the medium is protected
 pub record IsRefusedAtOnce {A : Type 0} (code : Code) (old : StationState) (answer : Result A Code) (new : StationState) : Type 0 where
   pub refused : answer ≡ Err code
   pub stays : Stays old new
   pub idle : IsDriven 0 old.counters new.counters
-  pub no_steps : LastsUpTo 0 old.counters new.counters
+  pub costs : CostsUpTo 0 6 old.counters new.counters
 
 -- a refusal that comes from the drive
 abbrev pub IsDeviceRefusal : Code → Type 0

@@ -9,12 +9,12 @@ use Rattle.track_model.specs.Fields.{IsAddressAt, IsDataMark, IsWhole, content_s
 use Rattle.track_model.specs.Looks.{HasAddressMark}
 use Rattle.track_model.specs.Sectors.{IsSector, IsLone}
 use Rattle.flop_base.specs.Counts.{RoseBy}
-use Rattle.flop_base.specs.Counters.{IsFaultless, IsUndisturbed, DisturbedLess, FaultsRoseBy, IsDriven, LastsUpTo}
+use Rattle.flop_base.specs.Counters.{IsFaultless, IsUndisturbed, DisturbedLess, FaultsRoseBy, IsDriven, CostsUpTo}
 use Rattle.flop_base.specs.Lists.{with_items}
 use Rattle.flop_base.specs.Memory.{SameOutside}
 use Rattle.sector_map.specs.Met.{HasNoClearMark, HasClearAddress, HasLook, AllFound}
 use Rattle.sector_model.specs.Stations.{StationState, Becomes, bay_of, met, IsSteady}
-use Rattle.sector_model.specs.Lasting.{read_time}
+use Rattle.sector_model.specs.Lasting.{read_port_accesses, read_time}
 use Rattle.sector_model.specs.Orders.{read_refusal, IsRefusedAtOnce, IsDeviceRefusal}
 
 -- with `tries` attempts, all is well in one of them if faults and stalls rose by less than this number
@@ -68,7 +68,7 @@ pub record ReadsDrive (bay : ℕ) (key : Chrn) (address : ℕ) (old : StationSta
   pub found : IfOk answer (λ deleted. IsRead bay key address old deleted new)
   pub refused : IfErr answer (λ code. IsReadRefused bay key address old code new)
   pub driven : IsDriven old.tries old.counters new.counters
-  pub lasts : LastsUpTo (read_time old bay) old.counters new.counters
+  pub costs : CostsUpTo (read_time old bay) (read_port_accesses old) old.counters new.counters
 
 -- the step of a read; the answer says whether the field is marked deleted
 abbrev pub Reads : ℕ → Chrn → ℕ → StationState → Result Bool Code → StationState → Type 0

@@ -40,7 +40,7 @@ has_refusal (taken ∷ later) = is_refusal taken.answer || has_refusal later
 -- a bay without a medium at the end of a run
 pub record IsLeft (bay : ℕ) (old : State) (told : Option Files) (new : State) (told_after : Option Files) : Type 0 where
   pub empty : is_loaded old bay ≡ false
-  pub same : IsSame old new
+  pub same : IsSame 0 old new
   pub files : told_after ≡ told
 
 -- the end of a bay: its medium is stored, if one is in

@@ -2,7 +2,7 @@
 use Rattle.std.specs.Prelude.{◌≡◌, ℕ, List, Option, None, is_some}
 use Rattle.raw_image.specs.Disk.{Disk}
 use Rattle.flop_base.specs.Bays.{Two, both, with_bay}
-use Rattle.flop_base.specs.Counters.{GoesOn, IsPastDriver}
+use Rattle.flop_base.specs.Counters.{CostsUpTo, GoesOn, IsDriven}
 use Rattle.sector_model.specs.Stations.{StationState, Stays}
 use Rattle.sector_model.specs.Calls.{Exchanges}
 
@@ -21,11 +21,13 @@ pub record IsNamed (state : State) : Type 0 where
   pub first : is_some state.names.first ≡ is_some state.station.bays.first.medium
   pub second : is_some state.names.second ≡ is_some state.station.bays.second.medium
 
--- nothing of the state changed, no data command was sent, and nothing was accessed past the driver
-pub record IsSame (old new : State) : Type 0 where
+-- nothing of the state changed, no data command was sent, and nothing was accessed past the driver. No device step passed,
+-- and at most `accesses` port accesses were made
+pub record IsSame (accesses : ℕ) (old new : State) : Type 0 where
   pub names : new.names ≡ old.names
   pub stays : Stays old.station new.station
-  pub idle : IsPastDriver 0 old.station.counters new.station.counters
+  pub idle : IsDriven 0 old.station.counters new.station.counters
+  pub costs : CostsUpTo 0 accesses old.station.counters new.station.counters
   pub counts : GoesOn old.station.counters new.station.counters
 
 -- a bay has this medium under this name from now on, or no medium. The bay is unacknowledged

@@ -22,6 +22,7 @@ use Rattle.flop_base.specs.Counters.{GoesOn, IsPastDriver}
 use Rattle.flop_base.specs.Lists.{with_items}
 use Rattle.flop_base.specs.Memory.{user_bytes, bytes_from}
 use Rattle.sector_model.specs.Stations.{Becomes, bay_of}
+use Rattle.sector_model.specs.Lasting.{dump_port_accesses}
 use Rattle.sector_model.specs.Orders.{is_bay}
 use Rattle.sector_model.specs.Reads.{Reads}
 use Rattle.sector_model.specs.Writes.{WritesTo}
@@ -146,7 +147,7 @@ Does (request.Format bay c h) old told answer new told_after =
 Does (request.Fill address count byte) old told answer new told_after =
     (answer ≡ reply.Done) × (told_after ≡ told) × Fills address count byte old new
 Does (request.Dump address count) old told answer new told_after =
-    (answer ≡ reply.Bytes address (bytes_from old.station.memory address count)) × (told_after ≡ told) × IsSame old new
+    (answer ≡ reply.Bytes address (bytes_from old.station.memory address count)) × (told_after ≡ told) × IsSame (dump_port_accesses count) old new
 Does (request.Unit bay) old told answer new told_after =
     (answer ≡ reply.Done) × (told_after ≡ told) × (new.names ≡ old.names) × IsExchanged bay old.station new.station
 Does (request.SetRate bay rate) old told answer new told_after =
@@ -158,7 +159,7 @@ Does (request.Tries tries) old told answer new told_after =
 -- a request that the session refused
 pub record IsRefused (cause : Reason) (old : State) (told : Option Files) (answer : Reply) (new : State) (told_after : Option Files) : Type 0 where
   pub answered : answer ≡ reply.Refused cause
-  pub same : IsSame old new
+  pub same : IsSame 0 old new
   pub files : told_after ≡ told
 
 -- the step of a request
@@ -208,7 +209,7 @@ StopCause told asked stop.NoMemory = takes_memory asked ≡ true
 -- the state after a stop: an eject dropped the medium, and all else is as it was
 abbrev pub AfterStop : Request → State → State → Type 0
 AfterStop (request.Eject bay) old new = ChangesMedium bay None None old new
-AfterStop _ old new = IsSame old new
+AfterStop _ old new = IsSame 0 old new
 
 -- a request that the session didn't refuse stopped the run
 pub record StopsAt (asked : Request) (old : State) (told : Option Files) (ended : Stop) (new : State) (told_after : Option Files) : Type 0 where

@@ -12,10 +12,10 @@ use Rattle.track_model.specs.Windows.{window_word, window_words, cut_of, IsCutta
 use Rattle.track_model.specs.Regular.{IsRegular}
 use Rattle.sector_map.specs.Disks.{IsRegularDisk, Entry, IsOnMap}
 use Rattle.flop_base.specs.Counts.{RoseBy}
-use Rattle.flop_base.specs.Counters.{IsFaultless, FaultsRoseLess, IsUndisturbed, DisturbedLess, FaultsRoseBy, IsDriven, LastsUpTo}
+use Rattle.flop_base.specs.Counters.{IsFaultless, FaultsRoseLess, IsUndisturbed, DisturbedLess, FaultsRoseBy, IsDriven, CostsUpTo}
 use Rattle.flop_base.specs.Memory.{bytes_from}
 use Rattle.sector_model.specs.Stations.{StationState, Becomes, bay_of, set_bay, met, IsSteady}
-use Rattle.sector_model.specs.Lasting.{write_time}
+use Rattle.sector_model.specs.Lasting.{write_port_accesses, write_time}
 use Rattle.sector_model.specs.Orders.{write_refusal, IsRefusedAtOnce, IsDeviceRefusal}
 use Rattle.sector_map.specs.Changes.{Change, Written, window_of, IsChange}
 use Rattle.sector_map.specs.ChangedDisks.{entry_of}
@@ -125,7 +125,7 @@ pub record WritesDrive (written : Written) (bay : ℕ) (old : StationState) (ans
   pub regular : (disk : Disk) → (bay_of old bay).medium ≡ Some disk → IsRegularDisk disk
       → KeepsRegular written bay disk old answer new
   pub driven : IsDriven (2 * old.tries) old.counters new.counters
-  pub lasts : LastsUpTo (write_time old bay) old.counters new.counters
+  pub costs : CostsUpTo (write_time old bay) (write_port_accesses old) old.counters new.counters
 
 -- what a write from this address writes
 abbrev pub written_from : StationState → Chrn → ℕ → Bool → Written

@@ -12,7 +12,7 @@ use Rattle.test_driver.specs.declared.bench.Bench.{Bench}
 abbrev pub faults_shown : Drive → DriveCounts
 faults_shown drive = record { faults = drive.faults; left = None }
 
--- no spare drives, nothing past the driver, and no device steps
+-- no spare drives, nothing past the driver, no device steps, and no gaps
 abbrev pub counters_of : Two Drive → Counts → Counters
 counters_of drives counts = record {
   drives = record { first = faults_shown drives.first; second = faults_shown drives.second };
@@ -23,6 +23,7 @@ counters_of drives counts = record {
   taken = counts.taken;
   direct = 0;
   clock = 0;
+  gaps = 0;
 }
 
 abbrev pub rig_of : Two Drive → List ℕ → List ℕ → Counts → Rig

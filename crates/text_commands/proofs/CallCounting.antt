@@ -50,11 +50,11 @@ at_once n old new code answer refused = record {
   put = omega (arith, refused.idle.past_driver);
 }
 
-same_counts : (old new : State) → IsSame old new → Counts 0 0 old.station new.station
+same_counts : {accesses : ℕ} (old new : State) → IsSame accesses old new → Counts 0 0 old.station new.station
 same_counts old new same = record {
   tries = ap (λ (s : StationState). s.tries) same.stays;
-  sent = omega (arith, same.idle.no_commands);
-  put = same.idle.accesses;
+  sent = omega (arith, same.idle.most_commands);
+  put = omega (arith, same.idle.past_driver);
 }
 
 read_counts : (old new : StationState) (bay : ℕ) (key : Chrn) (address : ℕ) (answer : Result Bool Code) → ReadsDrive bay key address old answer new → Counts old.tries 0 old new

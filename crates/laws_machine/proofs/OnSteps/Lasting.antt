@@ -11,13 +11,13 @@ use Rattle.laws_machine.proofs.OnSteps.Runs.{unset_runs}
 -- ---- gaps
 
 -- device steps use up no gap
-runs_gaps : (n : ℕ) (old new : Board) → Runs n old new → new.bus.gaps ≡ old.bus.gaps
+pub runs_gaps : (n : ℕ) (old new : Board) → Runs n old new → new.bus.gaps ≡ old.bus.gaps
 unfolding Runs
 runs_gaps zero old new same = ap (λ b. b.bus.gaps) same
 runs_gaps (suc n) old new (between, runs, step) = ap (λ bus. bus.gaps) step.bus ∙ runs_gaps n old between runs
 
 -- an access uses up the next gap
-gap_gaps : (between new : Board) → RunsGap between new → new.bus.gaps ≡ rest_of between.bus.gaps
+pub gap_gaps : (between new : Board) → RunsGap between new → new.bus.gaps ≡ rest_of between.bus.gaps
 gap_gaps between new gap = runs_gaps (next_entry between.bus.gaps) (regapped (rest_of between.bus.gaps) between.bus.fresh between) new gap.runs
 
 gap_used : (gaps : List ℕ) → next_entry gaps + gap_steps (rest_of gaps) ≡ gap_steps gaps

@@ -1,14 +1,15 @@
 // What follows of every course of calls: device steps, and whatever is done between them. The bodies are empty.
-ghost use Rattle.std.specs.Prelude.{◌≡◌, ◌≤◌, ◌+◌, ◌-◌, ℕ, Bool, false};
+ghost use Rattle.std.specs.Prelude.{◌≡◌, ◌≤◌, ◌+◌, ◌-◌, ℕ, Bool, false, true};
 ghost use Rattle.fdc_core.specs.Listening.{is_executing};
 ghost use Rattle.fdc_core.specs.Steps.{steps_left, IsCounted};
 ghost use Rattle.laws_machine.specs.OnSteps.Ends.{Counts, RunsNoSeek, IsOver, Meets, Recalibrates, pulses_left, seeks};
 ghost use Rattle.laws_machine.specs.OnSteps.Lasts.{Lasts, clock_of};
 ghost use Rattle.laws_machine.specs.OnSteps.Moves.{Goes};
 ghost use Rattle.laws_machine.specs.OnSteps.Steady.{Marching, Steady};
+ghost use Rattle.laws_machine.specs.OnSteps.Uses.{Uses};
 ghost use Rattle.irq_events.specs.Entries.{next_entry};
 ghost use Rattle.irq_events.specs.Holds.{AreShort};
-ghost use Rattle.pc_bus.specs.Boards.{Board, IsInRange, controller_of, holds_of};
+ghost use Rattle.pc_bus.specs.Boards.{Board, IsInRange, controller_of, holds_of, latch_of};
 ghost use Rattle.pc_bus.specs.Handling.{Touches, byte_set, irq_taken};
 ghost use Rattle.pc_bus.specs.Ports.{Inputs, Outputs};
 ghost use Rattle.pc_bus.specs.Steps.{Runs, RunsToIrq, Waits, stirred};
@@ -74,4 +75,21 @@ pub fn calls_last()
     ensures handle { (bay : ℕ) (old new : Board) → Touches bay old new → Lasts 0 old new }
     ensures twice { (n m : ℕ) (a b c : Board) → Lasts n a b → Lasts m b c → Lasts (n + m) a c }
     ensures clock { (most : ℕ) (old new : Board) → Lasts most old new → clock_of new ≤ clock_of old + most }
+{}
+
+/// A port access uses up at most one gap, and no other call of the machine uses up any. A look at a port that follows an
+/// interrupt is one of those that `Uses` allows for each interrupt. So if a course uses up at most `n` gaps, whatever
+/// gaps there are, it makes at most `n` port accesses, and one more for each interrupt that it takes.
+pub fn calls_use_few_gaps()
+    ensures wait { (n : ℕ) (old new : Board) → Runs n (stirred old) new → Uses 0 old new }
+    ensures wait_irq { (most : ℕ) (set : Bool) (old new : Board) → Waits most old set new → Uses 0 old new }
+    ensures run_to_irq { (most steps : ℕ) (old new : Board) → RunsToIrq most old steps new → Uses 0 old new }
+    ensures read { (port value : ℕ) (old new : Board) → Inputs port old value new → Uses 1 old new }
+    ensures write { (port value : ℕ) (old new : Board) → Outputs port value old new → Uses 1 old new }
+    ensures take_irq { (old : Board) → Uses 0 old (record old { bus = irq_taken old.bus }) }
+    ensures look { (port value : ℕ) (old new : Board) → (latch_of old).is_set ≡ true
+        → Inputs port (record old { bus = irq_taken old.bus }) value new → Uses 0 old new }
+    ensures set_byte { (address value : ℕ) (old : Board) → Uses 0 old (record old { bus = byte_set address value old.bus }) }
+    ensures handle { (bay : ℕ) (old new : Board) → Touches bay old new → Uses 0 old new }
+    ensures twice { (n m : ℕ) (a b c : Board) → Uses n a b → Uses m b c → Uses (n + m) a c }
 {}

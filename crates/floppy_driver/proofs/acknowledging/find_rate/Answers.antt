@@ -1,5 +1,5 @@
 use Rattle.std.proofs.Common.{◌≡◌, ℕ, ◌+◌, ◌*◌, arith, refl, subst, sym, ◌∙◌}
-use Rattle.floppy_driver.proofs.Lasting.{lasts_next, lasts_on, lasts_within}
+use Rattle.floppy_driver.proofs.Lasting.{costs_next, costs_on, costs_for}
 use Rattle.floppy_driver.proofs.Rounds.{HasFoundNone}
 use Rattle.floppy_driver.proofs.RateFound.{found_neither, found_no_rate}
 use Rattle.floppy_driver.proofs.acknowledging.find_rate.Goals as goal
@@ -11,40 +11,40 @@ loop-attempt-preserved g c = record {
       found_neither (g.C.Commands.rig c.args.machine.now) c.args.bay c.loop-attempt._attempt (g.C.Commands.rig c.loop-attempt.machine) c.loop-attempt.invariant.none c.read_id.result
       (g.C.Commands.rig c.read_id.new.self) c.read_id.ensures.step c.read_id-in-loop-attempt.result (g.C.Commands.rig c.read_id-in-loop-attempt.new.self) c.read_id-in-loop-attempt.ensures.step
       (sym c.is_ok-in-loop-attempt.ensures.value ∙ c.if-is_ok-2.false);
-  lasted =
+  cost =
       let before = g.C.Commands.rig c.args.machine.now in
       let middle = g.C.Commands.rig c.loop-attempt.machine in
       let first = g.C.Commands.rig c.read_id.new.self in
       let second = g.C.Commands.rig c.read_id-in-loop-attempt.new.self in
-      lasts_next c.args.bay 4 522 c.loop-attempt._attempt (c.loop-attempt._attempt + 1) before middle second refl c.loop-attempt.invariant.lasted
-      (lasts_on c.args.bay 2 2 261 261 middle first second c.read_id.ensures.lasts c.read_id-in-loop-attempt.ensures.lasts);
+      costs_next c.args.bay 4 522 24 c.loop-attempt._attempt (c.loop-attempt._attempt + 1) before middle second refl c.loop-attempt.invariant.cost
+      (costs_on c.args.bay 2 2 261 261 12 12 middle first second c.read_id.ensures.costs c.read_id-in-loop-attempt.ensures.costs);
 }
 
-pub returns-then-is_ok-clause-lasts : goal.returns-then-is_ok-clause-lasts
-returns-then-is_ok-clause-lasts g c =
+pub returns-then-is_ok-clause-costs : goal.returns-then-is_ok-clause-costs
+returns-then-is_ok-clause-costs g c =
     let before = g.C.Commands.rig c.args.machine.now in
     let middle = g.C.Commands.rig c.loop-attempt.machine in
     let first = g.C.Commands.rig c.read_id.new.self in
     let many = c.loop-attempt._attempt in
-    lasts_within c.args.bay (many * 4 + 2) 12 (many * 522 + 261) 1566 before first (omega arith) (omega arith)
-    (lasts_on c.args.bay (many * 4) 2 (many * 522) 261 before middle first c.loop-attempt.invariant.lasted c.read_id.ensures.lasts)
+    costs_for c.args.bay (many * 4 + 2) 12 (many * 522 + 261) 1566 (many * 24 + 12) 72 before first (omega arith) (omega arith) (omega arith)
+    (costs_on c.args.bay (many * 4) 2 (many * 522) 261 (many * 24) 12 before middle first c.loop-attempt.invariant.cost c.read_id.ensures.costs)
 
-pub returns-then-is_ok-2-clause-lasts : goal.returns-then-is_ok-2-clause-lasts
-returns-then-is_ok-2-clause-lasts g c =
+pub returns-then-is_ok-2-clause-costs : goal.returns-then-is_ok-2-clause-costs
+returns-then-is_ok-2-clause-costs g c =
     let before = g.C.Commands.rig c.args.machine.now in
     let middle = g.C.Commands.rig c.loop-attempt.machine in
     let first = g.C.Commands.rig c.read_id.new.self in
     let second = g.C.Commands.rig c.read_id-in-loop-attempt.new.self in
     let many = c.loop-attempt._attempt in
-    lasts_within c.args.bay (many * 4 + (2 + 2)) 12 (many * 522 + (261 + 261)) 1566 before second (omega arith) (omega arith)
-    (lasts_on c.args.bay (many * 4) (2 + 2) (many * 522) (261 + 261) before middle second c.loop-attempt.invariant.lasted
-    (lasts_on c.args.bay 2 2 261 261 middle first second c.read_id.ensures.lasts c.read_id-in-loop-attempt.ensures.lasts))
+    costs_for c.args.bay (many * 4 + (2 + 2)) 12 (many * 522 + (261 + 261)) 1566 (many * 24 + (12 + 12)) 72 before second (omega arith) (omega arith) (omega arith)
+    (costs_on c.args.bay (many * 4) (2 + 2) (many * 522) (261 + 261) (many * 24) (12 + 12) before middle second c.loop-attempt.invariant.cost
+    (costs_on c.args.bay 2 2 261 261 12 12 middle first second c.read_id.ensures.costs c.read_id-in-loop-attempt.ensures.costs))
 
-pub returns-clause-lasts : goal.returns-clause-lasts
-returns-clause-lasts g c =
+pub returns-clause-costs : goal.returns-clause-costs
+returns-clause-costs g c =
     let many = c.loop-attempt._attempt in
-    lasts_within c.args.bay (many * 4) 12 (many * 522) 1566 (g.C.Commands.rig c.args.machine.now) (g.C.Commands.rig c.loop-attempt.machine) (omega arith) (omega arith)
-    c.loop-attempt.invariant.lasted
+    costs_for c.args.bay (many * 4) 12 (many * 522) 1566 (many * 24) 72 (g.C.Commands.rig c.args.machine.now) (g.C.Commands.rig c.loop-attempt.machine) (omega arith) (omega arith) (omega arith)
+    c.loop-attempt.invariant.cost
 
 pub returns-clause-finds : goal.returns-clause-finds
 returns-clause-finds g c =

@@ -5,7 +5,7 @@ use Rattle.flop_base.specs.Standard.{sectors_at}
 use Rattle.floppy_driver.specs.Rigs.{track_under}
 use Rattle.sector_map.specs.Standard.{key_of}
 use Rattle.floppy_driver.specs.Formattings.{IsBlankUnder, HoldsRecord, HoldsRecords}
-use Rattle.floppy_driver.proofs.Lasting.{lasts_fewer, lasts_next}
+use Rattle.floppy_driver.proofs.Lasting.{costs_fewer, costs_next}
 use Rattle.floppy_driver.proofs.ReadBacks.{reads_failed, held_next, blank_next}
 use Rattle.floppy_driver.proofs.formatting.read_back_all.Goals as goal
 
@@ -29,19 +29,19 @@ returns-in_err-read_back_filled-clause-reads g c =
 
 pub loop-r-preserved : goal.loop-r-preserved
 loop-r-preserved g c =
-    let lasted =
-    lasts_next c.args.bay 2 261 (c.loop-r.r - 1) (c.loop-r.r + 1 - 1) (g.C.Commands.rig c.args.machine.now) (g.C.Commands.rig c.loop-r.machine)
-    (g.C.Commands.rig c.read_back_filled.new.machine) (omega arith) c.loop-r.invariant.lasted c.read_back_filled.ensures.lasts in
+    let cost =
+    costs_next c.args.bay 2 261 29 (c.loop-r.r - 1) (c.loop-r.r + 1 - 1) (g.C.Commands.rig c.args.machine.now) (g.C.Commands.rig c.loop-r.machine)
+    (g.C.Commands.rig c.read_back_filled.new.machine) (omega arith) c.loop-r.invariant.cost c.read_back_filled.ensures.costs in
     first_of (search rules, grind (arith, common_steps))
 
-pub returns-in_err-read_back_filled-clause-lasts : goal.returns-in_err-read_back_filled-clause-lasts
-returns-in_err-read_back_filled-clause-lasts g c =
+pub returns-in_err-read_back_filled-clause-costs : goal.returns-in_err-read_back_filled-clause-costs
+returns-in_err-read_back_filled-clause-costs g c =
     let before = g.C.Commands.rig c.args.machine.now in
     let after = g.C.Commands.rig c.read_back_filled.new.machine in
-    lasts_fewer c.args.bay 2 261 c.loop-r.r (sectors_at c.args.asked.rate) before after (omega arith)
-    (lasts_next c.args.bay 2 261 (c.loop-r.r - 1) c.loop-r.r before (g.C.Commands.rig c.loop-r.machine) after (omega arith) c.loop-r.invariant.lasted c.read_back_filled.ensures.lasts)
+    costs_fewer c.args.bay 2 261 29 c.loop-r.r (sectors_at c.args.asked.rate) before after (omega arith)
+    (costs_next c.args.bay 2 261 29 (c.loop-r.r - 1) c.loop-r.r before (g.C.Commands.rig c.loop-r.machine) after (omega arith) c.loop-r.invariant.cost c.read_back_filled.ensures.costs)
 
-pub returns-clause-lasts : goal.returns-clause-lasts
-returns-clause-lasts g c =
-    lasts_fewer c.args.bay 2 261 (c.loop-r.r - 1) (sectors_at c.args.asked.rate) (g.C.Commands.rig c.args.machine.now) (g.C.Commands.rig c.loop-r.machine) (omega arith)
-    c.loop-r.invariant.lasted
+pub returns-clause-costs : goal.returns-clause-costs
+returns-clause-costs g c =
+    costs_fewer c.args.bay 2 261 29 (c.loop-r.r - 1) (sectors_at c.args.asked.rate) (g.C.Commands.rig c.args.machine.now) (g.C.Commands.rig c.loop-r.machine) (omega arith)
+    c.loop-r.invariant.cost

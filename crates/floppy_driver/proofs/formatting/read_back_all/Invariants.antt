@@ -1,7 +1,7 @@
 use Rattle.std.proofs.Common.{◌≡◌, ◌-◌, ◌*◌, true, Ok}
 use Rattle.flop_base.specs.Standard.{sectors_at}
 use Rattle.flop_base.specs.Bays.{in_bay}
-use Rattle.floppy_driver.specs.Rigs.{IsSound, LastsFor, track_under}
+use Rattle.floppy_driver.specs.Rigs.{CostsFor, IsSound, track_under}
 use Rattle.floppy_driver.specs.Formattings.{IsBlankUnder, HoldsRecords, ReadsRecords}
 use Rattle.floppy_driver.proofs.formatting.read_back_all.Given as goal
 
@@ -14,5 +14,5 @@ invariant-loop-r g l = record {
       (HoldsRecords (track_under (g.C.Commands.rig l.initial.machine) l.bay l.asked.rate l.asked.h) l.asked.c l.asked.h (sectors_at l.asked.rate) l.asked.fill)
       (g.C.Commands.rig l.initial.machine)
       (Ok tt) (g.C.Commands.rig l.machine);
-  lasted : LastsFor l.bay ((l.r - 1) * 2) ((l.r - 1) * 261) (g.C.Commands.rig l.initial.machine) (g.C.Commands.rig l.machine);
+  cost : CostsFor l.bay ((l.r - 1) * 2) ((l.r - 1) * 261) ((l.r - 1) * 29) (g.C.Commands.rig l.initial.machine) (g.C.Commands.rig l.machine);
 }

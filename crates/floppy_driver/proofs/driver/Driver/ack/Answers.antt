@@ -2,27 +2,28 @@ use Rattle.std.proofs.Common.{◌≡◌, ℕ, ◌+◌, ◌*◌, arith, sym, ap, 
 use Rattle.floppy_driver.specs.declared.driver.Driver.{Driver}
 use Rattle.floppy_driver.specs.Shown.{notes_of, with_notes}
 use Rattle.floppy_driver.proofs.Rounds.{HasStayedSet}
-use Rattle.floppy_driver.proofs.Lasting.{lasts_on, lasts_within}
+use Rattle.floppy_driver.proofs.Lasting.{costs_on, costs_for}
 use Rattle.floppy_driver.proofs.Acked.{attached_unready, acks_unready, attached_acked, acks_done}
 use Rattle.floppy_driver.proofs.driver.Driver.ack.Goals as goal
 
-pub returns-then-not-is_changed-clause-lasts : goal.returns-then-not-is_changed-clause-lasts
-returns-then-not-is_changed-clause-lasts g c =
+pub returns-then-not-is_changed-clause-costs : goal.returns-then-not-is_changed-clause-costs
+returns-then-not-is_changed-clause-costs g c =
     let before = g.C.Commands.rig c.args.machine.now in
     let middle = g.C.Commands.rig c.loop-attempt.machine in
     let cleared = g.C.Commands.rig c.clear_change-reached.new.machine in
     let seen = g.C.Commands.rig c.is_changed.new.self in
     let held = g.C.Commands.rig c.hold.new.machine in
     let spent = 6250 + c.loop-attempt._attempt * 405 in
-    lasts_within c.args.bay 12 12 (spent + (405 + (0 + 1566))) 9031 before held (omega arith) (omega arith)
-    (lasts_on c.args.bay 0 12 spent (405 + (0 + 1566)) before middle held c.loop-attempt.invariant.lasted
-    (lasts_on c.args.bay 0 12 405 (0 + 1566) middle cleared held c.clear_change-reached.ensures.lasts
-    (lasts_on c.args.bay 0 12 0 1566 cleared seen held c.is_changed.ensures.lasts c.hold.ensures.lasts)))
+    let made = 1 + c.loop-attempt._attempt * 33 in
+    costs_for c.args.bay 12 12 (spent + (405 + (0 + 1566))) 9031 (made + (31 + (2 + 72))) 172 before held (omega arith) (omega arith) (omega arith)
+    (costs_on c.args.bay 0 12 spent (405 + (0 + 1566)) made (31 + (2 + 72)) before middle held c.loop-attempt.invariant.cost
+    (costs_on c.args.bay 0 12 405 (0 + 1566) 31 (2 + 72) middle cleared held c.clear_change-reached.ensures.costs
+    (costs_on c.args.bay 0 12 0 1566 2 72 cleared seen held c.is_changed.ensures.costs c.hold.ensures.costs)))
 
-pub returns-clause-lasts : goal.returns-clause-lasts
-returns-clause-lasts g c =
-    lasts_within c.args.bay 0 12 (6250 + c.loop-attempt._attempt * 405) 9031 (g.C.Commands.rig c.args.machine.now) (g.C.Commands.rig c.loop-attempt.machine) (omega arith) (omega arith)
-    c.loop-attempt.invariant.lasted
+pub returns-clause-costs : goal.returns-clause-costs
+returns-clause-costs g c =
+    costs_for c.args.bay 0 12 (6250 + c.loop-attempt._attempt * 405) 9031 (1 + c.loop-attempt._attempt * 33) 172 (g.C.Commands.rig c.args.machine.now) (g.C.Commands.rig c.loop-attempt.machine) (omega arith) (omega arith) (omega arith)
+    c.loop-attempt.invariant.cost
 
 pub returns-then-not-is_changed-clause-step : goal.returns-then-not-is_changed-clause-step
 returns-then-not-is_changed-clause-step g c =
@@ -30,7 +31,7 @@ returns-then-not-is_changed-clause-step g c =
     (c.hold.ensures.notes ∙ ap (λ (d : Driver). with_notes d c.args.bay (notes_of c.hold.new.self c.args.bay)) c.loop-attempt.invariant.same)
     c.requires.attached (g.C.Commands.rig c.loop-attempt.machine) c.loop-attempt.invariant.stayed c.clear_change-reached.result (g.C.Commands.rig c.clear_change-reached.new.machine) c.clear_change-reached.ensures.clears
     (g.C.Commands.rig c.is_changed.new.self) c.is_changed.ensures.asks (sym c.is_changed.ensures.line ∙ c.if-not-is_changed.true) c.is_changed.ensures.sound
-    (g.C.Commands.rig c.hold.new.machine) c.hold.ensures.held (returns-then-not-is_changed-clause-lasts g c)
+    (g.C.Commands.rig c.hold.new.machine) c.hold.ensures.held (returns-then-not-is_changed-clause-costs g c)
 
 pub returns-then-not-is_changed-clause-attached : goal.returns-then-not-is_changed-clause-attached
 returns-then-not-is_changed-clause-attached g c =
@@ -46,7 +47,7 @@ returns-clause-step g c = λ spares waiting.
     acks_unready c.args.self.now c.set_notes.new.self (g.C.Commands.rig c.args.machine.now) c.args.bay (g.C.Commands.rig c.loop-attempt.machine) c.new.result c.if-bay-gt1.false
     (c.set_notes.ensures ∙ ap (λ (d : Driver). with_notes d c.args.bay c.new.result) c.loop-attempt.invariant.same)
     c.new.ensures.gate c.new.ensures.known c.requires.attached
-    (subst (λ (n : ℕ). HasStayedSet c.args.bay n (g.C.Commands.rig c.args.machine.now) (g.C.Commands.rig c.loop-attempt.machine)) all c.loop-attempt.invariant.stayed) spares waiting (returns-clause-lasts g c)
+    (subst (λ (n : ℕ). HasStayedSet c.args.bay n (g.C.Commands.rig c.args.machine.now) (g.C.Commands.rig c.loop-attempt.machine)) all c.loop-attempt.invariant.stayed) spares waiting (returns-clause-costs g c)
 
 pub returns-clause-attached : goal.returns-clause-attached
 returns-clause-attached g c =

@@ -1,5 +1,5 @@
 use Rattle.std.proofs.Common.{◌≡◌, ◌+◌, ◌*◌}
-use Rattle.floppy_driver.specs.Rigs.{IsSound, LastsFor}
+use Rattle.floppy_driver.specs.Rigs.{CostsFor, IsSound}
 use Rattle.floppy_driver.proofs.Rounds.{HasStayedSet}
 use Rattle.floppy_driver.proofs.driver.Driver.ack.Given as goal
 
@@ -9,5 +9,5 @@ invariant-loop-attempt g l = record {
   idle : g.C.Commands.is_idle l.machine;
   sound : IsSound (g.C.Commands.rig l.machine);
   stayed : HasStayedSet l.bay l._attempt (g.C.Commands.rig l.fn.machine) (g.C.Commands.rig l.machine);
-  lasted : LastsFor l.bay 0 (6250 + l._attempt * 405) (g.C.Commands.rig l.fn.machine) (g.C.Commands.rig l.machine);
+  cost : CostsFor l.bay 0 (6250 + l._attempt * 405) (1 + l._attempt * 33) (g.C.Commands.rig l.fn.machine) (g.C.Commands.rig l.machine);
 }

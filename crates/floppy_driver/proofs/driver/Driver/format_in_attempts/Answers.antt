@@ -3,10 +3,10 @@ use Rattle.flop_base.specs.Bays.{in_bay}
 use Rattle.flop_base.proofs.Counted.{goes_on_itself, goes_on_after}
 use Rattle.sector_model.specs.Stations.{Bay}
 use Rattle.floppy_driver.specs.Shown.{shown}
-use Rattle.sector_model.specs.Lasting.{format_steps, format_turns}
+use Rattle.sector_model.specs.Lasting.{format_once_port_accesses, format_steps, format_turns}
 use Rattle.floppy_driver.specs.Formattings.{format_of}
 use Rattle.floppy_driver.proofs.Shows.{bay_shown_at}
-use Rattle.floppy_driver.proofs.Lasting.{lasts_any, lasts_fewer, lasts_next}
+use Rattle.floppy_driver.proofs.Lasting.{costs_any, costs_fewer, costs_next}
 use Rattle.floppy_driver.proofs.FormatTries.{formats_none, formats_more, formats_done, medium_twice, medium_itself}
 use Rattle.floppy_driver.proofs.driver.Driver.format_in_attempts.Goals as goal
 
@@ -20,7 +20,7 @@ loop-init g c =
       can = c.requires.can;
       tries = refl;
       counts = goes_on_itself rig.counters;
-      lasted = lasts_any c.args.bay _ _ rig;
+      cost = costs_any c.args.bay _ _ _ rig;
       formats = formats_none (format_of c.args.asked) c.args.bay _ medium rig.counters;
       medium = λ spares waiting. medium_itself (shown driver rig spares waiting) c.args.bay medium (ap (λ (b : Bay). b.medium) (bay_shown_at driver rig spares waiting c.args.bay));
     }
@@ -57,8 +57,8 @@ loop-preserved g c =
       can = done.can;
       tries = done.tries ∙ so_far.tries;
       counts = goes_on_after old.counters middle.counters new.counters so_far.counts done.counts;
-      lasted =
-          lasts_next bay (format_turns c.args.asked.rate) (format_steps c.args.asked.rate) c.loop.counter (c.loop.counter + 1) old middle new refl so_far.lasted done.lasts;
+      cost =
+          costs_next bay (format_turns c.args.asked.rate) (format_steps c.args.asked.rate) (format_once_port_accesses c.args.asked.rate) c.loop.counter (c.loop.counter + 1) old middle new refl so_far.cost done.costs;
       formats =
           formats_more c.loop.counter (format_of c.args.asked) bay c.loop.last (Err c.in-Err.code) (in_bay old.media bay) (in_bay middle.media bay) (in_bay new.media bay)
           old.counters middle.counters new.counters so_far.counts done.counts so_far.formats c.in-Err.ensures.formats;
@@ -67,16 +67,22 @@ loop-preserved g c =
           (in_bay middle.media bay) (in_bay new.media bay) (so_far.medium spares waiting) (done.medium spares waiting);
     }
 
-pub returns-in-Ok-clause-lasts : goal.returns-in-Ok-clause-lasts
-returns-in-Ok-clause-lasts g c =
+pub returns-in-Ok-clause-costs : goal.returns-in-Ok-clause-costs
+returns-in-Ok-clause-costs g c =
     let old = g.C.Commands.rig c.args.machine.now in
     let new = g.C.Commands.rig c.format_once.new.machine in
     let turns = format_turns c.args.asked.rate in
     let steps = format_steps c.args.asked.rate in
-    lasts_fewer c.args.bay turns steps (c.loop.counter + 1) c.args.self.now.tries old new (omega arith)
-    (lasts_next c.args.bay turns steps c.loop.counter (c.loop.counter + 1) old (g.C.Commands.rig c.loop.machine) new refl c.loop.invariant.lasted c.format_once.ensures.lasts)
+    let accesses = format_once_port_accesses c.args.asked.rate in
+    costs_fewer c.args.bay turns steps accesses (c.loop.counter + 1) c.args.self.now.tries old new (omega arith)
+    (costs_next c.args.bay turns steps accesses c.loop.counter (c.loop.counter + 1) old (g.C.Commands.rig c.loop.machine) new refl c.loop.invariant.cost c.format_once.ensures.costs)
 
-pub returns-clause-lasts : goal.returns-clause-lasts
-returns-clause-lasts g c =
-    lasts_fewer c.args.bay (format_turns c.args.asked.rate) (format_steps c.args.asked.rate) c.loop.counter c.args.self.now.tries (g.C.Commands.rig c.args.machine.now)
-    (g.C.Commands.rig c.loop.machine) (omega arith) c.loop.invariant.lasted
+pub returns-clause-costs : goal.returns-clause-costs
+returns-clause-costs g c =
+    costs_fewer c.args.bay (format_turns c.args.asked.rate) (format_steps c.args.asked.rate) (format_once_port_accesses c.args.asked.rate) c.loop.counter c.args.self.now.tries (g.C.Commands.rig c.args.machine.now)
+    (g.C.Commands.rig c.loop.machine) (omega arith) c.loop.invariant.cost
+
+pub returns-in-Ok-clause-counts : goal.returns-in-Ok-clause-counts
+returns-in-Ok-clause-counts g c =
+    goes_on_after (g.C.Commands.rig c.args.machine.now).counters (g.C.Commands.rig c.loop.machine).counters (g.C.Commands.rig c.format_once.new.machine).counters
+    c.loop.invariant.counts c.format_once.ensures.counts

@@ -1,10 +1,10 @@
 use Rattle.std.proofs.Common.{◌≡◌, ℕ, ◌*◌, List, Err}
 use Rattle.flop_base.specs.Bays.{in_bay}
 use Rattle.flop_base.specs.Counters.{DriveCounts, GoesOn}
-use Rattle.floppy_driver.specs.Rigs.{LastsFor}
+use Rattle.floppy_driver.specs.Rigs.{CostsFor}
 use Rattle.floppy_driver.specs.Shown.{shown}
 use Rattle.floppy_driver.specs.Writings.{CanWrite}
-use Rattle.sector_model.specs.Lasting.{format_steps, format_turns}
+use Rattle.sector_model.specs.Lasting.{format_once_port_accesses, format_steps, format_turns}
 use Rattle.floppy_driver.specs.Formattings.{format_of, FormatsIn, HasOnlyMedium}
 use Rattle.floppy_driver.proofs.driver.Driver.format_in_attempts.Given as goal
 
@@ -14,7 +14,7 @@ invariant-loop g l = record {
   can : CanWrite l.self (g.C.Commands.rig l.machine) l.bay;
   tries : l.self.tries ≡ l.initial.self.tries;
   counts : GoesOn (g.C.Commands.rig l.initial.machine).counters (g.C.Commands.rig l.machine).counters;
-  lasted : LastsFor l.bay (l.counter * format_turns l.asked.rate) (l.counter * format_steps l.asked.rate)
+  cost : CostsFor l.bay (l.counter * format_turns l.asked.rate) (l.counter * format_steps l.asked.rate) (l.counter * format_once_port_accesses l.asked.rate)
       (g.C.Commands.rig l.initial.machine) (g.C.Commands.rig l.machine);
   formats : FormatsIn l.counter (format_of l.asked) l.bay (in_bay (g.C.Commands.rig l.initial.machine).media l.bay)
       (in_bay (g.C.Commands.rig l.machine).media l.bay) (g.C.Commands.rig l.initial.machine).counters

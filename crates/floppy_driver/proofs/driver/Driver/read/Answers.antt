@@ -1,8 +1,8 @@
-use Rattle.std.proofs.Common.{sym, ap, ◌∙◌}
+use Rattle.std.proofs.Common.{sym, ap, ◌∙◌, arith}
 use Rattle.sector_model.specs.Orders.{crosses_page}
 use Rattle.floppy_driver.specs.Shown.{shown}
 use Rattle.floppy_driver.proofs.Shows.{acknowledged_held, asks_shown}
-use Rattle.floppy_driver.proofs.Lasting.{no_steps}
+use Rattle.floppy_driver.proofs.Lasting.{question_costs}
 use Rattle.floppy_driver.proofs.Asking.{refused_asking}
 use Rattle.floppy_driver.proofs.ReadStep.{reads_refused, reads_drive}
 use Rattle.floppy_driver.proofs.driver.Driver.read.Goals as goal
@@ -16,7 +16,7 @@ returns-then-not-is_held-clause-step g c = λ spares waiting.
     (sym c.is_sector_request.ensures.value ∙ c.if-not-is_sector_request.false)
     (ap (crosses_page c.args.address) (sym c.sector_size.ensures.size) ∙ sym c.crosses_page.ensures ∙ c.if-crosses_page.false)
     (acknowledged_held c.args.self.now (g.C.Commands.rig c.args.machine.now) spares waiting c.args.bay ∙ sym c.is_held.ensures.held ∙ c.if-not-is_held.true)
-    (refused_asking before _ after asked (no_steps c.args.bay (g.C.Commands.rig c.args.machine.now) (g.C.Commands.rig c.is_held.new.machine) c.is_held.ensures.lasts))
+    (refused_asking before _ after asked (question_costs c.args.bay 2 (g.C.Commands.rig c.args.machine.now) (g.C.Commands.rig c.is_held.new.machine) (omega arith) c.is_held.ensures.costs))
 
 pub returns-clause-step : goal.returns-clause-step
 returns-clause-step g c = λ spares waiting.
@@ -27,4 +27,4 @@ returns-clause-step g c = λ spares waiting.
     (sym c.is_sector_request.ensures.value ∙ c.if-not-is_sector_request.false)
     (ap (crosses_page c.args.address) (sym c.sector_size.ensures.size) ∙ sym c.crosses_page.ensures ∙ c.if-crosses_page.false)
     (acknowledged_held c.args.self.now (g.C.Commands.rig c.args.machine.now) spares waiting c.args.bay ∙ sym c.is_held.ensures.held ∙ c.if-not-is_held.false)
-    (c.read_in_attempts.ensures.step before spares waiting asked (no_steps c.args.bay (g.C.Commands.rig c.args.machine.now) (g.C.Commands.rig c.is_held.new.machine) c.is_held.ensures.lasts))
+    (c.read_in_attempts.ensures.step before spares waiting asked (question_costs c.args.bay 2 (g.C.Commands.rig c.args.machine.now) (g.C.Commands.rig c.is_held.new.machine) (omega arith) c.is_held.ensures.costs))

@@ -3,7 +3,7 @@ use Rattle.flop_base.proofs.Counted.{goes_on_after, goes_on_itself}
 use Rattle.sector_model.specs.Stations.{StationState}
 use Rattle.floppy_driver.specs.Shown.{shown}
 use Rattle.floppy_driver.specs.Attempts.{IsSure}
-use Rattle.floppy_driver.proofs.Lasting.{lasts_any, lasts_asked, lasts_fewer, lasts_next}
+use Rattle.floppy_driver.proofs.Lasting.{costs_any, costs_asked, costs_fewer, costs_next}
 use Rattle.floppy_driver.proofs.ReadTries.{tried_none, tried_next, done_at, failed_all}
 use Rattle.floppy_driver.proofs.driver.Driver.read_in_attempts.Goals as goal
 
@@ -13,7 +13,7 @@ loop-attempt-init g c = record {
   ready = c.requires.ready;
   tries = refl;
   counts = goes_on_itself (g.C.Commands.rig c.args.machine.now).counters;
-  lasted = lasts_any c.args.bay _ _ (g.C.Commands.rig c.args.machine.now);
+  cost = costs_any c.args.bay _ _ _ (g.C.Commands.rig c.args.machine.now);
   tried = λ start spares waiting asked. tried_none start c.args.bay c.args.key c.args.address _ (shown c.args.self.now (g.C.Commands.rig c.args.machine.now) spares waiting) asked;
 }
 
@@ -25,9 +25,9 @@ loop-attempt-preserved g c = record {
   counts =
       goes_on_after (g.C.Commands.rig c.args.machine.now).counters (g.C.Commands.rig c.loop-attempt.machine).counters (g.C.Commands.rig c.read_once.new.machine).counters
       c.loop-attempt.invariant.counts c.in-Err.ensures.counts;
-  lasted =
-      lasts_next c.args.bay 2 504 (c.loop-attempt.attempt - 1) (c.loop-attempt.attempt + 1 - 1) (g.C.Commands.rig c.args.machine.now) (g.C.Commands.rig c.loop-attempt.machine)
-      (g.C.Commands.rig c.read_once.new.machine) (omega arith) c.loop-attempt.invariant.lasted c.read_once.ensures.lasts;
+  cost =
+      costs_next c.args.bay 2 504 48 (c.loop-attempt.attempt - 1) (c.loop-attempt.attempt + 1 - 1) (g.C.Commands.rig c.args.machine.now) (g.C.Commands.rig c.loop-attempt.machine)
+      (g.C.Commands.rig c.read_once.new.machine) (omega arith) c.loop-attempt.invariant.cost c.read_once.ensures.costs;
   tried = λ start spares waiting asked.
       tried_next start c.args.bay c.args.key c.args.address c.loop-attempt.attempt c.loop-attempt.self.tries c.loop-attempt.last c.in-Err.code
       (shown c.loop-attempt.self (g.C.Commands.rig c.loop-attempt.machine) spares waiting) (shown c.read_once.new.self (g.C.Commands.rig c.read_once.new.machine) spares waiting)
@@ -35,18 +35,18 @@ loop-attempt-preserved g c = record {
       (c.loop-attempt.invariant.tried start spares waiting asked) (c.in-Err.ensures.step spares waiting);
 }
 
-pub returns-in-Ok-clause-lasts : goal.returns-in-Ok-clause-lasts
-returns-in-Ok-clause-lasts g c =
+pub returns-in-Ok-clause-costs : goal.returns-in-Ok-clause-costs
+returns-in-Ok-clause-costs g c =
     let before = g.C.Commands.rig c.args.machine.now in
     let after = g.C.Commands.rig c.read_once.new.machine in
-    lasts_fewer c.args.bay 2 504 c.loop-attempt.attempt c.args.self.now.tries before after (omega arith)
-    (lasts_next c.args.bay 2 504 (c.loop-attempt.attempt - 1) c.loop-attempt.attempt before (g.C.Commands.rig c.loop-attempt.machine) after (omega arith)
-    c.loop-attempt.invariant.lasted c.read_once.ensures.lasts)
+    costs_fewer c.args.bay 2 504 48 c.loop-attempt.attempt c.args.self.now.tries before after (omega arith)
+    (costs_next c.args.bay 2 504 48 (c.loop-attempt.attempt - 1) c.loop-attempt.attempt before (g.C.Commands.rig c.loop-attempt.machine) after (omega arith)
+    c.loop-attempt.invariant.cost c.read_once.ensures.costs)
 
-pub returns-clause-lasts : goal.returns-clause-lasts
-returns-clause-lasts g c =
-    lasts_fewer c.args.bay 2 504 (c.loop-attempt.attempt - 1) c.args.self.now.tries (g.C.Commands.rig c.args.machine.now) (g.C.Commands.rig c.loop-attempt.machine) (omega arith)
-    c.loop-attempt.invariant.lasted
+pub returns-clause-costs : goal.returns-clause-costs
+returns-clause-costs g c =
+    costs_fewer c.args.bay 2 504 48 (c.loop-attempt.attempt - 1) c.args.self.now.tries (g.C.Commands.rig c.args.machine.now) (g.C.Commands.rig c.loop-attempt.machine) (omega arith)
+    c.loop-attempt.invariant.cost
 
 pub returns-in-Ok-clause-step : goal.returns-in-Ok-clause-step
 returns-in-Ok-clause-step g c = λ start spares waiting asked none.
@@ -54,7 +54,7 @@ returns-in-Ok-clause-step g c = λ start spares waiting asked none.
     (shown c.loop-attempt.self (g.C.Commands.rig c.loop-attempt.machine) spares waiting) (shown c.read_once.new.self (g.C.Commands.rig c.read_once.new.machine) spares waiting)
     (omega arith) (omega arith) (c.loop-attempt.invariant.tries ∙ ap (λ (s : StationState). s.tries) asked.stays)
     (c.loop-attempt.invariant.tried start spares waiting asked) (c.in-Ok.ensures.step spares waiting)
-    (lasts_asked start c.args.self.now (g.C.Commands.rig c.args.machine.now) (g.C.Commands.rig c.read_once.new.machine) spares waiting c.args.bay 2 504 asked none (returns-in-Ok-clause-lasts g c))
+    (costs_asked start c.args.self.now (g.C.Commands.rig c.args.machine.now) (g.C.Commands.rig c.read_once.new.machine) spares waiting c.args.bay 2 504 48 asked none (returns-in-Ok-clause-costs g c))
 
 pub returns-clause-step : goal.returns-clause-step
 returns-clause-step g c = λ start spares waiting asked none.
@@ -62,4 +62,4 @@ returns-clause-step g c = λ start spares waiting asked none.
     (shown c.loop-attempt.self (g.C.Commands.rig c.loop-attempt.machine) spares waiting)
     (omega arith) c.args.self.now.some_tries (ap (λ (s : StationState). s.tries) asked.stays)
     (c.loop-attempt.invariant.tried start spares waiting asked)
-    (lasts_asked start c.args.self.now (g.C.Commands.rig c.args.machine.now) (g.C.Commands.rig c.loop-attempt.machine) spares waiting c.args.bay 2 504 asked none (returns-clause-lasts g c))
+    (costs_asked start c.args.self.now (g.C.Commands.rig c.args.machine.now) (g.C.Commands.rig c.loop-attempt.machine) spares waiting c.args.bay 2 504 48 asked none (returns-clause-costs g c))

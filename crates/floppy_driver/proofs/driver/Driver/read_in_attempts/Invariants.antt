@@ -1,7 +1,7 @@
 use Rattle.std.proofs.Common.{◌≡◌, ℕ, ◌-◌, ◌*◌, List}
 use Rattle.flop_base.specs.Counters.{DriveCounts, GoesOn}
 use Rattle.sector_model.specs.Stations.{StationState}
-use Rattle.floppy_driver.specs.Rigs.{LastsFor}
+use Rattle.floppy_driver.specs.Rigs.{CostsFor}
 use Rattle.floppy_driver.specs.Shown.{shown, HasAsked}
 use Rattle.floppy_driver.specs.Attempts.{CanTry}
 use Rattle.floppy_driver.proofs.TriedReads.{HasTriedRead}
@@ -13,6 +13,6 @@ invariant-loop-attempt g l = record {
   ready : CanTry l.self (g.C.Commands.rig l.machine) l.bay;
   tries : l.self.tries ≡ l.initial.self.tries;
   counts : GoesOn (g.C.Commands.rig l.initial.machine).counters (g.C.Commands.rig l.machine).counters;
-  lasted : LastsFor l.bay ((l.attempt - 1) * 2) ((l.attempt - 1) * 504) (g.C.Commands.rig l.initial.machine) (g.C.Commands.rig l.machine);
+  cost : CostsFor l.bay ((l.attempt - 1) * 2) ((l.attempt - 1) * 504) ((l.attempt - 1) * 48) (g.C.Commands.rig l.initial.machine) (g.C.Commands.rig l.machine);
   tried : (start : StationState) (spares : ℕ) (waiting : List DriveCounts) → HasAsked start (shown l.initial.self (g.C.Commands.rig l.initial.machine) spares waiting) → HasTriedRead l.bay l.key l.address (l.attempt - 1) start l.last (shown l.self (g.C.Commands.rig l.machine) spares waiting);
 }

@@ -1,8 +1,8 @@
-use Rattle.std.proofs.Common.{refl, sym, ap, ◌∙◌}
+use Rattle.std.proofs.Common.{refl, sym, ap, ◌∙◌, arith}
 use Rattle.sector_model.specs.Orders.{crosses_page}
 use Rattle.floppy_driver.specs.Shown.{shown}
 use Rattle.floppy_driver.proofs.Shows.{acknowledged_held, asks_shown}
-use Rattle.floppy_driver.proofs.Lasting.{no_steps, no_steps_on}
+use Rattle.floppy_driver.proofs.Lasting.{question_costs, questions_cost}
 use Rattle.floppy_driver.proofs.Asking.{refused_asking}
 use Rattle.floppy_driver.proofs.WriteStep.{asked_twice, protection_shown, can_write_asked, writes_refused, writes_protected, writes_drive}
 use Rattle.floppy_driver.proofs.driver.Driver.write.Goals as goal
@@ -16,7 +16,7 @@ returns-then-not-is_held-clause-step g c = λ spares waiting.
     (sym c.is_sector_request.ensures.value ∙ c.if-not-is_sector_request.false)
     (ap (crosses_page c.args.address) (sym c.sector_size.ensures.size) ∙ sym c.crosses_page.ensures ∙ c.if-crosses_page.false)
     (acknowledged_held c.args.self.now (g.C.Commands.rig c.args.machine.now) spares waiting c.args.bay ∙ sym c.is_held.ensures.held ∙ c.if-not-is_held.true)
-    (refused_asking before _ after asked (no_steps c.args.bay (g.C.Commands.rig c.args.machine.now) (g.C.Commands.rig c.is_held.new.machine) c.is_held.ensures.lasts))
+    (refused_asking before _ after asked (question_costs c.args.bay 2 (g.C.Commands.rig c.args.machine.now) (g.C.Commands.rig c.is_held.new.machine) (omega arith) c.is_held.ensures.costs))
 
 pub returns-then-is_protected-clause-step : goal.returns-then-is_protected-clause-step
 returns-then-is_protected-clause-step g c = λ spares waiting.
@@ -33,7 +33,7 @@ returns-then-is_protected-clause-step g c = λ spares waiting.
     (acknowledged_held c.args.self.now (g.C.Commands.rig c.args.machine.now) spares waiting c.args.bay ∙ sym c.is_held.ensures.held ∙ c.if-not-is_held.false)
     (protection_shown c.args.self.now (g.C.Commands.rig c.args.machine.now) spares waiting c.args.bay rig c.is_held.ensures.asks ∙ sym c.is_protected.ensures.line ∙ c.if-is_protected.true)
     (refused_asking before _ after (asked_twice before middle after first second)
-    (no_steps_on before.counters middle.counters after.counters (no_steps c.args.bay (g.C.Commands.rig c.args.machine.now) (g.C.Commands.rig c.is_held.new.machine) c.is_held.ensures.lasts) (no_steps c.args.bay rig later c.is_protected.ensures.lasts)))
+    (questions_cost c.args.bay (g.C.Commands.rig c.args.machine.now) rig later c.is_held.ensures.costs c.is_protected.ensures.costs))
 
 pub write_in_attempts-requires-clause-ready : goal.write_in_attempts-requires-clause-ready
 write_in_attempts-requires-clause-ready g c =
@@ -56,4 +56,4 @@ returns-clause-step g c = λ spares waiting.
     (acknowledged_held c.args.self.now (g.C.Commands.rig c.args.machine.now) spares waiting c.args.bay ∙ sym c.is_held.ensures.held ∙ c.if-not-is_held.false)
     (protection_shown c.args.self.now (g.C.Commands.rig c.args.machine.now) spares waiting c.args.bay rig c.is_held.ensures.asks ∙ sym c.is_protected.ensures.line ∙ c.if-is_protected.false)
     (c.write_in_attempts.ensures.step before spares waiting (asked_twice before middle asked first second)
-    (no_steps_on before.counters middle.counters asked.counters (no_steps c.args.bay (g.C.Commands.rig c.args.machine.now) (g.C.Commands.rig c.is_held.new.machine) c.is_held.ensures.lasts) (no_steps c.args.bay rig later c.is_protected.ensures.lasts)))
+    (questions_cost c.args.bay (g.C.Commands.rig c.args.machine.now) rig later c.is_held.ensures.costs c.is_protected.ensures.costs))

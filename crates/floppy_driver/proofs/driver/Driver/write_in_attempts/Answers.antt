@@ -1,42 +1,42 @@
 use Rattle.std.proofs.Common.{◌+◌, ◌-◌, arith}
-use Rattle.floppy_driver.proofs.Lasting.{lasts_any, lasts_asked, lasts_fewer, lasts_next}
+use Rattle.floppy_driver.proofs.Lasting.{costs_any, costs_asked, costs_fewer, costs_next}
 use Rattle.floppy_driver.proofs.WriteLoops.{between_none, between_done, between_more, between_all}
 use Rattle.floppy_driver.proofs.driver.Driver.write_in_attempts.Goals as goal
 
 pub loop-attempt-init : goal.loop-attempt-init
 loop-attempt-init g c =
-    (c.requires.idle, between_none _ _ _ _ _ _ _ c.requires.ready c.requires.asked, lasts_any c.args.bay _ _ (g.C.Commands.rig c.args.machine.now))
+    (c.requires.idle, between_none _ _ _ _ _ _ _ c.requires.ready c.requires.asked, costs_any c.args.bay _ _ _ (g.C.Commands.rig c.args.machine.now))
 
-pub returns-in-Ok-clause-lasts : goal.returns-in-Ok-clause-lasts
-returns-in-Ok-clause-lasts g c =
+pub returns-in-Ok-clause-costs : goal.returns-in-Ok-clause-costs
+returns-in-Ok-clause-costs g c =
     let before = g.C.Commands.rig c.args.machine.now in
     let after = g.C.Commands.rig c.write_once.new.machine in
-    lasts_fewer c.args.bay 4 765 c.loop-attempt.attempt c.args.self.now.tries before after (omega arith)
-    (lasts_next c.args.bay 4 765 (c.loop-attempt.attempt - 1) c.loop-attempt.attempt before (g.C.Commands.rig c.loop-attempt.machine) after (omega arith)
-    c.loop-attempt.invariant.2 c.write_once.ensures.lasts)
+    costs_fewer c.args.bay 4 765 77 c.loop-attempt.attempt c.args.self.now.tries before after (omega arith)
+    (costs_next c.args.bay 4 765 77 (c.loop-attempt.attempt - 1) c.loop-attempt.attempt before (g.C.Commands.rig c.loop-attempt.machine) after (omega arith)
+    c.loop-attempt.invariant.2 c.write_once.ensures.costs)
 
-pub returns-clause-lasts : goal.returns-clause-lasts
-returns-clause-lasts g c =
-    lasts_fewer c.args.bay 4 765 (c.loop-attempt.attempt - 1) c.args.self.now.tries (g.C.Commands.rig c.args.machine.now) (g.C.Commands.rig c.loop-attempt.machine) (omega arith)
+pub returns-clause-costs : goal.returns-clause-costs
+returns-clause-costs g c =
+    costs_fewer c.args.bay 4 765 77 (c.loop-attempt.attempt - 1) c.args.self.now.tries (g.C.Commands.rig c.args.machine.now) (g.C.Commands.rig c.loop-attempt.machine) (omega arith)
     c.loop-attempt.invariant.2
 
 pub returns-in-Ok-clause-step : goal.returns-in-Ok-clause-step
 returns-in-Ok-clause-step g c = λ start spares waiting asked none.
     between_done c.args.self.now (g.C.Commands.rig c.args.machine.now) c.args.bay c.args.key c.args.address c.args.deleted (c.loop-attempt.attempt - 1) c.loop-attempt.attempt c.loop-attempt.last c.loop-attempt.self (g.C.Commands.rig c.loop-attempt.machine)
     c.requires.ready c.requires.asked c.loop-attempt.invariant.1 (omega arith) c.write_once.result c.write_once.new.self (g.C.Commands.rig c.write_once.new.machine) c.write_once.ensures.attempt c.in-Ok.is (omega arith) start spares waiting asked
-    (lasts_asked start c.args.self.now (g.C.Commands.rig c.args.machine.now) (g.C.Commands.rig c.write_once.new.machine) spares waiting c.args.bay 4 765 asked none (returns-in-Ok-clause-lasts g c))
+    (costs_asked start c.args.self.now (g.C.Commands.rig c.args.machine.now) (g.C.Commands.rig c.write_once.new.machine) spares waiting c.args.bay 4 765 77 asked none (returns-in-Ok-clause-costs g c))
 
 pub loop-attempt-preserved : goal.loop-attempt-preserved
 loop-attempt-preserved g c = (
   c.write_once.ensures.idle,
   between_more c.args.self.now (g.C.Commands.rig c.args.machine.now) c.args.bay c.args.key c.args.address c.args.deleted (c.loop-attempt.attempt - 1) c.loop-attempt.attempt c.loop-attempt.last c.loop-attempt.self (g.C.Commands.rig c.loop-attempt.machine)
       c.requires.ready c.requires.asked c.loop-attempt.invariant.1 (omega arith) c.write_once.result c.write_once.new.self (g.C.Commands.rig c.write_once.new.machine) c.write_once.ensures.attempt (c.loop-attempt.attempt + 1 - 1) _ (omega arith) c.in-Err.is c.write_once.ensures.tries c.write_once.ensures.memory c.write_once.ensures.counts c.write_once.ensures.ready,
-  lasts_next c.args.bay 4 765 (c.loop-attempt.attempt - 1) (c.loop-attempt.attempt + 1 - 1) (g.C.Commands.rig c.args.machine.now) (g.C.Commands.rig c.loop-attempt.machine)
-      (g.C.Commands.rig c.write_once.new.machine) (omega arith) c.loop-attempt.invariant.2 c.write_once.ensures.lasts,
+  costs_next c.args.bay 4 765 77 (c.loop-attempt.attempt - 1) (c.loop-attempt.attempt + 1 - 1) (g.C.Commands.rig c.args.machine.now) (g.C.Commands.rig c.loop-attempt.machine)
+      (g.C.Commands.rig c.write_once.new.machine) (omega arith) c.loop-attempt.invariant.2 c.write_once.ensures.costs,
 )
 
 pub returns-clause-step : goal.returns-clause-step
 returns-clause-step g c = λ start spares waiting asked none.
     between_all c.args.self.now (g.C.Commands.rig c.args.machine.now) c.args.bay c.args.key c.args.address c.args.deleted (c.loop-attempt.attempt - 1) c.loop-attempt.last c.loop-attempt.self (g.C.Commands.rig c.loop-attempt.machine)
     c.requires.ready c.requires.asked c.loop-attempt.invariant.1 (omega arith) start spares waiting asked
-    (lasts_asked start c.args.self.now (g.C.Commands.rig c.args.machine.now) (g.C.Commands.rig c.loop-attempt.machine) spares waiting c.args.bay 4 765 asked none (returns-clause-lasts g c))
+    (costs_asked start c.args.self.now (g.C.Commands.rig c.args.machine.now) (g.C.Commands.rig c.loop-attempt.machine) spares waiting c.args.bay 4 765 77 asked none (returns-clause-costs g c))

@@ -2,7 +2,7 @@ use Rattle.machine_commands.specs.Shown.{board_of, rig_of}
 use Rattle.machine_commands.proofs.Questions.{reads_line, line_idle, line_asks}
 use Rattle.std.proofs.Common.{arith}
 use Rattle.floppy_driver.proofs.Lasting.{turn_same}
-use Rattle.machine_commands.proofs.Lasting.{rig_lasts, line_lasts}
+use Rattle.machine_commands.proofs.Lasting.{rig_costs, line_costs}
 use Rattle.machine_commands.proofs.commands.CommandedMachineCommands.is_changed.Goals as goal
 
 pub returns-clause-line : goal.returns-clause-line
@@ -21,8 +21,8 @@ returns-clause-idle g c =
     (line_idle c.args.self.now.motors c.args.bay c.read_line-changed.result (board_of g.D.Drive.state c.args.self.now) (board_of g.D.Drive.state c.read_line-changed.new.self)
     c.requires.idle c.requires.bay c.read_line-changed.ensures.reads c.keep_ranges.ensures.first c.keep_ranges.ensures.second)
 
-pub returns-clause-lasts : goal.returns-clause-lasts
-returns-clause-lasts g c =
+pub returns-clause-costs : goal.returns-clause-costs
+returns-clause-costs g c =
     let old = board_of g.D.Drive.state c.args.self.now in
     let new = board_of g.D.Drive.state c.read_line-changed.new.self in
-    rig_lasts c.args.bay 0 0 0 old new (turn_same c.args.bay (rig_of old) (rig_of new) (returns-clause-asks g c).media) (omega arith) (line_lasts c.args.self.now.motors c.args.bay c.read_line-changed.result old new c.read_line-changed.ensures.reads)
+    rig_costs c.args.bay 0 0 2 0 old new (turn_same c.args.bay (rig_of old) (rig_of new) (returns-clause-asks g c).media) (omega arith) (line_costs c.args.self.now.motors c.args.bay c.read_line-changed.result old new c.read_line-changed.ensures.reads)

@@ -2,7 +2,7 @@ use Rattle.machine_commands.specs.Shown.{board_of, rig_of}
 use Rattle.machine_commands.proofs.Statuses.{status_tells, status_idle, status_asks}
 use Rattle.std.proofs.Common.{arith}
 use Rattle.floppy_driver.proofs.Lasting.{turn_same}
-use Rattle.machine_commands.proofs.Lasting.{rig_lasts, drive_lasts}
+use Rattle.machine_commands.proofs.Lasting.{rig_costs, drive_costs}
 use Rattle.machine_commands.proofs.commands.CommandedMachineCommands.is_protected.Goals as goal
 
 pub returns-clause-line : goal.returns-clause-line
@@ -21,8 +21,8 @@ returns-clause-idle g c =
     (status_idle c.args.self.now.motors c.args.bay c.sense_drive-status.result (board_of g.D.Drive.state c.args.self.now) (board_of g.D.Drive.state c.sense_drive-status.new.self)
     c.requires.idle c.requires.bay c.sense_drive-status.ensures.senses c.keep_ranges.ensures.first c.keep_ranges.ensures.second)
 
-pub returns-clause-lasts : goal.returns-clause-lasts
-returns-clause-lasts g c =
+pub returns-clause-costs : goal.returns-clause-costs
+returns-clause-costs g c =
     let old = board_of g.D.Drive.state c.args.self.now in
     let new = board_of g.D.Drive.state c.sense_drive-status.new.self in
-    rig_lasts c.args.bay 0 0 0 old new (turn_same c.args.bay (rig_of old) (rig_of new) (returns-clause-asks g c).media) (omega arith) (drive_lasts c.args.self.now.motors c.args.bay c.sense_drive-status.result old new c.sense_drive-status.ensures.senses)
+    rig_costs c.args.bay 0 0 4 0 old new (turn_same c.args.bay (rig_of old) (rig_of new) (returns-clause-asks g c).media) (omega arith) (drive_costs c.args.self.now.motors c.args.bay c.sense_drive-status.result old new c.sense_drive-status.ensures.senses)

@@ -2,7 +2,7 @@ use Rattle.machine_commands.specs.Shown.{board_of, rig_of}
 use Rattle.machine_commands.proofs.SeekRigs.{seeks, seek_idle}
 use Rattle.std.proofs.Common.{arith}
 use Rattle.floppy_driver.proofs.Lasting.{turn_same}
-use Rattle.machine_commands.proofs.Lasting.{rig_lasts, seek_lasts}
+use Rattle.machine_commands.proofs.Lasting.{rig_costs, seek_costs}
 use Rattle.machine_commands.proofs.commands.CommandedMachineCommands.seek.Goals as goal
 
 pub returns-clause-step : goal.returns-clause-step
@@ -15,8 +15,8 @@ returns-clause-idle g c =
     (seek_idle c.args.self.now.motors c.args.bay c.args.target (board_of g.D.Drive.state c.args.self.now) (board_of g.D.Drive.state c.step_toward.new.self) c.requires.idle c.requires.bay c.requires.target
     c.step_toward.ensures.sends c.keep_ranges.ensures.first c.keep_ranges.ensures.second)
 
-pub returns-clause-lasts : goal.returns-clause-lasts
-returns-clause-lasts g c =
+pub returns-clause-costs : goal.returns-clause-costs
+returns-clause-costs g c =
     let old = board_of g.D.Drive.state c.args.self.now in
     let new = board_of g.D.Drive.state c.step_toward.new.self in
-    rig_lasts c.args.bay 0 81 81 old new (turn_same c.args.bay (rig_of old) (rig_of new) (returns-clause-step g c).moves.media) (omega arith) (seek_lasts c.args.self.now.motors c.args.bay c.args.target old new c.step_toward.ensures.sends)
+    rig_costs c.args.bay 0 81 7 81 old new (turn_same c.args.bay (rig_of old) (rig_of new) (returns-clause-step g c).moves.media) (omega arith) (seek_costs c.args.self.now.motors c.args.bay c.args.target old new c.step_toward.ensures.sends)

@@ -2,7 +2,7 @@ use Rattle.machine_commands.specs.Shown.{board_of, rig_of}
 use Rattle.machine_commands.proofs.Spinning.{starts_asking, starts_spinning, start_idle}
 use Rattle.std.proofs.Common.{arith}
 use Rattle.floppy_driver.proofs.Lasting.{turn_same}
-use Rattle.machine_commands.proofs.Lasting.{rig_lasts, motor_lasts}
+use Rattle.machine_commands.proofs.Lasting.{rig_costs, motor_costs}
 use Rattle.machine_commands.proofs.commands.CommandedMachineCommands.start_motor.Goals as goal
 
 pub returns-clause-asks : goal.returns-clause-asks
@@ -19,8 +19,8 @@ returns-clause-idle g c =
     (start_idle c.args.self.now.motors c.args.bay (board_of g.D.Drive.state c.args.self.now) (board_of g.D.Drive.state c.spin_up.new.self) c.requires.idle c.requires.bay c.spin_up.ensures.starts
     c.keep_ranges.ensures.first c.keep_ranges.ensures.second)
 
-pub returns-clause-lasts : goal.returns-clause-lasts
-returns-clause-lasts g c =
+pub returns-clause-costs : goal.returns-clause-costs
+returns-clause-costs g c =
     let old = board_of g.D.Drive.state c.args.self.now in
     let new = board_of g.D.Drive.state c.spin_up.new.self in
-    rig_lasts c.args.bay 0 6250 6250 old new (turn_same c.args.bay (rig_of old) (rig_of new) (returns-clause-asks g c).media) (omega arith) (motor_lasts c.args.self.now.motors c.args.bay old new c.spin_up.ensures.starts)
+    rig_costs c.args.bay 0 6250 1 6250 old new (turn_same c.args.bay (rig_of old) (rig_of new) (returns-clause-asks g c).media) (omega arith) (motor_costs c.args.self.now.motors c.args.bay old new c.spin_up.ensures.starts)

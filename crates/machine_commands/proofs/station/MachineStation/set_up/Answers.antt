@@ -3,7 +3,7 @@ use Rattle.std.proofs.lemmas.List.{length-map}
 use Rattle.std.proofs.lemmas.List.Elements.{All-map, All-same}
 use Rattle.flop_base.specs.Counters.{DriveTells}
 use Rattle.pc_bus.specs.Boards.{Board, board, IsEmpty}
-use Rattle.floppy_driver.specs.Rigs.{IsReset, LastsFor}
+use Rattle.floppy_driver.specs.Rigs.{CostsFor, IsReset}
 use Rattle.floppy_driver.specs.Attached.{CanSetUp}
 use Rattle.pc_bus.specs.Counts.{counts_of}
 use Rattle.machine_commands.specs.Shown.{rig_of, rig_shown}
@@ -34,9 +34,9 @@ returns-clause-starts g c =
     let new = rig_shown state c.set_up-driver.new.machine in
     let items = c.from_vec.result.items in
     let reset = subst (λ (b : Board). IsReset (rig_of b) new) c.new-machine.ensures c.set_up-driver.ensures.resets in
-    let lasts = subst (λ (b : Board). LastsFor 0 0 2 (rig_of b) new) c.new-machine.ensures c.set_up-driver.ensures.lasts in
+    let costs = subst (λ (b : Board). CostsFor 0 0 2 22 (rig_of b) new) c.new-machine.ensures c.set_up-driver.ensures.costs in
     starts_so (board state c.args.machine) c.requires.machine c.set_up-driver.result new c.set_up-driver.ensures.fresh reset (length items) (all_counts state items)
-    (all_counts state c.args.spare.items) (ap (all_counts state) c.from_vec.ensures.items) lasts
+    (all_counts state c.args.spare.items) (ap (all_counts state) c.from_vec.ensures.items) costs
 
 pub returns-clause-ready : goal.returns-clause-ready
 returns-clause-ready g c =
