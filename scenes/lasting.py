@@ -3,24 +3,24 @@
 Device steps are added up by hand (`Course`), from these rules:
 
 - The set-up takes two steps.
-- The motor takes 6,250 steps to come to speed. If the disk turns already, it turns on by as much.
-- A RECALIBRATE and a SEEK take 81 steps each, however far the heads go: 80 in which they move, and one after it.
-- A data command goes on from the place where it begins to the word with which it ends, and takes one step after it. A
-  search ends at the second index pulse at the latest. There are 12,500 steps from index pulse to index pulse.
-- A READ DATA whose last bytes wait 255 steps for the DMA channel ends 256 steps after its data field, if they are
-  requested only as the field ends. Here the first request waits four steps and takes twelve bytes, and each other takes
-  eight of the 512 bytes, so that four bytes are left.
+- The motor takes 6,250 steps to come to speed. If the disk turns already, it turns on in these steps.
+- A RECALIBRATE and a SEEK take 81 steps each, however far the heads go: 80 in which they may move, and one more.
+- A data command goes on from the place where it begins to the word with which it ends, and takes one step more. A search
+  ends at the second index pulse at the latest. From index pulse to index pulse there are 12,500 steps.
+- A READ DATA ends 256 steps after its data field, if its last bytes are requested only as the field ends, and the DMA
+  channel grants this request 255 steps later. For this, the first request waits four steps and takes twelve bytes. Each
+  other request takes eight of the 512 bytes, so that four are left.
 - A port access takes no step without a planned gap.
 
-Port accesses are added up from what docs/TIMES.md says of each command. Each job is run twice. In the first run a gap is
+Port accesses are added up from what docs/TIMES.md says of each command. Each job is run twice. In the first run, a gap is
 planned for the access after the last one, and doesn't come. In the second run it is planned for the last one, and comes.
-So there are as many accesses as the sum says.
+So there are exactly as many accesses as the sum says.
 
-The disks have five cylinders, one head and 12,500 words a track. What the first acknowledgement needs is under the head
-on cylinder 1, since the plan keeps the heads there: an address field. It stands so that the next call begins 243 words
-before the index. After two RECALIBRATEs and a SEEK its first data command begins right after the index pulse.
+The disks have five cylinders, one head and 12,500 words a track. In the first acknowledgement the plan keeps the heads on
+cylinder 1. There stands an address field that ends 244 words before the index. So the next call begins 243 words before
+the index, and its first data command begins right after the index pulse, once two RECALIBRATEs and a SEEK are over.
 
-Each planned fault comes as often as it is planned, so the count of faults is the sum of the plan.
+Each planned fault comes as often as it is planned. So the count of faults is the sum of the plan.
 """
 from book import Made
 from disks import Cells, Disk, layout, marked, standard, window
@@ -151,8 +151,9 @@ def unformatted(book):
     """An unformatted disk and no fault: 156,251 of 159,031 steps and 94 of 172 port accesses for the acknowledgement,
     75,000 of 76,512 steps and 122 of 150 port accesses for the read.
 
-    The disk begins to turn as the motor is at speed, so the heads move in the first revolution of a search. They do so
-    in each attempt of the read, too, since the command before it ended at an index pulse.
+    The heads move while the disk turns to the first index pulse of a search anyway. This holds in the acknowledgement,
+    since the disk begins to turn at the index. It holds in each attempt of the read, since the command before it ended
+    at an index pulse.
     """
     course = Course()
     course.motor()
@@ -172,12 +173,13 @@ def unformatted(book):
 def acknowledgement(book):
     """157,466 of 159,031 steps, and all of 172 port accesses.
 
-    The last of three acknowledgements. The one before it is refused, since all pulses are lost. So the change line stays
-    set, and the disk turns on. In its first RECALIBRATE, gaps pass until the last acknowledgement's first READ ID is to
-    begin right after an index pulse. In two rounds all pulses are lost. In the third, the heads go from cylinder 4 to 3,
-    back to 4, and only then to track 0, in four RECALIBRATEs. So no step more can come: six searches from index pulse to
-    index pulse, after the longest movement. The difference is six times the 261 steps that are counted for each data
-    command, less the one step after the last READ ID. A READ ID moves no bytes, so nothing is late.
+    This is the last of three acknowledgements. The second is refused, since all pulses are lost. So the change line stays
+    set, and the disk turns. Gaps in the second acknowledgement bring the disk to the place from which the last one's
+    first READ ID begins right after an index pulse. The last one loses all pulses in two rounds. In the third round the
+    heads go from cylinder 4 to 3, back to 4, to 3 and to track 0, in four RECALIBRATEs and a SEEK.
+    No step more can come: these are the longest movements, and then six searches of two whole revolutions. The
+    difference is six times the 261 steps that the bound adds for a data command, less the one step after the last READ
+    ID. A READ ID moves no bytes, so it never waits for the DMA channel.
     """
     course = Course()
     course.motor()
@@ -217,11 +219,12 @@ def read(book):
     """75,500 of 76,512 steps, and 146 of 150 port accesses.
 
     Two attempts come to unformatted tracks. In the third, the address field drops out in the first revolution. In the
-    second revolution the sector is read, its field ends with the revolution, and the last bytes wait for the DMA
-    channel. No step more can come: each READ DATA ends at the second index pulse, or 256 steps after it. In the second
-    and third attempt the heads move while the disk turns to the next index pulse anyway, and what was late in the
-    attempt before it passes then, too. So the difference is twice 243 steps, and three times 261 less 257. A read asks
-    only whether the disk was changed, for which 2 port accesses are counted as 6.
+    second revolution the sector is read. Its data field ends with the revolution, and the last bytes wait for the DMA
+    channel.
+    No step more can come: each READ DATA ends 256 steps after its second index pulse at the latest. From the second
+    attempt on, the heads move while the disk turns to the next index pulse anyway. The same holds of the 256 steps,
+    unless the attempt is the last. So the difference is twice 243 steps for movements, and three times 261 less 257 for
+    data commands. A read only asks whether the disk was changed. This takes 2 port accesses, and 6 are counted.
     """
     course = acknowledged()
     before, accesses = course.steps, course.accesses
@@ -241,7 +244,7 @@ def read(book):
 def read_once(book):
     """One attempt: 25,500 of 25,504 steps, and 50 of 54 port accesses.
 
-    This is the third attempt of the read above. So the bound on one attempt is four steps too high.
+    This is like the third attempt of the read above, but it begins where its READ DATA waits longest.
     """
     course = acknowledged()
     before, accesses = course.steps, course.accesses
@@ -258,10 +261,10 @@ def write(book):
     """113,000 of 152,295 steps, and all of 237 port accesses.
 
     In each attempt the address field drops out in the first revolution of the write. The window ends with the second
-    revolution. So the reading back goes through one whole revolution. In two attempts a word of the content drops out
-    in it. No step more can come with planned faults: the write heard the whole address field, so no dropout is left
-    there, and the reading back meets it the first time that it passes. The bound counts one revolution more for each
-    attempt, since it holds for every drive, also for one whose dropouts come later.
+    revolution. So the reading back lasts one whole revolution. In two attempts a word of the content drops out in it.
+    No step more can come with planned faults. Each word of the address field was heard in the second revolution, so none
+    of its planned dropouts is left, and the reading back meets the field the first time that it passes. The bound counts
+    one revolution more for each attempt, since it holds for every drive, also for one whose dropouts come and go.
     """
     course = acknowledged()
     before, accesses = course.steps, course.accesses
@@ -294,10 +297,10 @@ def words_of(image):
 def format_laid(book):
     """787,814 of 1,440,606 steps, and all of 1,707 port accesses.
 
-    In each attempt the format begins to wait right after an index pulse or soon after it. When a record is read back,
-    its address field drops out in the first revolution. In two attempts the last record is not found at all.
-    Each record stands right after the one before it. So each READ DATA begins where the one before it ended, and ends
-    one revolution and 682 words later. 18 of them take 19 revolutions, where the bound counts 36.
+    In each attempt the format begins soon after an index pulse. When a record is read back, its address field drops out
+    in the first revolution. In two attempts the last record isn't found at all.
+    Each READ DATA begins where the one before it ended, just in front of its record, and ends one revolution and 682
+    words later. So the 18 of them last 19 revolutions, and the bound counts 36.
     """
     course = acknowledged()
     before, accesses = course.steps, course.accesses
