@@ -5,7 +5,7 @@ A part of the book is a module with a function `scenes(book)`. Lines of jobs and
 import importlib
 import zlib
 
-PARTS = ["worked", "jobs", "whole", "archives", "driver", "commands", "failing", "ports", "controller", "vectors", "bench"]
+PARTS = ["worked", "jobs", "whole", "archives", "driver", "commands", "failing", "ports", "controller", "vectors", "bench", "lasting"]
 
 
 class Made:
