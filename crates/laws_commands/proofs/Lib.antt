@@ -49,3 +49,4 @@ pub mod RescueFurther
 pub mod Order
 pub mod Storing
 pub mod ScriptStores
+pub mod Turns
