@@ -50,3 +50,5 @@ pub mod Order
 pub mod Storing
 pub mod ScriptStores
 pub mod Turns
+pub mod ScriptTimes
+pub mod RequestTimes
