@@ -52,3 +52,4 @@ pub mod ScriptStores
 pub mod Turns
 pub mod ScriptTimes
 pub mod RequestTimes
+pub mod CommandTimes

@@ -87,7 +87,7 @@ module _ (one : Request → StationState → ℕ) (sum : StationState → List T
       (leads old.state taken.after old.files runs.1 taken.answer holds runs.2) runs.3 in
       omega (arith, first, same, few, left)
 
-  unless_cost : (To : StationState → Type 0) (n : ℕ) (asked : Request) (answer : Reply) (later : Script) → Costs sum To n later
+  pub unless_cost : (To : StationState → Type 0) (n : ℕ) (asked : Request) (answer : Reply) (later : Script) → Costs sum To n later
       → Costs sum (λ s. is_refusal answer ≡ false → To s) n (unless_refused asked answer later)
   unless_cost To n asked (reply.Refused cause) later costs old new course ended holds runs =
       ends_cost (λ s. Unit {0}) n (stopped_text asked cause ∷ []) status.SomeRefused old new course ended tt runs
