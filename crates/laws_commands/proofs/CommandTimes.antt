@@ -116,3 +116,187 @@ module _ (one : Request → StationState → ℕ) (sum : StationState → List T
       made_ready 0 (tracks + (0 + 0)) _ (λ none.
       tracks_cost one sum is (IsReady limit 0 rate) (costs 0).format (formats 0) (formatted 0) cylinders 2 tt (0 + 0) _ (λ none.
       taken_out (IsReady limit 0 rate) 0 0 _ (λ none. ends_cost one sum is (λ s. Unit {0}) 0 _ _)))))
+
+  -- ---- A verify.
+
+  tells_cost : (P : StationState → Type 0) (n : ℕ) (key : Chrn) (answer : Reply) (rest : Unit {0} → Script) → Costs sum P n (rest tt)
+      → Costs sum P n (tells_failure key answer rest)
+  unfolding tells_failure says
+  tells_cost P n key (reply.Refused cause) rest later = says_cost one sum is P n _ (rest tt) later
+  tells_cost P n key reply.Done rest later = later
+  tells_cost P n key reply.DoneDeleted rest later = later
+  tells_cost P n key (reply.Bytes address content) rest later = later
+
+  verified : (c h r : ℕ) (tally : Tally) → PartCosts sum (IsReady limit 0 rate) (IsReady limit 0 rate) (costs 0).read (verifies_record c h r tally)
+  unfolding verifies_record asks
+  verified c h r tally n rest later =
+      asks_cost one sum is (IsReady limit 0 rate) (λ answer. IsReady limit 0 rate) (costs 0).read n (request.Read 0 (key_of c h r) track_address) _
+      (λ s ready. charged.read 0 (key_of c h r) track_address s ready.turns)
+      (λ old new told after answer ready step. track_ready limit 0 rate (request.Read 0 (key_of c h r) track_address) tt old new told after answer ready step)
+      (λ answer after. tells_cost (IsReady limit 0 rate) n (key_of c h r) answer _ (later (one_more tally (is_refusal answer))))
+
+  verified_track : (c h : ℕ) (tally : Tally)
+      → PartCosts sum (IsReady limit 0 rate) (IsReady limit 0 rate) (sectors_at rate * (costs 0).read) (verifies_track (sectors_at rate) c h tally)
+  unfolding verifies_track
+  verified_track c h tally = each_cost one sum is (IsReady limit 0 rate) (costs 0).read (verifies_record c h) (verified c h) 1 (sectors_at rate) tally
+
+  -- ---- A copy.
+
+  read_first : (c h r : ℕ) (marks : List Bool) → PartCosts sum (IsReady limit 1 rate) (IsReady limit 1 rate) (costs 0).read (reads_record c h r marks)
+  unfolding reads_record
+  read_first c h r marks n rest later =
+      needs_cost one sum is (IsReady limit 1 rate) (IsReady limit 1 rate) (costs 0).read n (request.Read 0 (key_of c h r) (record_address r)) _
+      (λ s ready. charged.read 0 (key_of c h r) (record_address r) s ready.turns) (on_tracks 1 (request.Read 0 (key_of c h r) (record_address r)) tt)
+      (λ answer after. later _)
+
+  write_second : (marks : List Bool) (c h r : ℕ) (none : Unit {0})
+      → PartCosts sum (IsReady limit 1 rate) (IsReady limit 1 rate) (costs 1).write (writes_record marks c h r none)
+  unfolding writes_record
+  write_second marks c h r none = go (get_or marks (r - 1) false)
+    where
+      go : (deleted : Bool) → PartCosts sum (IsReady limit 1 rate) (IsReady limit 1 rate) (costs 1).write (carries (write_request deleted (key_of c h r) (record_address r)))
+      go true = carries_cost one sum is (IsReady limit 1 rate) (IsReady limit 1 rate) (costs 1).write (request.WriteDeleted 1 (key_of c h r) (record_address r))
+          (λ s ready. charged.write_deleted 1 (key_of c h r) (record_address r) s ready.turns) (on_tracks 1 (request.WriteDeleted 1 (key_of c h r) (record_address r)) tt)
+      go false = carries_cost one sum is (IsReady limit 1 rate) (IsReady limit 1 rate) (costs 1).write (request.Write 1 (key_of c h r) (record_address r))
+          (λ s ready. charged.write 1 (key_of c h r) (record_address r) s ready.turns) (on_tracks 1 (request.Write 1 (key_of c h r) (record_address r)) tt)
+
+  copied_track : (c h : ℕ) (none : Unit {0})
+      → PartCosts sum (IsReady limit 1 rate) (IsReady limit 1 rate) ((costs 1).format + (sectors_at rate * (costs 0).read + sectors_at rate * (costs 1).write))
+      (copies_track (sectors_at rate) c h none)
+  unfolding copies_track
+  copied_track c h none n rest later =
+      let reads = sectors_at rate * (costs 0).read in
+      let writes = sectors_at rate * (costs 1).write in
+      more_cost one sum is (IsReady limit 1 rate) (IsReady limit 1 rate) ((costs 1).format + (reads + (writes + n))) ((costs 1).format + (reads + writes) + n) _
+      (omega arith) (λ s ready. ready)
+      (formatted 1 c h tt (reads + (writes + n)) _ (λ none.
+      each_cost one sum is (IsReady limit 1 rate) (costs 0).read (reads_record c h) (read_first c h) 1 (sectors_at rate) _ (writes + n) _ (λ marks.
+      each_cost one sum is (IsReady limit 1 rate) (costs 1).write (writes_record marks c h) (write_second marks c h) 1 (sectors_at rate) tt n rest later)))
+
+  -- a bay is made ready, and its rate is of no more interest
+  made_turned : (bay : ℕ) → PartCosts sum Turned Turned (ready_cost (costs bay) rate) (acknowledges bay rate)
+  made_turned bay n rest later =
+      made_ready bay n rest (λ none. more_cost one sum is Turned (IsReady limit bay rate) n n (rest none) (omega arith) (λ s ready. ready.turns) (later none))
+
+  copied : (to : List ℕ) (cylinders heads words : ℕ) (rest : Unit {0} → Script) → words_at rate ≤ limit.second → Costs sum (λ s. Unit {0}) 0 (rest tt)
+      → Costs sum Turned (ready_cost (costs 0) rate + (ready_cost (costs 1) rate
+      + cylinders * (heads * ((costs 1).format + (sectors_at rate * (costs 0).read + sectors_at rate * (costs 1).write)))))
+      (copies_disk to (record { cylinders = cylinders; heads = heads; words = words; rate = rate }) rest)
+  unfolding copies_disk
+  copied to cylinders heads words rest short later =
+      let one_ready = ready_cost (costs 0) rate in
+      let two_ready = ready_cost (costs 1) rate in
+      let track = (costs 1).format + (sectors_at rate * (costs 0).read + sectors_at rate * (costs 1).write) in
+      let tracks = cylinders * (heads * track) in
+      more_cost one sum is Turned Turned (0 + (one_ready + (two_ready + (tracks + (0 + 0))))) (one_ready + (two_ready + tracks)) _ (omega arith) (λ s has. has)
+      (made_blank 1 to cylinders short (one_ready + (two_ready + (tracks + (0 + 0)))) _ (λ none.
+      made_turned 0 (two_ready + (tracks + (0 + 0))) _ (λ none.
+      made_ready 1 (tracks + (0 + 0)) _ (λ none.
+      tracks_cost one sum is (IsReady limit 1 rate) track (copies_track (sectors_at rate)) copied_track cylinders heads tt (0 + 0) _ (λ none.
+      taken_out (IsReady limit 1 rate) 1 0 rest (λ none. later))))))
+
+  -- ---- An import.
+
+  byte_filled : (bytes : List ℕ) (place address i : ℕ) (none : Unit {0}) → PartCosts sum (IsReady limit 0 rate) (IsReady limit 0 rate) 0 (flat.fills_byte bytes place address i none)
+  unfolding flat.fills_byte
+  byte_filled bytes place address i none =
+      carries_cost one sum is (IsReady limit 0 rate) (IsReady limit 0 rate) 0 (request.Fill (address + i) 1 _) (λ s ready. charged.fill (address + i) 1 _ s)
+      (on_tracks 0 (request.Fill (address + i) 1 _) tt)
+
+  record_filled : (bytes : List ℕ) (place address : ℕ) (none : Unit {0})
+      → PartCosts sum (IsReady limit 0 rate) (IsReady limit 0 rate) (512 * 0) (flat.fills_record bytes place address none)
+  unfolding flat.fills_record
+  record_filled bytes place address none =
+      each_cost one sum is (IsReady limit 0 rate) 0 (flat.fills_byte bytes place address) (byte_filled bytes place address) 0 512 none
+
+  track_filled : (bytes : List ℕ) (c h : ℕ)
+      → PartCosts sum (IsReady limit 0 rate) (IsReady limit 0 rate) (sectors_at rate * (512 * 0)) (flat.fills_track bytes (sectors_at rate) c h)
+  unfolding flat.fills_track
+  track_filled bytes c h =
+      each_cost one sum is (IsReady limit 0 rate) (512 * 0) (λ r. flat.fills_record bytes (sector_place (sectors_at rate) c h r) (record_address r))
+      (λ r. record_filled bytes (sector_place (sectors_at rate) c h r) (record_address r)) 1 (sectors_at rate) tt
+
+  record_written : (c h r : ℕ) (none : Unit {0}) → PartCosts sum (IsReady limit 0 rate) (IsReady limit 0 rate) (costs 0).write (flat.writes_record c h r none)
+  unfolding flat.writes_record
+  record_written c h r none =
+      carries_cost one sum is (IsReady limit 0 rate) (IsReady limit 0 rate) (costs 0).write (request.Write 0 (key_of c h r) (record_address r))
+      (λ s ready. charged.write 0 (key_of c h r) (record_address r) s ready.turns) (on_tracks 0 (request.Write 0 (key_of c h r) (record_address r)) tt)
+
+  imported_track : (bytes : List ℕ) (c h : ℕ) (none : Unit {0})
+      → PartCosts sum (IsReady limit 0 rate) (IsReady limit 0 rate) ((costs 0).format + sectors_at rate * (costs 0).write)
+      (flat.imports_track bytes (sectors_at rate) c h none)
+  unfolding flat.imports_track flat.writes_track
+  imported_track bytes c h none n rest later =
+      let fills = sectors_at rate * (512 * 0) in
+      let writes = sectors_at rate * (costs 0).write in
+      more_cost one sum is (IsReady limit 0 rate) (IsReady limit 0 rate) ((costs 0).format + (fills + (writes + n))) ((costs 0).format + writes + n) _
+      (omega arith) (λ s ready. ready)
+      (formatted 0 c h tt (fills + (writes + n)) _ (λ none.
+      track_filled bytes c h (writes + n) _ (λ none.
+      each_cost one sum is (IsReady limit 0 rate) (costs 0).write (flat.writes_record c h) (record_written c h) 1 (sectors_at rate) tt n rest later)))
+
+  pub import_most : (bytes name : List ℕ) (rest : Unit {0} → Script) → words_at rate ≤ limit.first → Costs sum (λ s. Unit {0}) 0 (rest tt)
+      → Costs sum Turned (import_cost (costs 0) rate) (flat.imports_disk bytes name rate rest)
+  import_most bytes name rest short later =
+      let ready = ready_cost (costs 0) rate in
+      let track = (costs 0).format + sectors_at rate * (costs 0).write in
+      let tracks = 80 * (2 * track) in
+      more_cost one sum is Turned Turned (0 + (ready + (tracks + (0 + 0)))) (ready + tracks) _ (omega arith) (λ s has. has)
+      (made_blank 0 name 80 short (ready + (tracks + (0 + 0))) _ (λ none.
+      made_ready 0 (tracks + (0 + 0)) _ (λ none.
+      tracks_cost one sum is (IsReady limit 0 rate) track (flat.imports_track bytes (sectors_at rate)) (imported_track bytes) 80 2 tt (0 + 0) _ (λ none.
+      taken_out (IsReady limit 0 rate) 0 0 rest (λ none. later)))))
+
+  -- ---- An export.
+
+  record_read : (c h r : ℕ) (bytes : List ℕ) → PartCosts sum (IsReady limit 0 rate) (IsReady limit 0 rate) (costs 0).read (out.reads_record c h r bytes)
+  unfolding out.reads_record may_starve
+  record_read c h r bytes n rest later =
+      needs_cost one sum is (IsReady limit 0 rate) (IsReady limit 0 rate) (costs 0).read n (request.Read 0 (key_of c h r) (record_address r)) _
+      (λ s ready. charged.read 0 (key_of c h r) (record_address r) s ready.turns) (on_tracks 0 (request.Read 0 (key_of c h r) (record_address r)) tt)
+      (λ answer after. starve_cost one sum is (IsReady limit 0 rate) n _ (later _))
+
+  track_read : (c h : ℕ) (bytes : List ℕ)
+      → PartCosts sum (IsReady limit 0 rate) (IsReady limit 0 rate) (sectors_at rate * (costs 0).read) (out.reads_track (sectors_at rate) c h bytes)
+  unfolding out.reads_track
+  track_read c h bytes = each_cost one sum is (IsReady limit 0 rate) (costs 0).read (out.reads_record c h) (record_read c h) 1 (sectors_at rate) bytes
+
+  exported : (rest : List ℕ → Script) → ((bytes : List ℕ) → Costs sum (IsReady limit 0 rate) 0 (rest bytes))
+      → Costs sum Turned (export_cost (costs 0) rate) (out.reads_disk rate [] rest)
+  exported rest later =
+      let ready = ready_cost (costs 0) rate in
+      let track = sectors_at rate * (costs 0).read in
+      more_cost one sum is Turned Turned (ready + (80 * (2 * track) + 0)) (ready + 80 * (2 * track)) _ (omega arith) (λ s has. has)
+      (made_ready 0 (80 * (2 * track) + 0) _ (λ none.
+      tracks_cost one sum is (IsReady limit 0 rate) track (out.reads_track (sectors_at rate)) track_read 80 2 [] 0 rest later))
+
+-- ---- Commands on the disk of a told file.
+
+module _ (one : Request → StationState → ℕ) (sum : StationState → List Taken → ℕ) (is : IsSum one sum) (limit : Two ℕ) (disk : Disk)
+    (costs : ℕ → RequestCosts) (charged : AreCharged one limit disk.rate costs) (short : disk.words_per_track ≤ limit.first)
+    (name : List ℕ) (files : Files) (image : IsImageOf (Some files) name disk) (old new : World) (course : List Taken) (ended : Status)
+    (told : old.files ≡ Some files) (has : HasTurns limit 3 old.state.station) where
+  pub verify_most : RunsScript (verify_script name) old course new ended → sum old.state.station course ≤ verify_cost (costs 0) disk
+  unfolding verify_script reads_disk
+  verify_most runs =
+      let ready = ready_cost (costs 0) disk.rate in
+      let track = sectors_at disk.rate * (costs 0).read in
+      let tracks = disk.cylinders * (disk.heads * track) in
+      opened_cost one sum is limit disk.rate costs charged name files disk (ready + tracks) _ old new course ended told image short has
+      (more_cost one sum is (HasTurns limit 3) (HasTurns limit 3) (ready + (tracks + 0)) (ready + tracks) _ (omega arith) (λ s has. has)
+      (made_ready one sum is limit disk.rate costs charged 0 (tracks + 0) _ (λ none.
+      tracks_cost one sum is (IsReady limit 0 disk.rate) track (verifies_track (sectors_at disk.rate)) (verified_track one sum is limit disk.rate costs charged)
+      disk.cylinders disk.heads _ 0 _ (λ tally. ends_cost one sum is (IsReady limit 0 disk.rate) 0 _ _)))) runs
+
+  pub copy_most : (to : List ℕ) → words_at disk.rate ≤ limit.second → RunsScript (copy_script name to) old course new ended
+      → sum old.state.station course ≤ copy_cost (costs 0) (costs 1) disk
+  unfolding copy_script makes_copy
+  copy_most to long runs =
+      opened_cost one sum is limit disk.rate costs charged name files disk (copy_cost (costs 0) (costs 1) disk) _ old new course ended told image short has
+      (copied one sum is limit disk.rate costs charged to disk.cylinders disk.heads disk.words_per_track _ long (ends_cost one sum is (λ s. Unit {0}) 0 _ _)) runs
+
+  pub export_most : (flat : List ℕ) → RunsScript (out.export_script name flat) old course new ended
+      → sum old.state.station course ≤ export_cost (costs 0) disk.rate
+  export_most flat runs =
+      opened_cost one sum is limit disk.rate costs charged name files disk (export_cost (costs 0) disk.rate) _ old new course ended told image short has
+      (exported one sum is limit disk.rate costs charged _ (λ bytes. stores_cost one sum is (IsReady limit 0 disk.rate) 0 flat bytes _ _)) runs
