@@ -52,34 +52,34 @@ turn_by_shape (Some disk) shape same = ap (λ (s : Shape). s.words) (given (shap
 
 module _ (one : Request → StationState → ℕ) (sum : StationState → List Taken → ℕ) (is : IsSum one sum) (limit : Two ℕ) (rate : Rate)
     (costs : ℕ → RequestCosts) (charged : AreCharged one limit rate costs) where
-  abbrev Turned : StationState → Type 0
+  abbrev pub Turned : StationState → Type 0
   Turned station = HasTurns limit 3 station
 
   -- ---- Parts.
 
-  on_tracks : (bay : ℕ) (asked : Request) → IsOnTracks asked → Leads (IsReady limit bay rate) asked (IsReady limit bay rate)
+  pub on_tracks : (bay : ℕ) (asked : Request) → IsOnTracks asked → Leads (IsReady limit bay rate) asked (IsReady limit bay rate)
   on_tracks bay asked on old new told after answer ready step fine = track_ready limit bay rate asked on old new told after answer ready step
 
-  made_ready : (bay : ℕ) → PartCosts sum Turned (IsReady limit bay rate) (ready_cost (costs bay) rate) (acknowledges bay rate)
+  pub made_ready : (bay : ℕ) → PartCosts sum Turned (IsReady limit bay rate) (ready_cost (costs bay) rate) (acknowledges bay rate)
   made_ready bay = acknowledges_cost one sum is limit bay rate (costs bay) (charged.ack bay) (charged.change bay)
 
-  made_blank : (bay : ℕ) (name : List ℕ) (cylinders : ℕ) → words_at rate ≤ in_bay limit bay
+  pub made_blank : (bay : ℕ) (name : List ℕ) (cylinders : ℕ) → words_at rate ≤ in_bay limit bay
       → PartCosts sum Turned Turned 0 (carries (blank_request bay name cylinders rate))
   made_blank bay name cylinders short =
       carries_cost one sum is Turned Turned 0 (blank_request bay name cylinders rate) (λ s has. charged.blank bay name cylinders rate s)
       (λ old new told after answer has step fine.
       step_turns limit 3 old new told after (blank_request bay name cylinders rate) answer (blank_fair limit bay name cylinders rate new short) step has)
 
-  taken_out : (P : StationState → Type 0) (bay : ℕ) → PartCosts sum P (λ s. Unit {0}) 0 (carries (request.Eject bay))
+  pub taken_out : (P : StationState → Type 0) (bay : ℕ) → PartCosts sum P (λ s. Unit {0}) 0 (carries (request.Eject bay))
   taken_out P bay = carries_cost one sum is P (λ s. Unit {0}) 0 (request.Eject bay) (λ s holds. charged.eject bay s) (λ old new told after answer holds step fine. tt)
 
-  formatted : (bay c h : ℕ) (none : Unit {0}) → PartCosts sum (IsReady limit bay rate) (IsReady limit bay rate) (costs bay).format (carries (request.Format bay c h))
+  pub formatted : (bay c h : ℕ) (none : Unit {0}) → PartCosts sum (IsReady limit bay rate) (IsReady limit bay rate) (costs bay).format (carries (request.Format bay c h))
   formatted bay c h none =
       carries_cost one sum is (IsReady limit bay rate) (IsReady limit bay rate) (costs bay).format (request.Format bay c h)
       (λ s ready. charged.format bay c h s ready) (on_tracks bay (request.Format bay c h) tt)
 
   -- the disk of a told file is put in
-  opened_cost : (name : List ℕ) (files : Files) (disk : Disk) (n : ℕ) (rest : Shape → Script) (old new : World) (course : List Taken) (ended : Status)
+  pub opened_cost : (name : List ℕ) (files : Files) (disk : Disk) (n : ℕ) (rest : Shape → Script) (old new : World) (course : List Taken) (ended : Status)
       → old.files ≡ Some files → IsImageOf (Some files) name disk → disk.words_per_track ≤ limit.first → Turned old.state.station
       → Costs sum Turned n (rest (shape_of disk)) → RunsScript (opens name rest) old course new ended → sum old.state.station course ≤ n
   unfolding opens needs
@@ -174,7 +174,7 @@ module _ (one : Request → StationState → ℕ) (sum : StationState → List T
       each_cost one sum is (IsReady limit 1 rate) (costs 1).write (writes_record marks c h) (write_second marks c h) 1 (sectors_at rate) tt n rest later)))
 
   -- a bay is made ready, and its rate is of no more interest
-  made_turned : (bay : ℕ) → PartCosts sum Turned Turned (ready_cost (costs bay) rate) (acknowledges bay rate)
+  pub made_turned : (bay : ℕ) → PartCosts sum Turned Turned (ready_cost (costs bay) rate) (acknowledges bay rate)
   made_turned bay n rest later =
       made_ready bay n rest (λ none. more_cost one sum is Turned (IsReady limit bay rate) n n (rest none) (omega arith) (λ s ready. ready.turns) (later none))
 

@@ -53,3 +53,4 @@ pub mod Turns
 pub mod ScriptTimes
 pub mod RequestTimes
 pub mod CommandTimes
+pub mod RescueTimes

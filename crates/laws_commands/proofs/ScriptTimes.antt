@@ -64,6 +64,10 @@ module _ (one : Request → StationState → ℕ) (sum : StationState → List T
   stores_cost From most name bytes line wanted old new [] ended holds runs = idle_cost old.state.station [] most refl
   stores_cost From most name bytes line wanted old new (taken ∷ later) ended holds runs = absurd runs
 
+  pub fails_cost : (From : StationState → Type 0) (most : ℕ) (cause : Status) → Costs sum From most (Fails cause)
+  fails_cost From most cause old new [] ended holds runs = idle_cost old.state.station [] most refl
+  fails_cost From most cause old new (taken ∷ later) ended holds runs = absurd runs
+
   pub says_cost : (From : StationState → Type 0) (most : ℕ) (line : List ℕ) (rest : Script) → Costs sum From most rest → Costs sum From most (Says line rest)
   says_cost From most line rest costs old new course ended holds (inl runs) =
       costs (record old { report = grown old.report (line ∷ []) }) new course ended holds runs

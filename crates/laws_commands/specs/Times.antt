@@ -90,6 +90,12 @@ import_cost costs rate = ready_cost costs rate + 80 * (2 * (costs.format + secto
 abbrev pub export_cost : RequestCosts → Rate → ℕ
 export_cost costs rate = ready_cost costs rate + 80 * (2 * (sectors_at rate * costs.read))
 
+-- the other diskette is formatted in bay 1; each record is read in bay 0, and written in bay 1 if it could be read
+abbrev pub rescue_cost : RequestCosts → RequestCosts → Disk → ℕ
+rescue_cost first second disk =
+    ready_cost first disk.rate + (ready_cost second disk.rate + (disk.cylinders * (disk.heads * second.format)
+    + disk.cylinders * disk.heads * sectors_at disk.rate * (first.read + second.write)))
+
 -- ---- Whole runs over a machine: the set-up takes two device steps and 22 port accesses.
 
 -- a format of a disk of this many cylinders
@@ -126,3 +132,10 @@ export_time disk = 2 + export_cost (times_at disk.words_per_track disk.rate) dis
 
 abbrev pub export_port_accesses : Disk → ℕ
 export_port_accesses disk = 22 + export_cost (port_accesses_at disk.rate) disk.rate
+
+-- a rescue of the disk to a new one
+abbrev pub rescue_time : Disk → ℕ
+rescue_time disk = 2 + rescue_cost (times_at disk.words_per_track disk.rate) (times_at (words_at disk.rate) disk.rate) disk
+
+abbrev pub rescue_port_accesses : Disk → ℕ
+rescue_port_accesses disk = 22 + rescue_cost (port_accesses_at disk.rate) (port_accesses_at disk.rate) disk
