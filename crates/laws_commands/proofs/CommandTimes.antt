@@ -1,5 +1,5 @@
 -- How long whole commands last at most, and how many port accesses they make.
-use Rattle.std.proofs.Common.{arith, ◌≡◌, ◌∙◌, ℕ, ◌+◌, ◌-◌, ◌*◌, ◌≤◌, Bool, true, false, false, get_or, set, List, [], ◌∷◌, ◌++◌, refl, ap, sym, subst, Option, Some, None, unwrap_or}
+use Rattle.std.proofs.Common.{arith, ◌≡◌, ◌∙◌, ℕ, ◌+◌, ◌-◌, ◌*◌, ◌≤◌, Bool, true, false, false, get_or, set, List, [], ◌∷◌, ◌++◌, refl, ap, sym, subst, Option, Some, None, unwrap_or, Result, Ok, Err}
 use Rattle.std.specs.Option.{option_map}
 use Rattle.flop_base.specs.Bays.{Two, in_bay}
 use Rattle.flop_base.specs.Shelf.{Files}
@@ -19,7 +19,8 @@ use Rattle.sector_model.specs.Lasting.{turn_of}
 use Rattle.sector_model.specs.Stations.{StationState, bay_of}
 use Rattle.sector_model.specs.States.{State}
 use Rattle.sector_model.specs.Steps.{Step, IsImageOf}
-use Rattle.sector_model.specs.Texts.{is_refusal}
+use Rattle.sector_model.specs.declared.reply.Stop.{Stop}
+use Rattle.sector_model.specs.Texts.{is_refusal, stop_lines, stop_status}
 use Rattle.sector_model.specs.Runs.{Taken}
 use Rattle.sector_model.specs.Plays.{World}
 use Rattle.floppy_session.specs.Blanks.{blank_request}
@@ -31,9 +32,11 @@ use Rattle.commands.specs.Records.{record_address, track_address}
 use Rattle.disk_commands.specs.Format.{formats_disk, format_script}
 use Rattle.disk_commands.specs.Verify.{tells_failure, verifies_record, verifies_track, verify_script, reads_disk, one_more}
 use Rattle.disk_commands.specs.Copy.{write_request, reads_record, writes_record, copies_track, copies_disk, makes_copy, copy_script}
+use Rattle.disk_commands.specs.FlatFiles.{IsFlatFile, IsFlatFound}
 use Rattle.disk_commands.specs.Import as flat
 use Rattle.disk_commands.specs.Export as out
 use Rattle.laws_commands.specs.Times.{RequestCosts, ready_cost, format_cost, verify_cost, copy_cost, import_cost, export_cost}
+use Rattle.laws_commands.proofs.FlatEnds.{one_flat, one_rate}
 use Rattle.laws_commands.proofs.PutIn.{put_shape}
 use Rattle.laws_commands.proofs.RequestTimes.{AreCharged, IsOnTracks, IsReady, acknowledges_cost, blank_fair, track_ready}
 use Rattle.laws_commands.proofs.ScriptTimes.{IsSum, Costs, PartCosts, Leads, asks_cost, carries_cost, each_cost, ends_cost, idle_cost, more_cost, needs_cost, says_cost, starve_cost, stores_cost, tracks_cost, unless_cost}
@@ -235,7 +238,7 @@ module _ (one : Request → StationState → ℕ) (sum : StationState → List T
       track_filled bytes c h (writes + n) _ (λ none.
       each_cost one sum is (IsReady limit 0 rate) (costs 0).write (flat.writes_record c h) (record_written c h) 1 (sectors_at rate) tt n rest later)))
 
-  pub import_most : (bytes name : List ℕ) (rest : Unit {0} → Script) → words_at rate ≤ limit.first → Costs sum (λ s. Unit {0}) 0 (rest tt)
+  import_most : (bytes name : List ℕ) (rest : Unit {0} → Script) → words_at rate ≤ limit.first → Costs sum (λ s. Unit {0}) 0 (rest tt)
       → Costs sum Turned (import_cost (costs 0) rate) (flat.imports_disk bytes name rate rest)
   import_most bytes name rest short later =
       let ready = ready_cost (costs 0) rate in
@@ -269,6 +272,28 @@ module _ (one : Request → StationState → ℕ) (sum : StationState → List T
       more_cost one sum is Turned Turned (ready + (80 * (2 * track) + 0)) (ready + 80 * (2 * track)) _ (omega arith) (λ s has. has)
       (made_ready 0 (80 * (2 * track) + 0) _ (λ none.
       tracks_cost one sum is (IsReady limit 0 rate) track (out.reads_track (sectors_at rate)) track_read 80 2 [] 0 rest later))
+
+-- ---- A flat file that is told.
+
+module _ (one : Request → StationState → ℕ) (sum : StationState → List Taken → ℕ) (is : IsSum one sum) (limit : Two ℕ) (rate : Rate)
+    (costs : ℕ → RequestCosts) (charged : AreCharged one limit rate costs) (short : words_at rate ≤ limit.first)
+    (name : List ℕ) (old new : World) (course : List Taken) (ended : Status) (has : HasTurns limit 3 old.state.station) where
+  found_most : (found : Result (List ℕ × Rate) Stop) → ((bytes : List ℕ) (at : Rate) → found ≡ Ok (bytes, at) → at ≡ rate)
+      → RunsScript (flat.import_script found name) old course new ended → sum old.state.station course ≤ import_cost (costs 0) rate
+  found_most (Err cause) same runs =
+      ends_cost one sum is (HasTurns limit 3) (import_cost (costs 0) rate) (stop_lines cause) (stop_status cause) old new course ended has runs
+  found_most (Ok (bytes, at)) same runs =
+      import_most one sum is limit rate costs charged bytes name _ short (ends_cost one sum is (λ s. Unit {0}) 0 (flat.import_text (flat.sectors_of rate) ∷ []) status.AllOk)
+      old new course ended has
+      (subst (λ (r : Rate). RunsScript (flat.import_script (Ok (bytes, r)) name) old course new ended) (same bytes at refl) runs)
+
+  pub imports_most : (file bytes : List ℕ) (files : Files) → IsFlatFile (Some files) file bytes rate → old.files ≡ Some files
+      → flat.Imports file name old course new ended → sum old.state.station course ≤ import_cost (costs 0) rate
+  imports_most file bytes files is_flat told imports =
+      found_most imports.0 (λ row at is_found.
+      (let other : IsFlatFile (Some files) file row at =
+      subst (λ (f : Option Files). IsFlatFile f file row at) told (subst (λ (r : Result (List ℕ × Rate) Stop). IsFlatFound old.files file r) is_found imports.1) in
+      one_rate at rate row bytes (one_flat files file row bytes at rate other is_flat) other.sectors is_flat.sectors)) imports.2
 
 -- ---- Commands on the disk of a told file.
 

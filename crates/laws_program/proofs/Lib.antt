@@ -52,3 +52,4 @@ pub mod Takes
 pub mod WritesAgree
 mod StoresMade
 mod ReadJobs
+mod WholeCommands
