@@ -53,3 +53,4 @@ pub mod WritesAgree
 mod StoresMade
 mod ReadJobs
 mod WholeCommands
+mod JobRuns
