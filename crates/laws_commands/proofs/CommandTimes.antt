@@ -1,5 +1,5 @@
 -- How long whole commands last at most, and how many port accesses they make.
-use Rattle.std.proofs.Common.{arith, ◌≡◌, ◌∙◌, ℕ, ◌+◌, ◌-◌, ◌*◌, ◌≤◌, Bool, true, false, false, get_or, set, List, [], ◌∷◌, ◌++◌, refl, ap, sym, subst, Option, Some, None, unwrap_or, Result, Ok, Err}
+use Rattle.std.proofs.Common.{arith, ◌≡◌, ℕ, ◌+◌, ◌-◌, ◌*◌, ◌≤◌, Bool, true, false, false, get_or, List, [], ◌∷◌, refl, ap, subst, Option, Some, None, unwrap_or, Result, Ok, Err}
 use Rattle.std.specs.Option.{option_map}
 use Rattle.flop_base.specs.Bays.{Two, in_bay}
 use Rattle.flop_base.specs.Shelf.{Files}
@@ -17,7 +17,6 @@ use Rattle.sector_model.specs.declared.reply.Reply.{Reply}
 use Rattle.sector_model.specs.declared.reply.Reply.TheVariants as reply
 use Rattle.sector_model.specs.Lasting.{turn_of}
 use Rattle.sector_model.specs.Stations.{StationState, bay_of}
-use Rattle.sector_model.specs.States.{State}
 use Rattle.sector_model.specs.Steps.{Step, IsImageOf}
 use Rattle.sector_model.specs.declared.reply.Stop.{Stop}
 use Rattle.sector_model.specs.Texts.{is_refusal, stop_lines, stop_status}
@@ -25,9 +24,9 @@ use Rattle.sector_model.specs.Runs.{Taken}
 use Rattle.sector_model.specs.Plays.{World}
 use Rattle.floppy_session.specs.Blanks.{blank_request}
 use Rattle.floppy_session.specs.declared.shape.Shape.{Shape}
-use Rattle.floppy_session.specs.Shapes.{shape_of, shape_in}
-use Rattle.commands.specs.Scripts.{Script, RunsScript, unless_refused}
-use Rattle.commands.specs.Parts.{Part, asks, says, carries, needs, may_starve, shape_at, no_tracks, opens, acknowledges, each, by_track, formats}
+use Rattle.floppy_session.specs.Shapes.{shape_of}
+use Rattle.commands.specs.Scripts.{Script, RunsScript}
+use Rattle.commands.specs.Parts.{asks, says, carries, needs, may_starve, shape_at, no_tracks, opens, acknowledges, formats}
 use Rattle.commands.specs.Records.{record_address, track_address}
 use Rattle.disk_commands.specs.Format.{formats_disk, format_script}
 use Rattle.disk_commands.specs.Verify.{tells_failure, verifies_record, verifies_track, verify_script, reads_disk, one_more}
@@ -100,9 +99,10 @@ module _ (one : Request → StationState → ℕ) (sum : StationState → List T
       later before after course end holds.0 (subst (λ (s : Shape). RunsScript (rest s) before course after end) holds.1 run))
       (record old { state = taken.after; files = runs.1 }) new more ended
       (λ fine.
-      (let turn = turn_by_shape (bay_of taken.after.station 0).medium (shape_of disk) (shaped fine) in
-      (step_turns limit 3 old.state taken.after (Some files) runs.1 asked taken.answer (omega (arith, turn, short)) step has,
-      ap (λ (o : Option Shape). unwrap_or o no_tracks) (shaped fine))))
+      (let turn = turn_by_shape (bay_of taken.after.station 0).medium (shape_of disk) (shaped fine) in (
+        step_turns limit 3 old.state taken.after (Some files) runs.1 asked taken.answer (omega (arith, turn, short)) step has,
+        ap (λ (o : Option Shape). unwrap_or o no_tracks) (shaped fine),
+      )))
       runs.3 in
       omega (arith, first, same, free, left)
 

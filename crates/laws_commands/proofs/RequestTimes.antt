@@ -1,7 +1,7 @@
 -- What each request costs at most, and what it leaves of a station that is made ready.
-use Rattle.std.proofs.Common.{arith, ◌≡◌, ◌∙◌, ℕ, ◌+◌, ◌*◌, ◌≤◌, ◌==◌, Bool, true, false, if◌then◌else◌, List, refl, ap, sym, subst, Option, Some, Result, Ok, Err}
+use Rattle.std.proofs.Common.{arith, ◌≡◌, ◌∙◌, ℕ, ◌+◌, ◌*◌, ◌≤◌, ◌==◌, Bool, true, false, if◌then◌else◌, List, refl, ap, Option, Result, Ok, Err}
 use Rattle.std.specs.Prelude.{MatchOption}
-use Rattle.std.proofs.Math.Nat.{mul-le-mul, mul-le-mul_left, mul-le-mul_right}
+use Rattle.std.proofs.Math.Nat.{mul-le-mul}
 use Rattle.flop_base.specs.Bays.{Two, in_bay}
 use Rattle.flop_base.specs.Shelf.{Files}
 use Rattle.flop_base.specs.Standard.{gap_at, sectors_at, words_at}
@@ -20,11 +20,10 @@ use Rattle.sector_model.specs.Stations.{StationState, Bay, Becomes, bay_of, set_
 use Rattle.sector_model.specs.Times.{course_port_accesses, course_time, port_accesses_of, time_of}
 use Rattle.sector_model.specs.States.{State}
 use Rattle.sector_model.specs.Steps.{Step, Does, refusal_of}
-use Rattle.sector_model.specs.Texts.{is_refusal}
 use Rattle.floppy_session.specs.Blanks.{blank_request}
 use Rattle.commands.specs.Parts.{acknowledges, sets_rate}
 use Rattle.laws_commands.specs.Times.{RequestCosts, times_at, port_accesses_at, ready_cost}
-use Rattle.laws_commands.proofs.ScriptTimes.{IsSum, Costs, PartCosts, Leads, carries_cost, more_cost}
+use Rattle.laws_commands.proofs.ScriptTimes.{IsSum, PartCosts, Leads, carries_cost, more_cost}
 use Rattle.laws_commands.proofs.Steps.{either, ok_called, reached}
 use Rattle.laws_commands.proofs.Turns.{HasTurns, IsFair, bay_set, step_turns, turn_in}
 

@@ -10,7 +10,6 @@ use Rattle.flop_base.specs.declared.answers.Status.TheVariants as status
 use Rattle.flop_base.specs.declared.key.Chrn.{Chrn}
 use Rattle.raw_image.specs.Disk.{Disk}
 use Rattle.floppy_jobs.specs.declared.request.Request.{Request}
-use Rattle.floppy_jobs.specs.declared.request.Request.TheVariants as request
 use Rattle.sector_model.specs.declared.reply.Reply.{Reply}
 use Rattle.sector_model.specs.declared.reply.Reply.TheVariants as reply
 use Rattle.sector_model.specs.declared.reply.Reason.{Reason}
@@ -20,14 +19,14 @@ use Rattle.sector_model.specs.Steps.{IsImageOf}
 use Rattle.sector_model.specs.Runs.{Taken}
 use Rattle.sector_model.specs.Plays.{World}
 use Rattle.floppy_session.specs.Shapes.{shape_of}
-use Rattle.commands.specs.Scripts.{Script, Asks, Stores}
+use Rattle.commands.specs.Scripts.{Asks, Stores}
 use Rattle.commands.specs.Parts.{asks, carries, may_starve, formats}
 use Rattle.rescue.specs.Course.{read_of, write_of, after_refusal, outcome_status, standard_keys}
 use Rattle.rescue.specs.Log.{log_text}
 use Rattle.rescue.specs.declared.line.LogLine.{LogLine}
 use Rattle.rescue.specs.declared.course.AfterRead.{AfterRead}
 use Rattle.rescue.specs.declared.course.AfterRead.TheVariants as next
-use Rattle.disk_commands.specs.Rescue.{acknowledges_both, after_answer, does_next, follows, last_text, outcome_of, rescues, prepares, prepares_new, rescues_all, stores_log, rescue_found, rescue_rest, Rescues}
+use Rattle.disk_commands.specs.Rescue.{acknowledges_both, after_answer, does_next, follows, last_text, outcome_of, rescues, prepares, prepares_new, rescues_all, stores_log, rescue_found, Rescues}
 use Rattle.disk_commands.specs.Logs.{AreFound}
 use Rattle.disk_commands.proofs.RescueRests.{by_absent}
 use Rattle.laws_commands.specs.Times.{RequestCosts, ready_cost, rescue_cost}

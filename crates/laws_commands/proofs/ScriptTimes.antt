@@ -1,6 +1,5 @@
 -- What the runs of a script cost at most. The cost of a run is the sum of what its requests cost.
-use Rattle.std.proofs.Common.{arith, ◌≡◌, ℕ, zero, suc, ◌+◌, ◌*◌, ◌≤◌, ◌==◌, Bool, true, false, if◌then◌else◌, List, [], ◌∷◌, length, refl, ap, ◌∙◌, inl, inr, Option, Result, Ok, Err}
-use Rattle.flop_base.specs.Bays.{Two, in_bay}
+use Rattle.std.proofs.Common.{arith, ◌≡◌, ℕ, zero, suc, ◌+◌, ◌*◌, ◌≤◌, false, List, [], ◌∷◌, length, refl, ap, inl, inr, Option}
 use Rattle.flop_base.specs.Shelf.{Files}
 use Rattle.flop_base.specs.Sink.{grown}
 use Rattle.flop_base.specs.declared.answers.Status.{Status}
@@ -16,7 +15,7 @@ use Rattle.sector_model.specs.Runs.{Taken}
 use Rattle.sector_model.specs.Plays.{World}
 use Rattle.commands.specs.LastLines.{stopped_text}
 use Rattle.commands.specs.Scripts.{Script, Ends, Says, Asks, Stores, MayStarve, Fails, RunsScript, unless_refused}
-use Rattle.commands.specs.Parts.{Part, asks, says, needs, carries, through, each, by_track}
+use Rattle.commands.specs.Parts.{Part, needs, carries, through, each, by_track}
 
 -- the sum over a course of what each request costs, by the station that it finds
 pub record IsSum (one : Request → StationState → ℕ) (sum : StationState → List Taken → ℕ) : Type 0 where

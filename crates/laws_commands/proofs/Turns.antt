@@ -4,11 +4,9 @@ use Rattle.std.specs.Prelude.{MatchBool, MatchOption}
 use Rattle.flop_base.specs.Bays.{Two, both, in_bay}
 use Rattle.flop_base.specs.Lists.{with_items}
 use Rattle.flop_base.specs.Shelf.{Files, after_store}
-use Rattle.flop_base.specs.Standard.{gap_at, standard_fill, words_at}
+use Rattle.flop_base.specs.Standard.{gap_at}
 use Rattle.flop_base.specs.declared.answers.Code.{Code}
 use Rattle.flop_base.specs.declared.answers.Code.TheVariants.{BadRequest}
-use Rattle.flop_base.specs.declared.answers.Rate.{Rate}
-use Rattle.flop_base.specs.declared.answers.Rate.TheVariants.{R500, R250}
 use Rattle.flop_base.specs.declared.key.Chrn.{Chrn}
 use Rattle.raw_image.specs.Disk.{Disk}
 use Rattle.floppy_jobs.specs.declared.request.Request.{Request}
@@ -21,10 +19,10 @@ use Rattle.sector_model.specs.Stations.{StationState, Bay, Becomes, bay_of, set_
 use Rattle.sector_model.specs.Orders.{IsRefusedAtOnce, is_bay, read_refusal, write_refusal, format_refusal, rate_refusal}
 use Rattle.sector_model.specs.Calls.{AcksDrive, SetsRate}
 use Rattle.sector_model.specs.Reads.{ReadsDrive}
-use Rattle.sector_model.specs.Writes.{Reaches, ChangesDisk, WritesDrive, WritesTo}
+use Rattle.sector_model.specs.Writes.{Reaches, ChangesDisk, WritesDrive}
 use Rattle.sector_model.specs.Formats.{Lays, LaysDisk, FormatsDrive}
 use Rattle.sector_model.specs.States.{State, ChangesMedium}
-use Rattle.sector_model.specs.Steps.{Step, Does, IsImageOf, refusal_of}
+use Rattle.sector_model.specs.Steps.{Step, Does, refusal_of}
 use Rattle.sector_model.specs.Runs.{Taken, Run, requests_of}
 use Rattle.sector_model.specs.Times.{AreWithin, IsWithin}
 use Rattle.laws_commands.specs.Times.{SetsAtMost, PutsShort, ArePutShort}

@@ -1,5 +1,5 @@
 -- How long whole commands last at most, and how many port accesses they make, whatever faults come.
-use Rattle.std.specs.Prelude.{ℕ, ◌+◌, ◌*◌, ◌≤◌, List, [], ◌∷◌}
+use Rattle.std.specs.Prelude.{false, ℕ, ◌+◌, ◌*◌, ◌≤◌, List, [], ◌∷◌}
 use Rattle.flop_base.specs.Standard.{sectors_at, words_at}
 use Rattle.flop_base.specs.declared.answers.Rate.{Rate}
 use Rattle.flop_base.specs.declared.answers.Rate.TheVariants.{R500, R250}
@@ -139,3 +139,14 @@ rescue_time disk = 2 + rescue_cost (times_at disk.words_per_track disk.rate) (ti
 
 abbrev pub rescue_port_accesses : Disk → ℕ
 rescue_port_accesses disk = 22 + rescue_cost (port_accesses_at disk.rate) (port_accesses_at disk.rate) disk
+
+-- a disk of 80 cylinders and two heads, whose tracks have the usual number of words
+abbrev pub standard_disk : Rate → List ℕ → Disk
+standard_disk rate words = record {
+  protected = false;
+  cylinders = 80;
+  heads = 2;
+  rate = rate;
+  words_per_track = words_at rate;
+  words = words;
+}

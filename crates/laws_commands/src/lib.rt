@@ -21,7 +21,7 @@ mod rescue_stores;
 mod short_tracks;
 mod stores;
 mod targets;
-
+mod times;
 mod verify_ends;
 mod verify_runs;
 
@@ -50,6 +50,6 @@ pub use targets::{
     copied_disk_is_a_target, formatted_disk_is_a_target, imported_disk_is_a_target,
     target_takes_keys,
 };
-
+pub use times::standard_disks_take_this_long;
 pub use verify_ends::verify_ends_well;
 pub use verify_runs::verify_tells_failing_keys;

@@ -1,5 +1,5 @@
 -- How long a whole job lasts at most, and how many port accesses it makes, by its requests alone.
-use Rattle.std.proofs.Common.{arith, ◌≡◌, ◌∙◌, ℕ, zero, suc, ◌+◌, ◌≤◌, All, List, [], ◌∷◌, ◌++◌, length, refl, ap, sym, subst, append-nil, append_assoc, Option, Some, None, Result, Ok, Err}
+use Rattle.std.proofs.Common.{arith, ◌≡◌, ◌∙◌, ℕ, zero, suc, ◌+◌, ◌≤◌, All, List, [], ◌∷◌, ◌++◌, length, refl, ap, sym, subst, append-nil, append_assoc, Option, Some, Result, Ok}
 use Rattle.std.specs.Prelude.{sum_by}
 use Rattle.std.proofs.lemmas.List.Elements.{All-nil}
 use Rattle.std.proofs.lemmas.List.Sums.{sum_by-append}
@@ -20,7 +20,7 @@ use Rattle.sector_model.specs.Stations.{StationState, Bay, IsFresh}
 use Rattle.sector_model.specs.Runs.{Taken, Run, requests_of}
 use Rattle.sector_model.specs.Plays.{World, Plays, There, Missing, TooLong, Faulty, Starved, PlaysParsed, PlaysRequests, Played, Stopped, BrokenOff, EndStopped, IsText}
 use Rattle.sector_model.specs.Ties.{IsJob}
-use Rattle.sector_model.specs.Times.{AreWithin, IsWithin, course_port_accesses, course_time, job_port_accesses, job_time, most_port_accesses, most_time}
+use Rattle.sector_model.specs.Times.{IsWithin, course_port_accesses, job_port_accesses, job_time, most_port_accesses, most_time}
 use Rattle.sector_model.proofs.JobTimes.{course_accesses_within, course_within}
 use Rattle.sector_model.proofs.Runs.{requests_more}
 use Rattle.text_commands.specs.JobRounds.{world}
@@ -52,9 +52,11 @@ first_requests : (requests : List Request) (old new : World) (course : List Take
 first_requests requests old new course ended (Played is) = first_all requests course is.all
 first_requests requests old new course ended (Stopped is) = (is.asked ∷ is.later, is.all)
 first_requests requests old new course ended (BrokenOff is) =
-    subst (λ (c : List Taken). AsksFirst requests c) (sym is.course_is)
-    (is.later, is.all ∙ sym (append_assoc (requests_of is.before) (is.last.asked ∷ []) is.later)
-    ∙ ap (λ (row : List Request). row ++ is.later) (sym (requests_more is.before is.last)))
+    subst (λ (c : List Taken). AsksFirst requests c) (sym is.course_is) (
+      is.later,
+      is.all ∙ sym (append_assoc (requests_of is.before) (is.last.asked ∷ []) is.later)
+          ∙ ap (λ (row : List Request). row ++ is.later) (sym (requests_more is.before is.last)),
+    )
 first_requests requests old new course ended (EndStopped is) = first_all requests course is.all
 
 one_text : (o : Option (List ℕ)) (a b : List ℕ) → o ≡ Some a → o ≡ Some b → a ≡ b
@@ -135,7 +137,8 @@ job_run job spares old new before after ended requests over is =
     let more_time = first_sum (most_time 16384 10) requests course first in
     let accesses = course_accesses_within 16384 10 start course within in
     let more_accesses = first_sum (most_port_accesses 10) requests course first in
-    let lasts = machine_lasts (Some (form.Play job)) spares old new before after ended over in
-    (omega (arith, lasts, time, more_time),
-    used_within (length old.bus.gaps) (length new.bus.gaps) (22 + course_port_accesses start course) (22 + job_port_accesses 10 requests)
-    old.bus.taken new.bus.taken (omega (arith, accesses, more_accesses)) (machine_uses (Some (form.Play job)) spares old new before after ended over))
+    let lasts = machine_lasts (Some (form.Play job)) spares old new before after ended over in (
+      omega (arith, lasts, time, more_time),
+      used_within (length old.bus.gaps) (length new.bus.gaps) (22 + course_port_accesses start course) (22 + job_port_accesses 10 requests)
+          old.bus.taken new.bus.taken (omega (arith, accesses, more_accesses)) (machine_uses (Some (form.Play job)) spares old new before after ended over),
+    )

@@ -1,5 +1,5 @@
 -- How long whole commands over a machine last at most, and how many port accesses they make.
-use Rattle.std.proofs.Common.{arith, ◌≡◌, ℕ, ◌+◌, ◌-◌, ◌≤◌, List, [], length, refl, ap, subst, sym, Option, Some, None}
+use Rattle.std.proofs.Common.{arith, ◌≡◌, ℕ, ◌+◌, ◌-◌, ◌≤◌, List, length, ap, Some, None}
 use Rattle.flop_base.proofs.Costs.{used_within}
 use Rattle.flop_base.specs.Bays.{Two, in_bay}
 use Rattle.flop_base.specs.Counters.{DriveCounts}
@@ -11,8 +11,6 @@ use Rattle.flop_base.specs.declared.answers.Status.{Status}
 use Rattle.raw_image.specs.Disk.{Disk}
 use Rattle.floppy_jobs.specs.declared.request.Request.{Request}
 use Rattle.pc_bus.specs.Boards.{Board}
-use Rattle.laws_machine.specs.OnSteps.Lasts.{clock_of}
-use Rattle.laws_machine.specs.OnSteps.Uses.{Uses}
 use Rattle.sector_model.specs.Lasting.{turn_of}
 use Rattle.sector_model.specs.Stations.{StationState, Bay, IsFresh}
 use Rattle.sector_model.specs.Steps.{IsImageOf}
@@ -80,10 +78,11 @@ module _ (asked : Form) (spares : List DriveCounts) (old new : Board) (before af
       let time = within time_of course_time time_sum steps
       (costs time_of course_time time_sum (λ bay. times_at (in_bay limit bay) rate) (times_charged limit rate) has) in
       let uses = within port_accesses_of course_port_accesses port_access_sum accesses
-      (costs port_accesses_of course_port_accesses port_access_sum (λ bay. port_accesses_at rate) (port_accesses_charged limit rate) has) in
-      (omega (arith, lasts, time),
-      used_within (length old.bus.gaps) (length new.bus.gaps) (22 + course_port_accesses over.start.station over.runs.course) (22 + accesses)
-      old.bus.taken new.bus.taken (omega (arith, uses)) (machine_uses (Some asked) spares old new before after ended over))
+      (costs port_accesses_of course_port_accesses port_access_sum (λ bay. port_accesses_at rate) (port_accesses_charged limit rate) has) in (
+        omega (arith, lasts, time),
+        used_within (length old.bus.gaps) (length new.bus.gaps) (22 + course_port_accesses over.start.station over.runs.course) (22 + accesses)
+            old.bus.taken new.bus.taken (omega (arith, uses)) (machine_uses (Some asked) spares old new before after ended over),
+      )
 
 -- ---- The commands.
 

@@ -1,5 +1,5 @@
 // How long whole commands last at most, and how many port accesses they make.
-ghost use Rattle.std.specs.Prelude.{◌≡◌, ◌+◌, List, ℕ, None, Option, Some};
+ghost use Rattle.std.specs.Prelude.{◌≡◌, ◌+◌, List, ℕ, None, Some};
 ghost use Rattle.flop_base.specs.Counters.{DriveCounts};
 ghost use Rattle.flop_base.specs.Shelf.{Files, file_at};
 ghost use Rattle.flop_base.specs.declared.answers.Rate.{Rate};

@@ -1,5 +1,4 @@
 use Rattle.laws_commands.proofs.Turns.{course_short, told_short}
-use Rattle.laws_commands.proofs.RescueTimes.{rescue_most}
 use Rattle.laws_commands.proofs.short_tracks.media_have_short_tracks.Goals as goal
 
 pub returns : goal.returns
