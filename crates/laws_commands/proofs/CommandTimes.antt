@@ -1,5 +1,5 @@
 -- How long whole commands last at most, and how many port accesses they make.
-use Rattle.std.proofs.Common.{arith, ◌≡◌, ℕ, ◌+◌, ◌-◌, ◌*◌, ◌≤◌, Bool, true, false, false, get_or, List, [], ◌∷◌, refl, ap, subst, Option, Some, None, unwrap_or, Result, Ok, Err}
+use Rattle.std.proofs.Common.{arith, ◌≡◌, ◌∙◌, ℕ, ◌+◌, ◌-◌, ◌*◌, ◌≤◌, Bool, true, false, false, get_or, List, [], ◌∷◌, refl, ap, subst, Option, Some, unwrap_or, Result, Ok, Err}
 use Rattle.std.specs.Option.{option_map}
 use Rattle.flop_base.specs.Bays.{Two, in_bay}
 use Rattle.flop_base.specs.Shelf.{Files}
@@ -16,7 +16,8 @@ use Rattle.floppy_jobs.specs.declared.request.Request.TheVariants as request
 use Rattle.sector_model.specs.declared.reply.Reply.{Reply}
 use Rattle.sector_model.specs.declared.reply.Reply.TheVariants as reply
 use Rattle.sector_model.specs.Lasting.{turn_of}
-use Rattle.sector_model.specs.Stations.{StationState, bay_of}
+use Rattle.sector_model.specs.Stations.{StationState, Bay, bay_of, fresh_bay}
+use Rattle.sector_model.specs.States.{State}
 use Rattle.sector_model.specs.Steps.{Step, IsImageOf}
 use Rattle.sector_model.specs.declared.reply.Stop.{Stop}
 use Rattle.sector_model.specs.Texts.{is_refusal, stop_lines, stop_status}
@@ -36,21 +37,29 @@ use Rattle.disk_commands.specs.Import as flat
 use Rattle.disk_commands.specs.Export as out
 use Rattle.laws_commands.specs.Times.{RequestCosts, ready_cost, format_cost, verify_cost, copy_cost, import_cost, export_cost}
 use Rattle.laws_commands.proofs.FlatEnds.{one_flat, one_rate}
-use Rattle.laws_commands.proofs.PutIn.{put_shape}
 use Rattle.laws_commands.proofs.RequestTimes.{AreCharged, IsOnTracks, IsReady, acknowledges_cost, blank_fair, track_ready}
-use Rattle.laws_commands.proofs.ScriptTimes.{IsSum, Costs, PartCosts, Leads, asks_cost, carries_cost, each_cost, ends_cost, idle_cost, more_cost, needs_cost, says_cost, starve_cost, stores_cost, tracks_cost, unless_cost}
-use Rattle.laws_commands.proofs.Turns.{HasTurns, step_turns}
+use Rattle.laws_commands.proofs.ScriptTimes.{IsSum, Costs, CostsTold, PartCosts, Leads, asks_cost, carries_cost, each_cost, ends_cost, idle_cost, more_cost, needs_cost, says_cost, starve_cost, stores_cost, tracks_cost, unless_run}
+use Rattle.laws_commands.proofs.Turns.{HasTurns, bay_set, step_turns}
+use Rattle.laws_commands.proofs.Steps.{done_does}
+use Rattle.laws_commands.proofs.Verified.{one_image}
 use Rattle.laws_commands.proofs.VerifyRun.{Tally}
 
-abbrev some_shape : Shape → Option Shape
-some_shape shape = Some shape
+-- the disk of a told file is in a bay after an insert that wasn't refused
+pub record IsInserted (bay : ℕ) (files : Files) (disk : Disk) (new : State) (after : Option Files) : Type 0 where
+  pub medium : (bay_of new.station bay).medium ≡ Some disk
+  pub turn : turn_of (bay_of new.station bay).medium ≡ disk.words_per_track
+  pub told : after ≡ Some files
 
-turn_by_shape : (medium : Option Disk) (shape : Shape) → option_map shape_of medium ≡ Some shape → turn_of medium ≡ shape.words
-turn_by_shape None shape same = absurd (cc same)
-turn_by_shape (Some disk) shape same = ap (λ (s : Shape). s.words) (given (shape_of disk) shape same)
-  where
-    given : (a b : Shape) → some_shape a ≡ some_shape b → a ≡ b
-    given a b same = cc same
+pub inserted : (bay : ℕ) (name : List ℕ) (files : Files) (disk : Disk) (old new : State) (after : Option Files) (answer : Reply)
+    → IsImageOf (Some files) name disk → Step (request.Insert bay name) old (Some files) answer new after → is_refusal answer ≡ false
+    → IsInserted bay files disk new after
+inserted bay name files disk old new after answer image step fine =
+    let does = done_does old new (Some files) after (request.Insert bay name) answer step fine in
+    let same : does.2.0 ≡ disk = one_image files name does.2.0 disk does.2.1 image in
+    let medium : (bay_of new.station bay).medium ≡ Some disk =
+    ap (λ (s : StationState). (bay_of s bay).medium) does.2.2.exchanged.becomes
+    ∙ ap (λ (b : Bay). b.medium) (bay_set old.station bay (fresh_bay (Some does.2.0))) ∙ ap (λ (d : Disk). Some d) same in
+    record { medium = medium; turn = ap turn_of medium; told = does.1 }
 
 module _ (one : Request → StationState → ℕ) (sum : StationState → List Taken → ℕ) (is : IsSum one sum) (limit : Two ℕ) (rate : Rate)
     (costs : ℕ → RequestCosts) (charged : AreCharged one limit rate costs) where
@@ -81,30 +90,30 @@ module _ (one : Request → StationState → ℕ) (sum : StationState → List T
       (λ s ready. charged.format bay c h s ready) (on_tracks bay (request.Format bay c h) tt)
 
   -- the disk of a told file is put in
-  pub opened_cost : (name : List ℕ) (files : Files) (disk : Disk) (n : ℕ) (rest : Shape → Script) (old new : World) (course : List Taken) (ended : Status)
-      → old.files ≡ Some files → IsImageOf (Some files) name disk → disk.words_per_track ≤ limit.first → Turned old.state.station
-      → Costs sum Turned n (rest (shape_of disk)) → RunsScript (opens name rest) old course new ended → sum old.state.station course ≤ n
+  pub opened_told : (name : List ℕ) (files : Files) (disk : Disk) (n : ℕ) (rest : Shape → Script) → IsImageOf (Some files) name disk
+      → disk.words_per_track ≤ limit.first → CostsTold sum files Turned n (rest (shape_of disk)) → CostsTold sum files Turned n (opens name rest)
   unfolding opens needs
-  opened_cost name files disk n rest old new [] ended told image short has later runs = idle_cost one sum is old.state.station [] n refl
-  opened_cost name files disk n rest old new (taken ∷ more) ended told image short has later runs =
-      let step = subst (λ (f : Option Files). Step (request.Insert 0 name) old.state f taken.answer taken.after runs.1) told runs.2 in
+  opened_told name files disk n rest image short later old new [] ended told has runs = idle_cost one sum is old.state.station [] n refl
+  opened_told name files disk n rest image short later old new (taken ∷ more) ended told has runs =
       let asked : Request = request.Insert 0 name in
-      let found = shape_at taken.after 0 in
-      let shaped = λ (fine : is_refusal taken.answer ≡ false). put_shape name disk files old.state taken.after runs.1 taken.answer image step fine in
+      let step = subst (λ (f : Option Files). Step asked old.state f taken.answer taken.after runs.1) told runs.2 in
       let first = is.more old.state.station taken more in
       let same = ap (λ (q : Request). one q old.state.station) runs.0 in
       let free = charged.insert 0 name old.state.station in
-      let left = unless_cost one sum is (λ s. Turned s × (found ≡ shape_of disk)) n asked taken.answer (rest found)
-      (λ before after course end holds run.
-      later before after course end holds.0 (subst (λ (s : Shape). RunsScript (rest s) before course after end) holds.1 run))
-      (record old { state = taken.after; files = runs.1 }) new more ended
-      (λ fine.
-      (let turn = turn_by_shape (bay_of taken.after.station 0).medium (shape_of disk) (shaped fine) in (
-        step_turns limit 3 old.state taken.after (Some files) runs.1 asked taken.answer (omega (arith, turn, short)) step has,
-        ap (λ (o : Option Shape). unwrap_or o no_tracks) (shaped fine),
-      )))
-      runs.3 in
+      let mid : World = record old { state = taken.after; files = runs.1 } in
+      let left = unless_run one sum is n asked taken.answer (rest (shape_at taken.after 0)) mid new more ended (λ fine run.
+      (let put = inserted 0 name files disk old.state taken.after runs.1 taken.answer image step fine in
+      let turn = put.turn in
+      let shaped : shape_at taken.after 0 ≡ shape_of disk = ap (λ (m : Option Disk). unwrap_or (option_map shape_of m) no_tracks) put.medium in
+      later mid new more ended put.told
+      (step_turns limit 3 old.state taken.after (Some files) runs.1 asked taken.answer (omega (arith, turn, short)) step has)
+      (subst (λ (s : Shape). RunsScript (rest s) mid more new ended) shaped run))) runs.3 in
       omega (arith, first, same, free, left)
+
+  pub opened_cost : (name : List ℕ) (files : Files) (disk : Disk) (n : ℕ) (rest : Shape → Script) → IsImageOf (Some files) name disk
+      → disk.words_per_track ≤ limit.first → Costs sum Turned n (rest (shape_of disk)) → CostsTold sum files Turned n (opens name rest)
+  opened_cost name files disk n rest image short later =
+      opened_told name files disk n rest image short (λ old new course ended told has runs. later old new course ended has runs)
 
   -- ---- A format.
 
@@ -307,21 +316,21 @@ module _ (one : Request → StationState → ℕ) (sum : StationState → List T
       let ready = ready_cost (costs 0) disk.rate in
       let track = sectors_at disk.rate * (costs 0).read in
       let tracks = disk.cylinders * (disk.heads * track) in
-      opened_cost one sum is limit disk.rate costs charged name files disk (ready + tracks) _ old new course ended told image short has
+      opened_cost one sum is limit disk.rate costs charged name files disk (ready + tracks) _ image short
       (more_cost one sum is (HasTurns limit 3) (HasTurns limit 3) (ready + (tracks + 0)) (ready + tracks) _ (omega arith) (λ s has. has)
       (made_ready one sum is limit disk.rate costs charged 0 (tracks + 0) _ (λ none.
       tracks_cost one sum is (IsReady limit 0 disk.rate) track (verifies_track (sectors_at disk.rate)) (verified_track one sum is limit disk.rate costs charged)
-      disk.cylinders disk.heads _ 0 _ (λ tally. ends_cost one sum is (IsReady limit 0 disk.rate) 0 _ _)))) runs
+      disk.cylinders disk.heads _ 0 _ (λ tally. ends_cost one sum is (IsReady limit 0 disk.rate) 0 _ _)))) old new course ended told has runs
 
   pub copy_most : (to : List ℕ) → words_at disk.rate ≤ limit.second → RunsScript (copy_script name to) old course new ended
       → sum old.state.station course ≤ copy_cost (costs 0) (costs 1) disk
   unfolding copy_script makes_copy
   copy_most to long runs =
-      opened_cost one sum is limit disk.rate costs charged name files disk (copy_cost (costs 0) (costs 1) disk) _ old new course ended told image short has
-      (copied one sum is limit disk.rate costs charged to disk.cylinders disk.heads disk.words_per_track _ long (ends_cost one sum is (λ s. Unit {0}) 0 _ _)) runs
+      opened_cost one sum is limit disk.rate costs charged name files disk (copy_cost (costs 0) (costs 1) disk) _ image short
+      (copied one sum is limit disk.rate costs charged to disk.cylinders disk.heads disk.words_per_track _ long (ends_cost one sum is (λ s. Unit {0}) 0 _ _)) old new course ended told has runs
 
   pub export_most : (flat : List ℕ) → RunsScript (out.export_script name flat) old course new ended
       → sum old.state.station course ≤ export_cost (costs 0) disk.rate
   export_most flat runs =
-      opened_cost one sum is limit disk.rate costs charged name files disk (export_cost (costs 0) disk.rate) _ old new course ended told image short has
-      (exported one sum is limit disk.rate costs charged _ (λ bytes. stores_cost one sum is (IsReady limit 0 disk.rate) 0 flat bytes _ _)) runs
+      opened_cost one sum is limit disk.rate costs charged name files disk (export_cost (costs 0) disk.rate) _ image short
+      (exported one sum is limit disk.rate costs charged _ (λ bytes. stores_cost one sum is (IsReady limit 0 disk.rate) 0 flat bytes _ _)) old new course ended told has runs

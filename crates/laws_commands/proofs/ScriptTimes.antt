@@ -1,5 +1,5 @@
 -- What the runs of a script cost at most. The cost of a run is the sum of what its requests cost.
-use Rattle.std.proofs.Common.{arith, ◌≡◌, ℕ, zero, suc, ◌+◌, ◌*◌, ◌≤◌, false, List, [], ◌∷◌, length, refl, ap, inl, inr, Option}
+use Rattle.std.proofs.Common.{arith, ◌≡◌, ℕ, zero, suc, ◌+◌, ◌*◌, ◌≤◌, false, List, [], ◌∷◌, length, refl, ap, inl, inr, Option, Some}
 use Rattle.flop_base.specs.Shelf.{Files}
 use Rattle.flop_base.specs.Sink.{grown}
 use Rattle.flop_base.specs.declared.answers.Status.{Status}
@@ -27,6 +27,12 @@ pub record IsSum (one : Request → StationState → ℕ) (sum : StationState �
 abbrev pub Costs : (StationState → List Taken → ℕ) → (StationState → Type 0) → ℕ → Script → Type 0
 Costs sum From most script =
     (old new : World) (course : List Taken) (ended : Status) → From old.state.station → RunsScript script old course new ended
+    → sum old.state.station course ≤ most
+
+-- the same where the files are told
+abbrev pub CostsTold : (StationState → List Taken → ℕ) → Files → (StationState → Type 0) → ℕ → Script → Type 0
+CostsTold sum files From most script =
+    (old new : World) (course : List Taken) (ended : Status) → old.files ≡ Some files → From old.state.station → RunsScript script old course new ended
     → sum old.state.station course ≤ most
 
 -- the part costs at most this, whatever comes after it; and it leaves a station such as what comes after it is given
@@ -90,13 +96,15 @@ module _ (one : Request → StationState → ℕ) (sum : StationState → List T
       (leads old.state taken.after old.files runs.1 taken.answer holds runs.2) runs.3 in
       omega (arith, first, same, few, left)
 
-  pub unless_cost : (To : StationState → Type 0) (n : ℕ) (asked : Request) (answer : Reply) (later : Script) → Costs sum To n later
-      → Costs sum (λ s. is_refusal answer ≡ false → To s) n (unless_refused asked answer later)
-  unless_cost To n asked (reply.Refused cause) later costs old new course ended holds runs =
+  -- what follows a request is run only if the request wasn't refused
+  pub unless_run : (n : ℕ) (asked : Request) (answer : Reply) (later : Script) (old new : World) (course : List Taken) (ended : Status)
+      → (is_refusal answer ≡ false → RunsScript later old course new ended → sum old.state.station course ≤ n)
+      → RunsScript (unless_refused asked answer later) old course new ended → sum old.state.station course ≤ n
+  unless_run n asked (reply.Refused cause) later old new course ended few runs =
       ends_cost (λ s. Unit {0}) n (stopped_text asked cause ∷ []) status.SomeRefused old new course ended tt runs
-  unless_cost To n asked reply.Done later costs old new course ended holds runs = costs old new course ended (holds refl) runs
-  unless_cost To n asked reply.DoneDeleted later costs old new course ended holds runs = costs old new course ended (holds refl) runs
-  unless_cost To n asked (reply.Bytes address content) later costs old new course ended holds runs = costs old new course ended (holds refl) runs
+  unless_run n asked reply.Done later old new course ended few runs = few refl runs
+  unless_run n asked reply.DoneDeleted later old new course ended few runs = few refl runs
+  unless_run n asked (reply.Bytes address content) later old new course ended few runs = few refl runs
 
   pub needs_cost : (From To : StationState → Type 0) (price n : ℕ) (asked : Request) (rest : Reply → State → Script)
       → ((s : StationState) → From s → one asked s ≤ price) → Leads From asked To
@@ -104,7 +112,8 @@ module _ (one : Request → StationState → ℕ) (sum : StationState → List T
   unfolding needs
   needs_cost From To price n asked rest least leads later =
       asks_cost From (λ answer s. is_refusal answer ≡ false → To s) price n asked (λ answer after. unless_refused asked answer (rest answer after)) least leads
-      (λ answer after. unless_cost To n asked answer (rest answer after) (later answer after))
+      (λ answer after old new course ended holds runs.
+      unless_run n asked answer (rest answer after) old new course ended (λ fine run. later answer after old new course ended (holds fine) run) runs)
 
   pub carries_cost : (From To : StationState → Type 0) (price : ℕ) (asked : Request) → ((s : StationState) → From s → one asked s ≤ price)
       → Leads From asked To → PartCosts sum From To price (carries asked)

@@ -96,6 +96,10 @@ rescue_cost first second disk =
     ready_cost first disk.rate + (ready_cost second disk.rate + (disk.cylinders * (disk.heads * second.format)
     + disk.cylinders * disk.heads * sectors_at disk.rate * (first.read + second.write)))
 
+-- each of so many records of a log is read in bay 0, and written in bay 1 if it could be read
+abbrev pub further_rescue_cost : RequestCosts → RequestCosts → Rate → ℕ → ℕ
+further_rescue_cost first second rate records = ready_cost first rate + (ready_cost second rate + records * (first.read + second.write))
+
 -- ---- Whole runs over a machine: the set-up takes two device steps and 22 port accesses.
 
 -- a format of a disk of this many cylinders
@@ -139,6 +143,15 @@ rescue_time disk = 2 + rescue_cost (times_at disk.words_per_track disk.rate) (ti
 
 abbrev pub rescue_port_accesses : Disk → ℕ
 rescue_port_accesses disk = 22 + rescue_cost (port_accesses_at disk.rate) (port_accesses_at disk.rate) disk
+
+-- a rescue of so many records of the disk, which goes on by a log, to a disk that is there
+abbrev pub further_rescue_time : Disk → Disk → ℕ → ℕ
+further_rescue_time disk target records =
+    2 + further_rescue_cost (times_at disk.words_per_track disk.rate) (times_at target.words_per_track disk.rate) disk.rate records
+
+abbrev pub further_rescue_port_accesses : Disk → ℕ → ℕ
+further_rescue_port_accesses disk records =
+    22 + further_rescue_cost (port_accesses_at disk.rate) (port_accesses_at disk.rate) disk.rate records
 
 -- a disk of 80 cylinders and two heads, whose tracks have the usual number of words
 abbrev pub standard_disk : Rate → List ℕ → Disk

@@ -4,7 +4,7 @@ use Rattle.flop_base.proofs.Costs.{used_within}
 use Rattle.flop_base.specs.Bays.{Two, in_bay}
 use Rattle.flop_base.specs.Counters.{DriveCounts}
 use Rattle.flop_base.specs.Shelf.{Files, file_at}
-use Rattle.flop_base.specs.Standard.{words_at}
+use Rattle.flop_base.specs.Standard.{sectors_at, words_at}
 use Rattle.flop_base.specs.declared.answers.Rate.{Rate}
 use Rattle.flop_base.specs.declared.answers.Rate.TheVariants.{R500, R250}
 use Rattle.flop_base.specs.declared.answers.Status.{Status}
@@ -17,6 +17,8 @@ use Rattle.sector_model.specs.Steps.{IsImageOf}
 use Rattle.sector_model.specs.Times.{course_port_accesses, course_time, port_accesses_of, time_of}
 use Rattle.sector_model.specs.Runs.{Taken}
 use Rattle.sector_model.specs.Plays.{World}
+use Rattle.rescue.specs.declared.line.LogLine.{LogLine}
+use Rattle.disk_commands.specs.Logs.{IsLogFound}
 use Rattle.disk_commands.specs.FlatFiles.{IsFlatFile}
 use Rattle.text_commands.specs.JobRounds.{world}
 use Rattle.archive_commands.specs.Files.{Outside}
@@ -24,10 +26,10 @@ use Rattle.floppy_words.specs.declared.form.Form.{Form}
 use Rattle.floppy_words.specs.declared.form.Form.TheVariants as form
 use Rattle.floppy_tools.specs.Programs.{DoesForm, DoesOrStarves, AsAsked, StarvesWords}
 use Rattle.floppy_tools.specs.Machines.{RunsOver}
-use Rattle.laws_commands.specs.Times.{RequestCosts, copy_cost, copy_time, copy_port_accesses, export_cost, export_time, export_port_accesses, format_cost, whole_format_time, whole_format_port_accesses, import_cost, import_time, import_port_accesses, port_accesses_at, rescue_cost, rescue_time, rescue_port_accesses, times_at, verify_cost, verify_time, verify_port_accesses}
+use Rattle.laws_commands.specs.Times.{RequestCosts, copy_cost, copy_time, copy_port_accesses, export_cost, export_time, export_port_accesses, format_cost, further_rescue_cost, further_rescue_port_accesses, further_rescue_time, whole_format_time, whole_format_port_accesses, import_cost, import_time, import_port_accesses, port_accesses_at, rescue_cost, rescue_time, rescue_port_accesses, times_at, verify_cost, verify_time, verify_port_accesses}
 use Rattle.laws_commands.proofs.CommandTimes.{copy_most, export_most, format_most, imports_most, verify_most}
 use Rattle.laws_commands.proofs.RequestTimes.{AreCharged, port_accesses_charged, port_access_sum, time_sum, times_charged}
-use Rattle.laws_commands.proofs.RescueTimes.{rescue_most}
+use Rattle.laws_commands.proofs.RescueTimes.{further_most, rescue_most}
 use Rattle.laws_commands.proofs.ScriptTimes.{IsSum, idle_cost}
 use Rattle.laws_commands.proofs.Turns.{HasTurns}
 use Rattle.laws_program.specs.Lasting.{CostsRun}
@@ -149,4 +151,15 @@ module _ (spares : List DriveCounts) (old new : Board) (before after : Outside) 
           (λ costs. rescue_cost (costs 0) (costs 1) disk)
           (λ one sum is costs charged has does.
           rescue_most one sum is (limits disk.words_per_track (words_at disk.rate)) disk costs charged name to log files (omega arith) (omega arith) image absent
+          (world over.start before.files before.report) (world over.last after.files after.report) over.runs.course ended told has does)
+
+      pub further_run : (to log : List ℕ) (target : Disk) (lines : List LogLine) → Over (form.Rescue name to log) → IsImageOf (Some files) to target
+          → IsLogFound (Some files) log (sectors_at disk.rate) (Some lines)
+          → CostsRun (further_rescue_time disk target (length lines)) (further_rescue_port_accesses disk (length lines)) old new
+      further_run to log target lines over other found =
+          let limit = limits disk.words_per_track target.words_per_track in
+          run_costs (form.Rescue name to log) spares old new before after ended over limit disk.rate
+          (λ costs. further_rescue_cost (costs 0) (costs 1) disk.rate (length lines))
+          (λ one sum is costs charged has does.
+          further_most one sum is limit disk costs charged name to log files target lines (omega arith) (omega arith) image other found
           (world over.start before.files before.report) (world over.last after.files after.report) over.runs.course ended told has does)

@@ -1,7 +1,8 @@
 // How long whole commands last at most, and how many port accesses they make.
-ghost use Rattle.std.specs.Prelude.{◌≡◌, ◌+◌, List, ℕ, None, Some};
+ghost use Rattle.std.specs.Prelude.{◌≡◌, ◌+◌, length, List, ℕ, None, Some};
 ghost use Rattle.flop_base.specs.Counters.{DriveCounts};
 ghost use Rattle.flop_base.specs.Shelf.{Files, file_at};
+ghost use Rattle.flop_base.specs.Standard.{sectors_at};
 ghost use Rattle.flop_base.specs.declared.answers.Rate.{Rate};
 ghost use Rattle.flop_base.specs.declared.answers.Rate.TheVariants.{R250, R500};
 ghost use Rattle.flop_base.specs.declared.answers.Status.{Status};
@@ -12,10 +13,12 @@ ghost use Rattle.sector_model.specs.Ties.{IsJob};
 ghost use Rattle.sector_model.specs.Times.{job_port_accesses, job_time};
 ghost use Rattle.pc_bus.specs.Boards.{Board};
 ghost use Rattle.archive_commands.specs.Files.{Outside};
+ghost use Rattle.rescue.specs.declared.line.LogLine.{LogLine};
+ghost use Rattle.disk_commands.specs.Logs.{IsLogFound};
 ghost use Rattle.disk_commands.specs.FlatFiles.{IsFlatFile};
 ghost use Rattle.floppy_words.specs.declared.form.Form.TheVariants as form;
 ghost use Rattle.floppy_tools.specs.Machines.{RunsOver};
-ghost use Rattle.laws_commands.specs.Times.{copy_port_accesses, copy_time, export_port_accesses, export_time, import_port_accesses, import_time, rescue_port_accesses, rescue_time, verify_port_accesses, verify_time, whole_format_port_accesses, whole_format_time};
+ghost use Rattle.laws_commands.specs.Times.{copy_port_accesses, copy_time, export_port_accesses, export_time, further_rescue_port_accesses, further_rescue_time, import_port_accesses, import_time, rescue_port_accesses, rescue_time, verify_port_accesses, verify_time, whole_format_port_accesses, whole_format_time};
 ghost use Rattle.laws_program.specs.Lasting.{CostsRun};
 
 /// A law on a `copy FROM TO`, where FROM is the image of a disk, whatever faults come and however it ends. It costs at
@@ -77,6 +80,16 @@ pub fn new_rescue_lasts(_from: &str, _to: &str, _log: &str)
         → RunsOver (Some (form.Rescue _from.now _to.now _log.now)) old spares before new after ended
         → before.files ≡ Some files → IsImageOf (Some files) _from.now disk → file_at files _log.now ≡ None
         → CostsRun (rescue_time disk) (rescue_port_accesses disk) old new }
+{}
+
+/// A law: a `rescue FROM TO LOG` that goes on by a log costs in the same way at most two acknowledgements, and a read
+/// and a write of each record of the log. FROM and TO are the images of disks.
+pub fn further_rescue_lasts(_from: &str, _to: &str, _log: &str)
+    ensures { (spares : List DriveCounts) (old new : Board) (before after : Outside) (ended : Status) (files : Files) (disk target : Disk) (lines : List LogLine)
+        → RunsOver (Some (form.Rescue _from.now _to.now _log.now)) old spares before new after ended
+        → before.files ≡ Some files → IsImageOf (Some files) _from.now disk → IsImageOf (Some files) _to.now target
+        → IsLogFound (Some files) _log.now (sectors_at disk.rate) (Some lines)
+        → CostsRun (further_rescue_time disk target (length lines)) (further_rescue_port_accesses disk (length lines)) old new }
 {}
 
 /// A law on a `play JOB`, where the told file JOB spells these requests, whatever faults come and however it ends. It
