@@ -106,6 +106,7 @@ further_rescue_cost first second rate records = ready_cost first rate + (ready_c
 abbrev pub whole_format_time : ℕ → Rate → ℕ
 whole_format_time cylinders rate = 2 + format_cost (times_at (words_at rate) rate) cylinders rate
 
+-- the same in port accesses
 abbrev pub whole_format_port_accesses : ℕ → Rate → ℕ
 whole_format_port_accesses cylinders rate = 22 + format_cost (port_accesses_at rate) cylinders rate
 
@@ -113,6 +114,7 @@ whole_format_port_accesses cylinders rate = 22 + format_cost (port_accesses_at r
 abbrev pub verify_time : Disk → ℕ
 verify_time disk = 2 + verify_cost (times_at disk.words_per_track disk.rate) disk
 
+-- the same in port accesses
 abbrev pub verify_port_accesses : Disk → ℕ
 verify_port_accesses disk = 22 + verify_cost (port_accesses_at disk.rate) disk
 
@@ -120,6 +122,7 @@ verify_port_accesses disk = 22 + verify_cost (port_accesses_at disk.rate) disk
 abbrev pub copy_time : Disk → ℕ
 copy_time disk = 2 + copy_cost (times_at disk.words_per_track disk.rate) (times_at (words_at disk.rate) disk.rate) disk
 
+-- the same in port accesses
 abbrev pub copy_port_accesses : Disk → ℕ
 copy_port_accesses disk = 22 + copy_cost (port_accesses_at disk.rate) (port_accesses_at disk.rate) disk
 
@@ -127,6 +130,7 @@ copy_port_accesses disk = 22 + copy_cost (port_accesses_at disk.rate) (port_acce
 abbrev pub import_time : Rate → ℕ
 import_time rate = 2 + import_cost (times_at (words_at rate) rate) rate
 
+-- the same in port accesses
 abbrev pub import_port_accesses : Rate → ℕ
 import_port_accesses rate = 22 + import_cost (port_accesses_at rate) rate
 
@@ -134,6 +138,7 @@ import_port_accesses rate = 22 + import_cost (port_accesses_at rate) rate
 abbrev pub export_time : Disk → ℕ
 export_time disk = 2 + export_cost (times_at disk.words_per_track disk.rate) disk.rate
 
+-- the same in port accesses
 abbrev pub export_port_accesses : Disk → ℕ
 export_port_accesses disk = 22 + export_cost (port_accesses_at disk.rate) disk.rate
 
@@ -141,6 +146,7 @@ export_port_accesses disk = 22 + export_cost (port_accesses_at disk.rate) disk.r
 abbrev pub rescue_time : Disk → ℕ
 rescue_time disk = 2 + rescue_cost (times_at disk.words_per_track disk.rate) (times_at (words_at disk.rate) disk.rate) disk
 
+-- the same in port accesses
 abbrev pub rescue_port_accesses : Disk → ℕ
 rescue_port_accesses disk = 22 + rescue_cost (port_accesses_at disk.rate) (port_accesses_at disk.rate) disk
 
@@ -149,6 +155,7 @@ abbrev pub further_rescue_time : Disk → Disk → ℕ → ℕ
 further_rescue_time disk target records =
     2 + further_rescue_cost (times_at disk.words_per_track disk.rate) (times_at target.words_per_track disk.rate) disk.rate records
 
+-- the same in port accesses
 abbrev pub further_rescue_port_accesses : Disk → ℕ → ℕ
 further_rescue_port_accesses disk records =
     22 + further_rescue_cost (port_accesses_at disk.rate) (port_accesses_at disk.rate) disk.rate records

@@ -73,8 +73,8 @@ pub fn export_lasts(_name: &str, _flat: &str)
         → CostsRun (export_time disk) (export_port_accesses disk) old new }
 {}
 
-/// A law: a new `rescue FROM TO LOG`, where FROM is the image of a disk and no file LOG is there, costs in the same way
-/// at most two acknowledgements, a format of each track, and a read and a write of each record.
+/// A law: a new `rescue FROM TO LOG` costs in the same way at most two acknowledgements, a format of each track, and a
+/// read and a write of each record. FROM is the image of a disk, and no file LOG is there.
 pub fn new_rescue_lasts(_from: &str, _to: &str, _log: &str)
     ensures { (spares : List DriveCounts) (old new : Board) (before after : Outside) (ended : Status) (files : Files) (disk : Disk)
         → RunsOver (Some (form.Rescue _from.now _to.now _log.now)) old spares before new after ended
