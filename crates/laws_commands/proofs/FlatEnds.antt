@@ -142,7 +142,7 @@ taken_flat files flat bytes rate (stop.Absent named) is not =
     absurd (cc (none, there))
 
 -- a name has only one flat file
-one_flat : (files : Files) (flat one two : List ℕ) (a b : Rate) → IsFlatFile (Some files) flat one a → IsFlatFile (Some files) flat two b → one ≡ two
+pub one_flat : (files : Files) (flat one two : List ℕ) (a b : Rate) → IsFlatFile (Some files) flat one a → IsFlatFile (Some files) flat two b → one ≡ two
 one_flat files flat one two a b first second = let both = of_one (file_at files flat) first.there second.there in sym both.2.0 ∙ both.3.0
 
 same_rate : (a b : Rate) → sectors_at a ≡ sectors_at b → a ≡ b
@@ -154,7 +154,7 @@ same_rate R250 R500 same = absurd (omega (arith, same))
 as_sectors : (told : Result ℕ ImageError) (a b : ℕ) → told ≡ Ok a → told ≡ Ok b → a ≡ b
 as_sectors told a b e f = cc (e, f)
 
-one_rate : (a b : Rate) (one two : List ℕ) → one ≡ two → sectors_told (length one) ≡ Ok (sectors_at a) → sectors_told (length two) ≡ Ok (sectors_at b) → a ≡ b
+pub one_rate : (a b : Rate) (one two : List ℕ) → one ≡ two → sectors_told (length one) ≡ Ok (sectors_at a) → sectors_told (length two) ≡ Ok (sectors_at b) → a ≡ b
 one_rate a b one two same first second =
     same_rate a b (as_sectors (sectors_told (length two)) (sectors_at a) (sectors_at b) (ap (λ (l : List ℕ). sectors_told (length l)) (sym same) ∙ first) second)
 

@@ -49,3 +49,8 @@ pub mod RescueFurther
 pub mod Order
 pub mod Storing
 pub mod ScriptStores
+pub mod Turns
+pub mod ScriptTimes
+pub mod RequestTimes
+pub mod CommandTimes
+pub mod RescueTimes

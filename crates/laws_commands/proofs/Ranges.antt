@@ -50,7 +50,8 @@ cylinders_then bytes told p = field 9 (within 1 80 (get_or bytes 9 0)) >>= heads
 abbrev flags_then : List ℕ → Option Rate → Result Header ImageError
 flags_then bytes told = field 8 (protection_of (get_or bytes 8 0)) >>= cylinders_then bytes told
 
-header_range : (bytes : List ℕ) (h : Header) → header_of bytes ≡ Ok h → (h.cylinders ≤ 80) × (h.heads ≤ 2) × (1 ≤ h.cylinders)
+header_range : (bytes : List ℕ) (h : Header) → header_of bytes ≡ Ok h
+    → (h.cylinders ≤ 80) × (h.heads ≤ 2) × (1 ≤ h.cylinders) × (h.words_per_track ≤ 16384)
 unfolding header_of
 header_range bytes h e =
     let v = bind_ok (ok_or (version_of bytes) BadMagic) (λ v. flags_then bytes (rate_of v (get_or bytes 11 0))) h e in
@@ -63,7 +64,9 @@ header_range bytes h e =
     let header : Header = record { protected = p.0; cylinders = c.0; heads = s.0; rate = r.0; words_per_track = w.0 } in
     let cylinders = within_range 1 80 (get_or bytes 9 0) c.0 (field_some 9 _ c.0 c.1) in
     let heads = within_range 1 2 (get_or bytes 10 0) s.0 (field_some 10 _ s.0 s.1) in
-    subst (λ (x : Header). (x.cylinders ≤ 80) × (x.heads ≤ 2) × (1 ≤ x.cylinders)) (same_ok header h w.2) (cylinders.0, heads.0, cylinders.1)
+    let words = within_range 64 16384 (256 * get_or bytes 12 0 + get_or bytes 13 0) w.0 (field_some 12 _ w.0 w.1) in
+    subst (λ (x : Header). (x.cylinders ≤ 80) × (x.heads ≤ 2) × (1 ≤ x.cylinders) × (x.words_per_track ≤ 16384)) (same_ok header h w.2)
+    (cylinders.0, heads.0, cylinders.1, words.0)
   where
     same_ok : (x y : Header) → told_header x ≡ told_header y → x ≡ y
     same_ok x y e = cc e
@@ -72,7 +75,8 @@ guard_ok : (b : Bool) (e : ImageError) (r : Result Disk ImageError) (d : Disk) �
 guard_ok true e r d same = absurd (cc same)
 guard_ok false e r d same = same
 
-pub image_range : (bytes : List ℕ) (d : Disk) → image_of bytes ≡ Ok d → (d.cylinders ≤ 80) × (d.heads ≤ 2) × (1 ≤ d.cylinders)
+pub image_range : (bytes : List ℕ) (d : Disk) → image_of bytes ≡ Ok d
+    → (d.cylinders ≤ 80) × (d.heads ≤ 2) × (1 ≤ d.cylinders) × (d.words_per_track ≤ 16384)
 unfolding image_of
 image_range bytes d e =
     let a = guard_ok (ltb (length bytes) 14) (TooShort 14 (length bytes)) (header_of (take 14 bytes) >>= body_of bytes) d e in
@@ -80,7 +84,7 @@ image_range bytes d e =
     let rest = words_of (drop 14 bytes) in
     let c = guard_ok (ltb (length bytes) (whole_length b.0)) (TooShort (whole_length b.0) (length bytes)) (cond (ltb (whole_length b.0) (length bytes)) (Err (Trailing (whole_length b.0))) (Ok (disk_of b.0 rest))) d b.2 in
     let g = guard_ok (ltb (whole_length b.0) (length bytes)) (Trailing (whole_length b.0)) (Ok (disk_of b.0 rest)) d c in
-    subst (λ (x : Disk). (x.cylinders ≤ 80) × (x.heads ≤ 2) × (1 ≤ x.cylinders)) (same_ok (disk_of b.0 rest) d g) (header_range (take 14 bytes) b.0 b.1)
+    subst (λ (x : Disk). (x.cylinders ≤ 80) × (x.heads ≤ 2) × (1 ≤ x.cylinders) × (x.words_per_track ≤ 16384)) (same_ok (disk_of b.0 rest) d g) (header_range (take 14 bytes) b.0 b.1)
   where
     same_ok : (x y : Disk) → told_disk x ≡ told_disk y → x ≡ y
     same_ok x y e = cc e

@@ -118,12 +118,12 @@ same_lines files log count lines asked few found other = go (file_at files log) 
     go (Some text) one two = one_spelling count asked lines few two.1.0 one.1.0 (sym two.1.1 ∙ one.1.1)
 
 -- if there is a log, it is what is found under its name
-one_log : (files : Files) (log : List ℕ) (count : ℕ) (lines : List LogLine) (found : Option (List LogLine)) → count < 256
+pub one_log : (files : Files) (log : List ℕ) (count : ℕ) (lines : List LogLine) (found : Option (List LogLine)) → count < 256
     → IsLogFound (Some files) log count (Some lines) → IsLogFound (Some files) log count found → found ≡ Some lines
 one_log files log count lines None few there other = absurd (none_found files log count lines other there)
 one_log files log count lines (Some asked) few there other = ap (λ (row : List LogLine). Some row) (same_lines files log count lines asked few there other)
 
-small_sectors : (rate : Rate) → sectors_at rate < 256
+pub small_sectors : (rate : Rate) → sectors_at rate < 256
 small_sectors rate = omega (arith, few_sectors rate)
 
 module _ (disk target : Disk) (files : Files) (to log : List ℕ) (lines : List LogLine) (regular : IsRegularDisk disk) (few_cylinders : disk.cylinders ≤ 80)

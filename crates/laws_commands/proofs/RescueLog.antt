@@ -157,7 +157,7 @@ size_most disk (key ∷ keys) asked =
     let rest = size_most disk keys asked.1 in
     omega (arith, c, h, r, rest)
 
-count_standard : (disk : Disk) → length (standard_keys disk.rate disk.cylinders disk.heads) ≡ disk.cylinders * disk.heads * sectors_at disk.rate
+pub count_standard : (disk : Disk) → length (standard_keys disk.rate disk.cylinders disk.heads) ≡ disk.cylinders * disk.heads * sectors_at disk.rate
 unfolding standard_keys disk_keys
 count_standard disk = standard_count disk
 

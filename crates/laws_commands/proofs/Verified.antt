@@ -64,11 +64,11 @@ one_image files name a b one two = go (file_at files name) one two
 
 -- the fields of such a disk are in range
 pub image_ranges : (files : Files) (name : List ℕ) (disk : Disk) → IsImageOf (Some files) name disk
-    → (disk.cylinders ≤ 80) × (disk.heads ≤ 2) × (1 ≤ disk.cylinders)
+    → (disk.cylinders ≤ 80) × (disk.heads ≤ 2) × (1 ≤ disk.cylinders) × (disk.words_per_track ≤ 16384)
 image_ranges files name disk is = go (file_at files name) is
   where
     go : (o : Option (List ℕ)) → IsSomeAnd o (λ bytes. (length bytes ≤ most_image_bytes) × (image_of bytes ≡ Ok disk))
-        → (disk.cylinders ≤ 80) × (disk.heads ≤ 2) × (1 ≤ disk.cylinders)
+        → (disk.cylinders ≤ 80) × (disk.heads ≤ 2) × (1 ≤ disk.cylinders) × (disk.words_per_track ≤ 16384)
     go None x = absurd x
     go (Some bytes) x = image_range bytes disk x.1
 

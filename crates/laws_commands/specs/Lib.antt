@@ -13,3 +13,4 @@ pub mod Exported
 pub mod FlatComplete
 pub mod Rescued
 pub mod Stores
+pub mod Times

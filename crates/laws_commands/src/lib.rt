@@ -18,8 +18,10 @@ mod rescue_ends;
 mod rescue_logs;
 mod rescue_order;
 mod rescue_stores;
+mod short_tracks;
 mod stores;
 mod targets;
+mod times;
 mod verify_ends;
 mod verify_runs;
 
@@ -38,6 +40,7 @@ pub use rescue_ends::{further_rescue_ends_well, new_rescue_ends_well};
 pub use rescue_logs::rescue_logs_what_is_not_found;
 pub use rescue_order::rescue_stores_the_log_last;
 pub use rescue_stores::rescue_settles_each_record;
+pub use short_tracks::media_have_short_tracks;
 pub use stores::{
     a_run_stores_what_it_takes_out, copy_stores_a_disk_alone, exercise_stores_nothing,
     export_stores_a_file_alone, format_stores_a_disk_alone, import_stores_a_disk_alone,
@@ -47,5 +50,6 @@ pub use targets::{
     copied_disk_is_a_target, formatted_disk_is_a_target, imported_disk_is_a_target,
     target_takes_keys,
 };
+pub use times::standard_disks_take_this_long;
 pub use verify_ends::verify_ends_well;
 pub use verify_runs::verify_tells_failing_keys;

@@ -52,3 +52,5 @@ pub mod Takes
 pub mod WritesAgree
 mod StoresMade
 mod ReadJobs
+mod WholeCommands
+mod JobRuns

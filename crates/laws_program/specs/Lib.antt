@@ -13,3 +13,4 @@ pub mod ChangedWords
 pub mod Determined
 pub mod StoresMade
 pub mod StoredAgain
+pub mod Lasting

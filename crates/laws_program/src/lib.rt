@@ -16,6 +16,7 @@ mod flat;
 mod format;
 mod guarded;
 mod in_turn;
+mod lasting;
 mod play;
 mod ports;
 mod rescued;
@@ -44,6 +45,10 @@ pub use flat::{disk_of_a_flat_file, flat_file_of_a_disk};
 pub use format::{format_of_a_disk, formatdd_of_a_disk};
 pub use guarded::{protected_disk_stays, protected_disk_stays_by_job, protected_disk_stays_called};
 pub use in_turn::rescues_in_turn_save_records;
+pub use lasting::{
+    copy_lasts, export_lasts, format_lasts, formatdd_lasts, further_rescue_lasts, import_lasts,
+    job_lasts, new_rescue_lasts, verify_lasts,
+};
 pub use play::{calls_are_answered, job_is_answered};
 pub use ports::ports_status;
 pub use rescued::{

@@ -1,0 +1,6 @@
+use Rattle.laws_program.proofs.WholeCommands.{format_run}
+use Rattle.laws_program.proofs.lasting.format_lasts.Goals as goal
+
+pub returns : goal.returns
+returns c spares old new before after ended over =
+    format_run spares old new before after ended c.args._name.now c.args._cylinders over
