@@ -31,3 +31,6 @@ mod PulsesGoing
 mod SeeksHeld
 mod Prompt
 mod FormatLays
+mod NextStages
+mod FormatsEnd
+mod BusyLeft

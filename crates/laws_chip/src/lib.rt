@@ -6,6 +6,7 @@ pub mod edges;
 pub mod endings;
 pub mod formatting;
 pub mod identifying;
+pub mod lasting;
 pub mod media;
 pub mod paces;
 pub mod resets;

@@ -1,0 +1,77 @@
+-- Commands that are under way, from their last byte on, and for how many device steps they are at most.
+use Rattle.std.specs.Prelude.{◌≡◌, ◌<◌, ◌≤◌, ℕ, ◌+◌, ◌*◌, Bool, true, false, not, ◌&&◌, Option, List, [], ◌∷◌, if◌then◌else◌}
+use Rattle.fdc_core.specs.Ranges.{IsInRange}
+use Rattle.laws_sequencer.specs.Lasting.{HasByteNumbers}
+use Rattle.fdc_chip.specs.Chips.{ChipState}
+use Rattle.fdc_chip.specs.Codes.{has_bit, has_multitrack}
+use Rattle.fdc_chip.specs.Doing.{sectors_to, verifying}
+use Rattle.fdc_chip.specs.Ports.{WritesChip}
+use Rattle.fdc_chip.specs.declared.code.Code.{Code}
+use Rattle.fdc_chip.specs.declared.code.Code.TheVariants.{FormatTrack, ReadId, ReadTrack, Transfer, Verify}
+use Rattle.fdc_chip.specs.declared.order.Order.{Order}
+use Rattle.fdc_chip.specs.declared.stage.Stage.{Stage}
+use Rattle.fdc_chip.specs.declared.stage.Stage.TheVariants.{Busy, Held}
+use Rattle.laws_chip.specs.Beginning.{Completes}
+use Rattle.laws_chip.specs.Calls.{Call, Does, WritesByte}
+use Rattle.laws_chip.specs.Lasting.{most_track_steps}
+use Rattle.laws_chip.specs.PacedSeeks.{HeadsPaced}
+use Rattle.laws_chip.specs.Seeks.{HeadsGo, most_of}
+use Rattle.laws_chip.specs.Sound.{IsSound}
+
+-- ---- how many device steps
+
+-- the sectors of a command from its first to its last one. With MT those of head 1 come after those of head 0
+abbrev pub sectors_of : Order → ℕ
+sectors_of order =
+    sectors_to order.last_sector order.key.r
+    + (if has_multitrack order.code && not (has_bit order.unit 0x04) then sectors_to order.last_sector 1 else 0)
+
+-- an implied seek takes at most 256 device steps, and each sector 65,536. So does the READ ID that looks which cylinder
+-- passes, where a sector isn't found
+abbrev pub most_sector_steps : Order → ℕ
+most_sector_steps order = 256 + 65536 * (sectors_of order + 1)
+
+-- the device steps that a command takes at most once it is executed. A VERIFY is a READ DATA
+abbrev pub most_steps_of : Code → Order → ℕ
+most_steps_of (ReadId _) order = 65536
+most_steps_of (FormatTrack _) order = 65536
+most_steps_of (Transfer _) order = most_sector_steps order
+most_steps_of (Verify _) order = most_sector_steps (verifying order)
+most_steps_of (ReadTrack _) order = most_track_steps order
+most_steps_of _ order = 0
+
+-- ---- ---- under way
+
+-- a command is held or executed
+abbrev pub has_command : Stage → Bool
+has_command Held = true
+has_command (Busy task) = true
+has_command _ = false
+
+-- a command is under way. The numbers of the chip are those of registers and bytes, as `ranges` ensures
+pub record IsWorking (chip : ChipState) : Type 0 where
+  pub works : has_command chip.stage ≡ true
+  pub range : IsInRange chip.front.adapter.controller
+  pub records : HasByteNumbers chip.front.stage
+
+-- any calls, after each of which a command is under way
+abbrev pub AreWorking : List Call → ChipState → ChipState → Type 0
+AreWorking [] old new = new ≡ old
+AreWorking (made ∷ calls) old new =
+    (between : ChipState) × Does made old between × WritesByte made × IsWorking between × AreWorking calls between new
+
+-- a command that is held waits for heads, for at most so many device steps: those of the pulses that come in the time
+-- that SPECIFY sets, and those of the seek in the inner controller
+pub data WaitsFor (left : ℕ) (chip : ChipState) : Type 0 where
+  go : (drive : ℕ) (goal : Option ℕ) → HeadsGo left drive goal Held chip → WaitsFor left chip
+  pace : (pulses drive : ℕ) (goal : Option ℕ) → HeadsPaced pulses drive goal Held chip → pulses + most_of goal ≤ left → WaitsFor left chip
+
+-- a sound chip is given the last byte of a command, which is then under way. If it is held, it waits for heads for at
+-- most so many device steps
+pub record IsGiven (wait : ℕ) (code : Code) (byte : ℕ) (old new : ChipState) : Type 0 where
+  pub sound : IsSound old
+  pub few : byte < 256
+  pub last : Completes code byte old
+  pub writes : WritesChip 0x3F5 byte old new
+  pub working : IsWorking new
+  pub waits : new.stage ≡ Held → WaitsFor wait new
