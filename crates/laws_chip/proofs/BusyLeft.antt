@@ -1,5 +1,5 @@
 -- How many device steps are left of a command that is executed: each call leaves fewer, by the device step that it is.
-use Rattle.std.proofs.Common.{◌≡◌, ◌⊎◌, inl, inr, ℕ, ◌+◌, ◌-◌, ◌<◌, ◌≤◌, Bool, true, false, not, ◌&&◌, ◌==◌, List, [], ◌∷◌, bit_and, refl, sym, ◌∙◌, ap, subst, arith}
+use Rattle.std.proofs.Common.{◌≡◌, ◌⊎◌, inl, inr, ℕ, ◌+◌, ◌-◌, ◌*◌, ◌<◌, ◌≤◌, Bool, true, false, not, ◌&&◌, ◌==◌, List, [], ◌∷◌, bit_and, refl, sym, ◌∙◌, ap, subst, arith}
 use Rattle.std.proofs.lemmas.Bool.{and_right, false≢true}
 use Rattle.flop_base.specs.declared.key.Chrn.{Chrn}
 use Rattle.fdc_registers.specs.St1.{missing_mark}
@@ -40,7 +40,7 @@ use Rattle.laws_chip.proofs.ServedSteps.{serves_step, tells_shown}
 use Rattle.laws_chip.proofs.Singles.{executes_none, executes_step}
 use Rattle.laws_chip.proofs.SinglesLast.{StaysSingle, kind_of, left_most, left_some, single_call, stage_kind}
 use Rattle.laws_chip.proofs.SoundParts.{busy_at, is_busy, is_ready, sound_basis}
-use Rattle.laws_chip.proofs.TracksLast.{Leaves, call_leaves, leaves_some, some_here}
+use Rattle.laws_chip.proofs.TracksLast.{Leaves, LeavesAt, call_leaves, leaves_some, some_here}
 use Rattle.laws_chip.proofs.UnderWay.{clash, either_way, not_through}
 use Rattle.laws_chip.proofs.VerifiesLast.{IsWithin, call_within}
 
@@ -277,7 +277,7 @@ track_ends : (b : Bool) (track : Track) (set new : ChipState) → set.stage ≡ 
 track_ends true track set new at works ends = place_tracks track.place track (results_behind set.front) (with_front (results_taken set.front) set) new works ends
 track_ends false track set new at works is = tracks_as track new (ap (λ (chip : ChipState). chip.stage) is ∙ at)
 
-leaves_left : (n : ℕ) (new : ChipState) → Leaves n new → BusyLeft n new
+pub leaves_left : (n : ℕ) (new : ChipState) → Leaves n new → BusyLeft n new
 leaves_left n new leaves = record { task = task.Track leaves.track; at = leaves.at; left = leaves }
 
 track_step : (n : ℕ) (track : Track) (old new : ChipState) (step : StepsChip old new) → IsSound old → IsSound new → old.stage ≡ Busy (task.Track track) → Leaves n old → has_command new.stage ≡ true → BusyLeft (n - 1) new
@@ -297,7 +297,7 @@ step_left (task.Track track) n old new step sound still at left works = track_st
 none_one : (steps : ℕ) → steps ≡ 0 → steps ≤ 1
 none_one steps none = omega arith
 
-none_of : (call : Call) → is_step call ≡ false → steps_of call ≡ 0
+pub none_of : (call : Call) → is_step call ≡ false → steps_of call ≡ 0
 none_of made.Steps other = absurd (false≢true (sym other))
 none_of (made.Takes byte) other = refl
 none_of (made.Gives byte given) other = refl
@@ -379,3 +379,39 @@ task_some (task.Track track) n chip sound at was = leaves_some was.track.place n
 
 pub left_positive : (n : ℕ) (chip : ChipState) → IsSound chip → BusyLeft n chip → 0 < n
 left_positive n chip sound was = task_some was.task n chip sound was.at was.left
+
+-- ---- more device steps may be left
+
+more_few : (now n m : ℕ) → n ≤ m → now ≤ n → now ≤ m
+more_few now n m more few = omega arith
+
+more_leaves : (place : Place) (n m left : ℕ) (front : Front) → n ≤ m → LeavesAt place n left front → LeavesAt place m left front
+more_leaves Index n m left front more (here, lasts, few) = (here, lasts, more_few (here + 131328 * left) n m more few)
+more_leaves Address n m left front more few =
+    more_few (steps_left front.adapter.controller.phase + (65792 + 131328 * left)) (n + 131328) (m + 131328) (more_both n m more) few
+  where
+    more_both : (n m : ℕ) → n ≤ m → n + 131328 ≤ m + 131328
+    more_both n m more = omega arith
+more_leaves Data n m left front more (here, lasts, few) = (here, lasts, more_few (here + 131328 * left) (n + 131328) (m + 131328) (more_both n m more) few)
+  where
+    more_both : (n m : ℕ) → n ≤ m → n + 131328 ≤ m + 131328
+    more_both n m more = omega arith
+
+more_served : (n m : ℕ) (chip : ChipState) → n ≤ m → ServedLeft n chip → ServedLeft m chip
+more_served n m chip more was = record { under = was.under; here = was.here; lasts = was.lasts; few = more_few (was.here + 65536) n m more was.few }
+
+more_last : (n m : ℕ) (chip : ChipState) → n ≤ m → LastLeft n chip → LastLeft m chip
+more_last n m chip more was = record { few = more_few (steps_left chip.front.adapter.controller.phase) n m more was.few }
+
+more_task : (what : Task) (n m : ℕ) (chip : ChipState) → n ≤ m → TaskLeft what n chip → TaskLeft what m chip
+more_task task.Sent n m chip more (inl was) = inl (more_served n m chip more was)
+more_task task.Sent n m chip more (inr was) =
+    inr (record { executes = was.executes; few = more_few (steps_left chip.front.adapter.controller.phase) n m more was.few; never = was.never })
+more_task (task.Sought first) n m chip more was = more_last n m chip more was
+more_task (task.Refused unit key mfm) n m chip more was = more_last n m chip more was
+more_task (task.Verify left) n m chip more was = more_served n m chip more was
+more_task (task.Track track) n m chip more was =
+    record { track = was.track; at = was.at; some = was.some; leaves = more_leaves was.track.place n m was.track.left chip.front more was.leaves }
+
+pub more_left : (n m : ℕ) (chip : ChipState) → n ≤ m → BusyLeft n chip → BusyLeft m chip
+more_left n m chip more was = record { task = was.task; at = was.at; left = more_task was.task n m chip more was.left }

@@ -34,3 +34,5 @@ mod FormatLays
 mod NextStages
 mod FormatsEnd
 mod BusyLeft
+mod WorkBegins
+mod WorkLasts
