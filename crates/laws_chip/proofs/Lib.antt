@@ -36,3 +36,4 @@ mod FormatsEnd
 mod BusyLeft
 mod WorkBegins
 mod WorkLasts
+mod WorkEnds

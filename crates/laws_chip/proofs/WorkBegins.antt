@@ -124,11 +124,11 @@ order_left : (opcode : Opcode) (order : Order) (new : ChipState) → opcode_of o
     → ServedLeft (256 + 65536 * (sectors_of order + 1)) new
 order_left opcode order new is begins under working =
     let first = transfer_sent opcode order in
-    let records = first_records new.front.stage first new.front.adapter.controller begins.serves.now under working.records in
+    let records = first_records new.front.stage first new.front.adapter.controller begins.serves.now under working.ranges.records in
     record {
       under = under;
       here = most_steps first;
-      lasts = first_lasts begins.byte first begins.start new.front begins.last (λ more. records) begins.writes begins.stays working.range;
+      lasts = first_lasts begins.byte first begins.start new.front begins.last (λ more. records) begins.writes begins.stays working.ranges.controller;
       few = subst (λ n. most_steps first + 65536 ≤ 256 + 65536 * (n + 1)) (same_sectors opcode order is) (one_more (sectors_from first));
     }
 
@@ -174,7 +174,7 @@ refused_track left mfm old new free refuses =
 track_starts : (mfm : Bool) (old new : ChipState) → IsFreeBehind old.front → Obeys (code.ReadTrack mfm) old new → IsWorking new → BusyLeft (most_steps_of (code.ReadTrack mfm) old.order) new
 track_starts false old new free obeys working = refused_track (track_begun old.order).left false old new free obeys
 track_starts true old new free obeys working = either_way (is_size old.order.key.n)
-    (λ size. leaves_left (most_track_steps old.order) new (track_leaves old new size free obeys working.range))
+    (λ size. leaves_left (most_track_steps old.order) new (track_leaves old new size free obeys working.ranges.controller))
     (λ unsized.
     refused_track (track_begun old.order).left true old new free
     (subst (λ b. TransfersIf b true (task.Track (track_begun old.order)) (reading_one old.order.unit (absent_key old.order.key.c) old.order.gap old.order.length) (with_last old.order.last_sector old) new) unsized obeys))

@@ -33,13 +33,13 @@ use Rattle.laws_chip.proofs.WorkBegins.{done_left, is_data}
 -- ---- what is left
 
 -- the command is held, and waits for heads
-record HeldLeft (most n : ℕ) (order : Order) (chip : ChipState) : Type 0 where
-  held : IsHeldFor order chip
-  wait : ℕ
-  waits : WaitsFor wait chip
-  few : wait + most ≤ n
+pub record HeldLeft (most n : ℕ) (order : Order) (chip : ChipState) : Type 0 where
+  pub held : IsHeldFor order chip
+  pub wait : ℕ
+  pub waits : WaitsFor wait chip
+  pub few : wait + most ≤ n
 
-abbrev WorkLeft : ℕ → Order → ℕ → ChipState → Type 0
+abbrev pub WorkLeft : ℕ → Order → ℕ → ChipState → Type 0
 WorkLeft most order n chip = BusyLeft n chip ⊎ HeldLeft most n order chip
 
 -- ---- a call that is no device step
@@ -132,7 +132,7 @@ module _ (found : Code) (order : Order) (kind : is_data found ≡ true) (heads :
       by_wait : WaitsFor was.wait old → WorkLeft most order (n - 1) new
       by_wait (bounds.go drive goal going) = go_step was.wait n drive goal old new sound still working was.held going was.few does
       by_wait (bounds.pace pulses drive goal going more) =
-          pace_step pulses was.wait n drive goal old new (record { sound = sound; range = worked.range }) (record { sound = still; range = working.range }) was.held going more was.few does
+          pace_step pulses was.wait n drive goal old new (record { sound = sound; range = worked.ranges.controller }) (record { sound = still; range = working.ranges.controller }) was.held going more was.few does
 
   held_left : (call : Call) (n : ℕ) (old new : ChipState) → IsSound old → IsSound new → IsWorking old → IsWorking new → HeldLeft most n order old → Does call old new → WorkLeft most order (n - steps_of call) new
   held_left made.Steps n old new sound still worked working was does = held_by_step n old new sound still worked working was does
@@ -146,7 +146,7 @@ module _ (found : Code) (order : Order) (kind : is_data found ≡ true) (heads :
   held_left (made.Straps on) n old new sound still worked working was does = inr (held_call most n order (made.Straps on) old new was does refl refl)
   held_left (made.StrapsSteps on) n old new sound still worked working was does = inr (held_call most n order (made.StrapsSteps on) old new was does refl refl)
 
-  work_call : (call : Call) (n : ℕ) (old new : ChipState) → IsSound old → IsSound new → IsWorking old → IsWorking new → WorkLeft most order n old → Does call old new → WorkLeft most order (n - steps_of call) new
+  pub work_call : (call : Call) (n : ℕ) (old new : ChipState) → IsSound old → IsSound new → IsWorking old → IsWorking new → WorkLeft most order n old → Does call old new → WorkLeft most order (n - steps_of call) new
   work_call call n old new sound still worked working (inl was) does = inl (call_left call n old new sound still was does working.works)
   work_call call n old new sound still worked working (inr was) does = held_left call n old new sound still worked working was does
 
@@ -167,7 +167,7 @@ module _ (found : Code) (order : Order) (kind : is_data found ≡ true) (heads :
   held_some : (wait n : ℕ) → 1 ≤ wait → wait + most ≤ n → 0 < n
   held_some wait n some few = omega arith
 
-  work_some : (n : ℕ) (chip : ChipState) → IsSound chip → WorkLeft most order n chip → 0 < n
+  pub work_some : (n : ℕ) (chip : ChipState) → IsSound chip → WorkLeft most order n chip → 0 < n
   work_some n chip sound (inl was) = left_positive n chip sound was
   work_some n chip sound (inr was) = held_some was.wait n (waits_some was.wait chip was.waits) was.few
 
@@ -189,7 +189,7 @@ same_most : (n : ℕ) → n ≤ n
 same_most n = omega arith
 
 -- the command begins, or is held
-given_left : (wait : ℕ) (found : Code) (byte : ℕ) (old begun : ChipState) → is_data found ≡ true → needs_heads found ≡ true → IsGiven wait found byte old begun
+pub given_left : (wait : ℕ) (found : Code) (byte : ℕ) (old begun : ChipState) → is_data found ≡ true → needs_heads found ≡ true → IsGiven wait found byte old begun
     → WorkLeft (most_steps_of found (completed byte old)) (completed byte old) (wait + most_steps_of found (completed byte old)) begun
 given_left wait found byte old begun kind heads given =
     let order = completed byte old in

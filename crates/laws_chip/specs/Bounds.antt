@@ -1,5 +1,6 @@
 -- Commands that are under way, from their last byte on, and for how many device steps they are at most.
-use Rattle.std.specs.Prelude.{◌≡◌, ◌<◌, ◌≤◌, ℕ, ◌+◌, ◌*◌, Bool, true, false, not, ◌&&◌, Option, List, [], ◌∷◌, if◌then◌else◌}
+use Rattle.std.specs.Prelude.{◌≡◌, ◌⊎◌, ◌<◌, ◌≤◌, ℕ, ◌+◌, ◌*◌, Bool, true, false, not, ◌&&◌, Option, List, [], ◌∷◌, if◌then◌else◌}
+use Rattle.fdc_commands.specs.declared.results.Results.{Results}
 use Rattle.fdc_core.specs.Ranges.{IsInRange}
 use Rattle.laws_sequencer.specs.Lasting.{HasByteNumbers}
 use Rattle.fdc_chip.specs.Chips.{ChipState}
@@ -12,11 +13,12 @@ use Rattle.fdc_chip.specs.declared.order.Order.{Order}
 use Rattle.fdc_chip.specs.declared.stage.Stage.{Stage}
 use Rattle.fdc_chip.specs.declared.stage.Stage.TheVariants.{Busy, Held}
 use Rattle.laws_chip.specs.Beginning.{Completes}
-use Rattle.laws_chip.specs.Calls.{Call, Does, WritesByte}
+use Rattle.laws_chip.specs.Calls.{Call, Does, WritesByte, is_reset}
 use Rattle.laws_chip.specs.Lasting.{most_track_steps}
 use Rattle.laws_chip.specs.PacedSeeks.{HeadsPaced}
 use Rattle.laws_chip.specs.Seeks.{HeadsGo, most_of}
 use Rattle.laws_chip.specs.Sound.{IsSound}
+use Rattle.laws_chip.specs.Told.{Tells}
 
 -- ---- how many device steps
 
@@ -48,11 +50,15 @@ has_command Held = true
 has_command (Busy task) = true
 has_command _ = false
 
--- a command is under way. The numbers of the chip are those of registers and bytes, as `ranges` ensures
+-- the numbers of the chip are those of registers and bytes, as `ranges` ensures
+pub record HasRanges (chip : ChipState) : Type 0 where
+  pub controller : IsInRange chip.front.adapter.controller
+  pub records : HasByteNumbers chip.front.stage
+
+-- a command is under way
 pub record IsWorking (chip : ChipState) : Type 0 where
   pub works : has_command chip.stage ≡ true
-  pub range : IsInRange chip.front.adapter.controller
-  pub records : HasByteNumbers chip.front.stage
+  pub ranges : HasRanges chip
 
 -- any calls, after each of which a command is under way
 abbrev pub AreWorking : List Call → ChipState → ChipState → Type 0
@@ -75,3 +81,17 @@ pub record IsGiven (wait : ℕ) (code : Code) (byte : ℕ) (old new : ChipState)
   pub writes : WritesChip 0x3F5 byte old new
   pub working : IsWorking new
   pub waits : new.stage ≡ Held → WaitsFor wait new
+
+-- ---- the end
+
+-- any calls but a reset
+abbrev pub AreWithoutReset : List Call → ChipState → ChipState → Type 0
+AreWithoutReset [] old new = new ≡ old
+AreWithoutReset (made ∷ calls) old new =
+    (between : ChipState) × Does made old between × WritesByte made × (is_reset made ≡ false) × HasRanges between × AreWithoutReset calls between new
+
+-- the command stays under way up to one of the calls, and with this call its results are told with INT
+abbrev pub EndsAmong : (calls : List Call) (old new : ChipState) → AreWithoutReset calls old new → Type 0
+EndsAmong [] old new same = ⊥
+EndsAmong (made ∷ calls) old new are =
+    ((results : Results) × Tells results are.0) ⊎ ((has_command are.0.stage ≡ true) × EndsAmong calls are.0 new are.5)
