@@ -37,3 +37,5 @@ mod BusyLeft
 mod WorkBegins
 mod WorkLasts
 mod WorkEnds
+mod HeadsTold
+mod HeadsLeft

@@ -1,5 +1,7 @@
 -- Commands that are under way, from their last byte on, and for how many device steps they are at most.
-use Rattle.std.specs.Prelude.{◌≡◌, ◌⊎◌, ◌<◌, ◌≤◌, ℕ, ◌+◌, ◌*◌, Bool, true, false, not, ◌&&◌, Option, List, [], ◌∷◌, if◌then◌else◌}
+use Rattle.std.specs.Prelude.{◌≡◌, ◌⊎◌, ◌<◌, ◌≤◌, ℕ, ◌+◌, ◌*◌, max, Bool, true, false, not, ◌&&◌, Option, None, Some, List, [], ◌∷◌, if◌then◌else◌}
+use Rattle.fdc_commands.specs.Seeking.{has_ended_seek}
+use Rattle.fdc_commands.specs.declared.motion.Seek.{Seek as DriveSeek}
 use Rattle.fdc_commands.specs.declared.results.Results.{Results}
 use Rattle.fdc_core.specs.Ranges.{IsInRange}
 use Rattle.laws_sequencer.specs.Lasting.{HasByteNumbers}
@@ -7,16 +9,18 @@ use Rattle.fdc_chip.specs.Chips.{ChipState}
 use Rattle.fdc_chip.specs.Codes.{has_bit, has_multitrack}
 use Rattle.fdc_chip.specs.Doing.{sectors_to, verifying}
 use Rattle.fdc_chip.specs.Ports.{WritesChip}
+use Rattle.fdc_chip.specs.Settings.{step_words}
 use Rattle.fdc_chip.specs.declared.code.Code.{Code}
 use Rattle.fdc_chip.specs.declared.code.Code.TheVariants.{FormatTrack, ReadId, ReadTrack, Transfer, Verify}
 use Rattle.fdc_chip.specs.declared.order.Order.{Order}
+use Rattle.fdc_chip.specs.declared.pace.Pace.{Pace}
 use Rattle.fdc_chip.specs.declared.stage.Stage.{Stage}
 use Rattle.fdc_chip.specs.declared.stage.Stage.TheVariants.{Busy, Held}
 use Rattle.laws_chip.specs.Beginning.{Completes}
 use Rattle.laws_chip.specs.Calls.{Call, Does, WritesByte, is_reset}
 use Rattle.laws_chip.specs.Lasting.{most_track_steps}
-use Rattle.laws_chip.specs.PacedSeeks.{HeadsPaced}
-use Rattle.laws_chip.specs.Seeks.{HeadsGo, most_of}
+use Rattle.laws_chip.specs.PacedSeeks.{HeadsPaced, pulses_left}
+use Rattle.laws_chip.specs.Seeks.{HeadsGo, most_of, steps_left}
 use Rattle.laws_chip.specs.Sound.{IsSound}
 use Rattle.laws_chip.specs.Told.{Tells}
 
@@ -66,9 +70,32 @@ AreWorking [] old new = new ≡ old
 AreWorking (made ∷ calls) old new =
     (between : ChipState) × Does made old between × WritesByte made × IsWorking between × AreWorking calls between new
 
+-- ---- ---- heads that move
+
+-- the device steps that the seek in the inner controller still takes at most
+abbrev pub seek_steps : Option DriveSeek → ℕ
+seek_steps None = 0
+seek_steps (Some seek) = steps_left seek.motion
+
+-- the device steps for which heads move at most, if pulses come in so many word times. The inner controller takes at
+-- most 256 for a pulse, and as many for the command that ends the seek
+abbrev pub heads_steps : ℕ → Option Pace → Option DriveSeek → ℕ
+heads_steps words None seek = seek_steps seek
+heads_steps words (Some pace) seek = max pace.wait (seek_steps seek) + (pulses_left pace * (max words 256 + 1) + 257)
+
+abbrev pub heads_of : ChipState → ℕ
+heads_of chip = heads_steps (step_words chip.settings) chip.pace chip.front.adapter.controller.seeks.seek
+
+-- heads move for at most so many device steps. No seek that has ended keeps the inner controller
+pub record HeadsMove (left : ℕ) (chip : ChipState) : Type 0 where
+  pub runs : has_ended_seek chip.front.adapter.controller.seeks ≡ false
+  pub some : 1 ≤ heads_of chip
+  pub within : heads_of chip ≤ left
+
 -- a command that is held waits for heads, for at most so many device steps: those of the pulses that come in the time
 -- that SPECIFY sets, and those of the seek in the inner controller
 pub data WaitsFor (left : ℕ) (chip : ChipState) : Type 0 where
+  move : HeadsMove left chip → WaitsFor left chip
   go : (drive : ℕ) (goal : Option ℕ) → HeadsGo left drive goal Held chip → WaitsFor left chip
   pace : (pulses drive : ℕ) (goal : Option ℕ) → HeadsPaced pulses drive goal Held chip → pulses + most_of goal ≤ left → WaitsFor left chip
 

@@ -14,3 +14,4 @@ pub mod seeks;
 pub mod soundness;
 pub mod timing;
 pub mod transfers;
+pub mod waiting;

@@ -1,0 +1,6 @@
+use Rattle.std.proofs.Common.{refl}
+use Rattle.laws_chip.proofs.HeadsLeft.{paces_on}
+use Rattle.laws_chip.proofs.waiting.tmp_heads.Goals as goal
+
+pub returns : goal.returns
+returns c = refl

@@ -1,0 +1,4 @@
+ghost use Rattle.std.specs.Prelude.{◌≡◌, true};
+pub fn tmp_heads()
+    ensures { true ≡ true }
+{}
