@@ -39,3 +39,4 @@ mod WorkLasts
 mod WorkEnds
 mod HeadsTold
 mod HeadsLeft
+mod HeadsWait

@@ -12,7 +12,7 @@ use Rattle.fdc_chip.specs.declared.code.Code.TheVariants as code
 use Rattle.fdc_chip.specs.declared.order.Order.{Order}
 use Rattle.fdc_chip.specs.declared.stage.Stage.TheVariants.{Held}
 use Rattle.laws_chip.specs.Beginning.{IsDoneFree, IsHeldFor, completed, still_moves}
-use Rattle.laws_chip.specs.Bounds.{AreWorking, IsGiven, IsWorking, WaitsFor, has_command, most_steps_of}
+use Rattle.laws_chip.specs.Bounds.{AreWorking, IsGiven, HeadsMove, IsWorking, WaitsFor, has_command, heads_of, most_steps_of}
 use Rattle.laws_chip.specs.Bounds as bounds
 use Rattle.laws_chip.specs.Calls as made
 use Rattle.laws_chip.specs.Calls.{Call, Does, is_reset, is_step, steps_in, steps_of}
@@ -22,6 +22,7 @@ use Rattle.laws_chip.specs.Seeks.{HeadsGo, IsSoundInRange, most_of}
 use Rattle.laws_chip.specs.Sound.{IsSound}
 use Rattle.laws_chip.proofs.BusyLeft.{BusyLeft, call_left, left_positive, more_left, none_of}
 use Rattle.laws_chip.proofs.HeadsGoing.{heads_some}
+use Rattle.laws_chip.proofs.HeadsWait.{move_call, move_step}
 use Rattle.laws_chip.proofs.NextStages.{works_quiet}
 use Rattle.laws_chip.proofs.PulsesGoing.{paced_some}
 use Rattle.laws_chip.proofs.SeeksHeld.{call_going, call_paced, held_step, paced_held}
@@ -65,9 +66,10 @@ data_same made.Changes old new at does here = absurd (false≢true here)
 data_same (made.Straps on) old new at does here = absurd (false≢true here)
 data_same (made.StrapsSteps on) old new at does here = absurd (false≢true here)
 
-other_waits : (wait : ℕ) (call : Call) (old new : ChipState) → WaitsFor wait old → Does call old new → is_step call ≡ false → is_reset call ≡ false → is_of_data_port call ≡ false → WaitsFor wait new
-other_waits wait call old new (bounds.go drive goal was) does no_step quiet other = bounds.go drive goal (call_going wait drive goal Held call old new refl was does no_step quiet other)
-other_waits wait call old new (bounds.pace pulses drive goal was few) does no_step quiet other =
+other_waits : (wait : ℕ) (call : Call) (old new : ChipState) → old.stage ≡ Held → WaitsFor wait old → Does call old new → is_step call ≡ false → is_reset call ≡ false → is_of_data_port call ≡ false → WaitsFor wait new
+other_waits wait call old new at (bounds.move was) does no_step quiet other = bounds.move (move_call wait call old new at does no_step quiet other was)
+other_waits wait call old new at (bounds.go drive goal was) does no_step quiet other = bounds.go drive goal (call_going wait drive goal Held call old new refl was does no_step quiet other)
+other_waits wait call old new at (bounds.pace pulses drive goal was few) does no_step quiet other =
     bounds.pace pulses drive goal (call_paced pulses drive goal Held call old new refl was does no_step quiet other) few
 
 none_fewer : (all n steps : ℕ) → steps ≡ 0 → all ≤ n → all ≤ n - steps
@@ -79,7 +81,7 @@ held_call most n order call old new was does no_step quiet = record {
   wait = was.wait;
   waits = either_way (is_of_data_port call)
       (λ here. subst (WaitsFor was.wait) (sym (data_same call old new was.held.held does here)) was.waits)
-      (λ other. other_waits was.wait call old new was.waits does no_step quiet other);
+      (λ other. other_waits was.wait call old new was.held.held was.waits does no_step quiet other);
   few = none_fewer (was.wait + most) n (steps_of call) (none_of call no_step) was.few;
 }
 
@@ -96,6 +98,15 @@ pulse_waited pulses goal wait most n more few = (omega arith, omega arith)
 
 pulses_waited : (pulses goal wait most n : ℕ) → pulses + 1 + goal ≤ wait → wait + most ≤ n → goal + most ≤ n - 1
 pulses_waited pulses goal wait most n more few = omega arith
+
+move_some : (all left : ℕ) → 1 ≤ all → all ≤ left → 1 ≤ left
+move_some all left some few = omega arith
+
+move_waited : (wait most n : ℕ) → 1 ≤ wait → wait + most ≤ n → wait - 1 + most ≤ n - 1
+move_waited wait most n some few = omega arith
+
+move_done : (wait most n : ℕ) → 1 ≤ wait → wait + most ≤ n → most ≤ n - 1
+move_done wait most n some few = omega arith
 
 next : (n : ℕ) → suc n ≡ n + 1
 next n = omega arith
@@ -126,10 +137,20 @@ module _ (found : Code) (order : Order) (kind : is_data found ≡ true) (heads :
         | inr going ↦ inr (record { held = on; wait = most_of goal; waits = bounds.go drive goal going; few = pulses_waited pulses (most_of goal) wait most n all few })
       ]
 
+  moved_step : (wait n : ℕ) (old new : ChipState) → IsSound old → IsSound new → IsWorking old → IsWorking new → IsHeldFor order old → HeadsMove wait old → wait + most ≤ n → Does made.Steps old new → WorkLeft most order (n - 1) new
+  moved_step wait n old new sound still worked working held was few does =
+      let some = move_some (heads_of old) wait was.some was.within in
+      elim (move_step wait found order old new sound worked.ranges.controller working.ranges.controller held is heads was does) [
+        | inl (on, going) ↦ inr (record { held = on; wait = wait - 1; waits = bounds.move going; few = move_waited wait most n some few })
+        | inr done ↦ inl (more_left most (n - 1) new (move_done wait most n some few) (done_left found order new kind still few_code is done working))
+      ]
+
   held_by_step : (n : ℕ) (old new : ChipState) → IsSound old → IsSound new → IsWorking old → IsWorking new → HeldLeft most n order old → Does made.Steps old new → WorkLeft most order (n - 1) new
   held_by_step n old new sound still worked working was does = by_wait was.waits
     where
       by_wait : WaitsFor was.wait old → WorkLeft most order (n - 1) new
+      by_wait (bounds.move going) =
+          moved_step was.wait n old new sound still worked working was.held going was.few does
       by_wait (bounds.go drive goal going) = go_step was.wait n drive goal old new sound still working was.held going was.few does
       by_wait (bounds.pace pulses drive goal going more) =
           pace_step pulses was.wait n drive goal old new (record { sound = sound; range = worked.ranges.controller }) (record { sound = still; range = working.ranges.controller }) was.held going more was.few does
@@ -153,6 +174,7 @@ module _ (found : Code) (order : Order) (kind : is_data found ≡ true) (heads :
   -- ---- ---- calls one after the other
 
   waits_some : (wait : ℕ) (chip : ChipState) → WaitsFor wait chip → 1 ≤ wait
+  waits_some wait chip (bounds.move was) = move_some (heads_of chip) wait was.some was.within
   waits_some wait chip (bounds.go drive goal was) = by_wait wait was
     where
       by_wait : (wait : ℕ) → HeadsGo wait drive goal Held chip → 1 ≤ wait
