@@ -129,12 +129,12 @@ four_none : (pending : List (Option ℕ)) → pending ≡ none_pending → lengt
 four_none pending is = ap length is
 
 -- a SEEK is given
-record IsSoughtBy (start : Front) (new : ChipState) : Type 0 where
-  idle : IsIdleAt new.front
-  runs : has_ended_seek new.front.adapter.controller.seeks ≡ false
-  pending : new.front.adapter.controller.seeks.pending ≡ start.adapter.controller.seeks.pending
+pub record IsSoughtBy (start : Front) (new : ChipState) : Type 0 where
+  pub idle : IsIdleAt new.front
+  pub runs : has_ended_seek new.front.adapter.controller.seeks ≡ false
+  pub pending : new.front.adapter.controller.seeks.pending ≡ start.adapter.controller.seeks.pending
 
-seek_given : (unit target : ℕ) (start : Front) (new : ChipState) → Stands start → Sends (moving unit (Some target)) start new.front → IsSoughtBy start new
+pub seek_given : (unit target : ℕ) (start : Front) (new : ChipState) → Stands start → Sends (moving unit (Some target)) start new.front → IsSoughtBy start new
 seek_given unit target start new stands sends =
     let (through, is) = seek_sent unit target start new.front stands sends in
     record {

@@ -52,7 +52,7 @@ not_both true true both is = both
 not_both true false both is = absurd (false≢true is)
 not_both false c both is = refl
 
-sense_tells : (s : Seeking) → TellsEnd s → TellsEnd (after_sense s)
+pub sense_tells : (s : Seeking) → TellsEnd s → TellsEnd (after_sense s)
 sense_tells s tells = by_first (first_pending s)
   where
     by_seek : (drive : ℕ) (seek : Option DriveSeek) → HasResult seek s.pending → HasResult (released drive seek) (slice_set s.pending drive None)
@@ -106,6 +106,14 @@ sense_left s = by_first (first_pending s)
 
 -- ---- ---- all results are taken over
 
+pub taken_seeks : (fdc : Fdc) → (without_result (sensed fdc.seeks) fdc).seeks ≡ after_sense fdc.seeks
+taken_seeks fdc = by_first (first_pending fdc.seeks) refl
+  where
+    by_first : (first : Option ℕ) → first_pending fdc.seeks ≡ first
+        → (without_result (option_map (λ drive. (status_of fdc.seeks drive, slice_index fdc.seeks.cylinders drive)) first) fdc).seeks ≡ after_sense fdc.seeks
+    by_first None is = sym (ap (λ first. option_map_or (without_one fdc.seeks) first fdc.seeks) is)
+    by_first (Some drive) is = refl
+
 pub one_seeks : (chip : ChipState) → IsIdleAt chip.front → (drained_one chip).front.adapter.controller.seeks ≡ after_sense chip.front.adapter.controller.seeks
 one_seeks chip idle =
     let front = chip.front in
@@ -114,14 +122,6 @@ one_seeks chip idle =
     ap (λ (f : Front). f.adapter.controller.seeks) (kept_front (pending_outside front) (with_front (sensed_outside front) chip)
     ∙ (ap (λ stage. sensed_at stage front) idle.through ∙ ap (λ (c : Fdc). record front { adapter = with_controller c front.adapter }) over))
     ∙ taken_seeks fdc
-  where
-    taken_seeks : (fdc : Fdc) → (without_result (sensed fdc.seeks) fdc).seeks ≡ after_sense fdc.seeks
-    taken_seeks fdc = by_first (first_pending fdc.seeks) refl
-      where
-        by_first : (first : Option ℕ) → first_pending fdc.seeks ≡ first
-            → (without_result (option_map (λ drive. (status_of fdc.seeks drive, slice_index fdc.seeks.cylinders drive)) first) fdc).seeks ≡ after_sense fdc.seeks
-        by_first None is = sym (ap (λ first. option_map_or (without_one fdc.seeks) first fdc.seeks) is)
-        by_first (Some drive) is = refl
 
 abbrev sense_all : Seeking → Seeking
 sense_all s = after_sense (after_sense (after_sense (after_sense s)))

@@ -40,3 +40,5 @@ mod WorkEnds
 mod HeadsTold
 mod HeadsLeft
 mod HeadsWait
+mod KnownEnds
+mod UsedWaits

@@ -97,7 +97,7 @@ call_keeps (made.StrapsSteps on) what old new does at other quiet = keeps_as wha
 
 -- ---- a call after which a command is under way doesn't reset
 
-data_quiet : (port value : ℕ) → port ≡ 0x3F5 → resets port (value_behind port value) ≡ false
+pub data_quiet : (port value : ℕ) → port ≡ 0x3F5 → resets port (value_behind port value) ≡ false
 data_quiet port value is = subst (λ p. resets p (value_behind p value) ≡ false) (sym is) refl
 
 reset_over : (b : Bool) (set new : ChipState) → new ≡ with_front new.front (reset_if b set) → b ≡ true → has_command new.stage ≡ true → ⊥

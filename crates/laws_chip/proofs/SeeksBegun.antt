@@ -355,7 +355,7 @@ seek_comes code goal byte old new was is_after few completes is writes still unp
 -- ---- with the strap for the time of step pulses on
 
 -- if no seek bit is set, no seek is kept
-none_kept : (seek : Option DriveSeek) → option_map_or (λ (s : DriveSeek). 2 ^ s.drive) seek 0 ≡ 0 → seek ≡ None
+pub none_kept : (seek : Option DriveSeek) → option_map_or (λ (s : DriveSeek). 2 ^ s.drive) seek 0 ≡ 0 → seek ≡ None
 none_kept None none = refl
 none_kept (Some seek) none = let some = pow_pos seek.drive in absurd (omega arith)
 

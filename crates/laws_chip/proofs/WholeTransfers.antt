@@ -121,7 +121,7 @@ abbrev pub attending : ℕ → ChipState → ChipState
 attending byte old = record (with_next byte old) { count = 0 }
 
 -- the byte isn't the first one, and no more are wanted
-last_bytes : (code : Code) → needs_heads code ≡ true → ((parameters code == 0) ≡ false) × (nat_le (parameters code + 1) ((parameters code + 1) % 256) ≡ true)
+pub last_bytes : (code : Code) → needs_heads code ≡ true → ((parameters code == 0) ≡ false) × (nat_le (parameters code + 1) ((parameters code + 1) % 256) ≡ true)
 last_bytes Specify heads = absurd (false≢true heads)
 last_bytes SenseInterrupt heads = absurd (false≢true heads)
 last_bytes Version heads = absurd (false≢true heads)

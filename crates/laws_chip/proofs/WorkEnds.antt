@@ -8,6 +8,8 @@ use Rattle.fdc_chip.specs.Doing.{AttendsIf, Begins, BeginsReadId, FormatsIf, Obe
 use Rattle.fdc_chip.specs.declared.code.Code.{Code}
 use Rattle.fdc_chip.specs.declared.code.Code.TheVariants as code
 use Rattle.fdc_chip.specs.declared.order.Order.{Order}
+use Rattle.fdc_chip.specs.declared.stage.Stage.{Stage}
+use Rattle.fdc_chip.specs.declared.stage.Stage.TheVariants.{Ready, Held, Busy, Telling}
 use Rattle.fdc_chip.specs.declared.stage.Task.{Task}
 use Rattle.laws_chip.specs.Beginning.{IsHeldFor, completed}
 use Rattle.laws_chip.specs.Bounds.{AreWithoutReset, EndsAmong, IsGiven, IsWorking, HasRanges, has_command, most_steps_of}
@@ -18,54 +20,61 @@ use Rattle.laws_chip.specs.Told.{Tells}
 use Rattle.laws_chip.proofs.BusyLeft.{BusyLeft}
 use Rattle.laws_chip.proofs.Silences.{call_goes}
 use Rattle.laws_chip.proofs.SoundCalls.{call_sound, code_few}
+use Rattle.laws_chip.proofs.SoundParts.{is_busy}
 use Rattle.laws_chip.proofs.UnderWay.{clash, either_way}
 use Rattle.laws_chip.proofs.WholeTransfers.{IsAttended, call_held, follows_held, step_attends, step_rests}
 use Rattle.laws_chip.proofs.WorkBegins.{is_data}
 use Rattle.laws_chip.proofs.WorkLasts.{WorkLeft, given_left, work_call, work_some}
 
--- ---- a command that begins is under way
+-- ---- a command that begins is executed
 
-remembers_works : (b : Bool) (old new : ChipState) → has_command old.stage ≡ true → RemembersIf b old new → has_command new.stage ≡ true
-remembers_works true old new works (sends, rest) = ap (λ (chip : ChipState). has_command chip.stage) rest ∙ works
-remembers_works false old new works is = ap (λ (chip : ChipState). has_command chip.stage) is ∙ works
+remembers_busy : (b : Bool) (old new : ChipState) → is_busy old.stage ≡ true → RemembersIf b old new → is_busy new.stage ≡ true
+remembers_busy true old new busy (sends, rest) = ap (λ (chip : ChipState). is_busy chip.stage) rest ∙ busy
+remembers_busy false old new busy is = ap (λ (chip : ChipState). is_busy chip.stage) is ∙ busy
 
-begins_works : (what : Task) (seeks : Bool) (bytes : List ℕ) (old new : ChipState) → Begins what seeks bytes old new → has_command new.stage ≡ true
-begins_works what seeks bytes old new begins =
-    ap (λ (chip : ChipState). has_command chip.stage) begins.sends.1 ∙ remembers_works old.settings.forgotten (begun what seeks old) begins.set refl begins.remembers
+begins_busy : (what : Task) (seeks : Bool) (bytes : List ℕ) (old new : ChipState) → Begins what seeks bytes old new → is_busy new.stage ≡ true
+begins_busy what seeks bytes old new begins =
+    ap (λ (chip : ChipState). is_busy chip.stage) begins.sends.1 ∙ remembers_busy old.settings.forgotten (begun what seeks old) begins.set refl begins.remembers
 
-transfers_work : (b mfm : Bool) (what : Task) (bytes : List ℕ) (old new : ChipState) → TransfersIf b mfm what bytes old new → has_command new.stage ≡ true
-transfers_work true mfm what bytes old new begins = begins_works _ _ _ (sought_if (implies old) old) new begins
-transfers_work false mfm what bytes old new begins = begins_works _ _ _ old new begins
+transfers_busy : (b mfm : Bool) (what : Task) (bytes : List ℕ) (old new : ChipState) → TransfersIf b mfm what bytes old new → is_busy new.stage ≡ true
+transfers_busy true mfm what bytes old new begins = begins_busy _ _ _ (sought_if (implies old) old) new begins
+transfers_busy false mfm what bytes old new begins = begins_busy _ _ _ old new begins
 
-formats_work : (b mfm : Bool) (old new : ChipState) → FormatsIf b mfm old new → has_command new.stage ≡ true
-formats_work true mfm old new begins = begins_works _ _ _ old new begins
-formats_work false mfm old new begins = begins_works _ _ _ old new begins
+formats_busy : (b mfm : Bool) (old new : ChipState) → FormatsIf b mfm old new → is_busy new.stage ≡ true
+formats_busy true mfm old new begins = begins_busy _ _ _ old new begins
+formats_busy false mfm old new begins = begins_busy _ _ _ old new begins
 
-id_works : (mfm : Bool) (old new : ChipState) → BeginsReadId mfm old new → has_command new.stage ≡ true
-id_works true old new begins = begins_works _ _ _ old new begins
-id_works false old new begins = begins_works _ _ _ old new begins
+id_busy : (mfm : Bool) (old new : ChipState) → BeginsReadId mfm old new → is_busy new.stage ≡ true
+id_busy true old new begins = begins_busy _ _ _ old new begins
+id_busy false old new begins = begins_busy _ _ _ old new begins
 
-obeys_works : (found : Code) (old new : ChipState) → is_data found ≡ true → Obeys found old new → has_command new.stage ≡ true
-obeys_works (code.ReadId mfm) old new kind obeys = id_works mfm old new obeys
-obeys_works (code.FormatTrack mfm) old new kind obeys = formats_work (mfm && is_size old.order.key.c) mfm (with_keys old.order.key.h (with_last old.order.key.h old)) new obeys
-obeys_works (code.Transfer mfm) old new kind obeys = transfers_work (mfm && is_size old.order.key.n) mfm _ _ (with_last old.order.last_sector old) new obeys
-obeys_works (code.Verify mfm) old new kind obeys = transfers_work (mfm && is_size old.order.key.n) mfm _ _ (with_last old.order.last_sector old) new obeys
-obeys_works (code.ReadTrack mfm) old new kind obeys = transfers_work (mfm && is_size old.order.key.n) mfm _ _ (with_last old.order.last_sector old) new obeys
-obeys_works code.Specify old new kind obeys = absurd (false≢true kind)
-obeys_works code.SenseDrive old new kind obeys = absurd (false≢true kind)
-obeys_works code.SenseInterrupt old new kind obeys = absurd (false≢true kind)
-obeys_works code.Recalibrate old new kind obeys = absurd (false≢true kind)
-obeys_works code.Seek old new kind obeys = absurd (false≢true kind)
-obeys_works (code.RelativeSeek inward) old new kind obeys = absurd (false≢true kind)
-obeys_works code.Version old new kind obeys = absurd (false≢true kind)
-obeys_works code.Perpendicular old new kind obeys = absurd (false≢true kind)
-obeys_works code.Configure old new kind obeys = absurd (false≢true kind)
-obeys_works code.DumpRegisters old new kind obeys = absurd (false≢true kind)
-obeys_works (code.Lock on) old new kind obeys = absurd (false≢true kind)
+pub obeys_busy : (found : Code) (old new : ChipState) → is_data found ≡ true → Obeys found old new → is_busy new.stage ≡ true
+obeys_busy (code.ReadId mfm) old new kind obeys = id_busy mfm old new obeys
+obeys_busy (code.FormatTrack mfm) old new kind obeys = formats_busy (mfm && is_size old.order.key.c) mfm (with_keys old.order.key.h (with_last old.order.key.h old)) new obeys
+obeys_busy (code.Transfer mfm) old new kind obeys = transfers_busy (mfm && is_size old.order.key.n) mfm _ _ (with_last old.order.last_sector old) new obeys
+obeys_busy (code.Verify mfm) old new kind obeys = transfers_busy (mfm && is_size old.order.key.n) mfm _ _ (with_last old.order.last_sector old) new obeys
+obeys_busy (code.ReadTrack mfm) old new kind obeys = transfers_busy (mfm && is_size old.order.key.n) mfm _ _ (with_last old.order.last_sector old) new obeys
+obeys_busy code.Specify old new kind obeys = absurd (false≢true kind)
+obeys_busy code.SenseDrive old new kind obeys = absurd (false≢true kind)
+obeys_busy code.SenseInterrupt old new kind obeys = absurd (false≢true kind)
+obeys_busy code.Recalibrate old new kind obeys = absurd (false≢true kind)
+obeys_busy code.Seek old new kind obeys = absurd (false≢true kind)
+obeys_busy (code.RelativeSeek inward) old new kind obeys = absurd (false≢true kind)
+obeys_busy code.Version old new kind obeys = absurd (false≢true kind)
+obeys_busy code.Perpendicular old new kind obeys = absurd (false≢true kind)
+obeys_busy code.Configure old new kind obeys = absurd (false≢true kind)
+obeys_busy code.DumpRegisters old new kind obeys = absurd (false≢true kind)
+obeys_busy (code.Lock on) old new kind obeys = absurd (false≢true kind)
+
+busy_works : (stage : Stage) → is_busy stage ≡ true → has_command stage ≡ true
+busy_works Ready busy = absurd (false≢true busy)
+busy_works Held busy = refl
+busy_works (Busy what) busy = refl
+busy_works (Telling answer read) busy = absurd (false≢true busy)
 
 attends_works : (b : Bool) (found : Code) (old new : ChipState) → is_data found ≡ true → AttendsIf b found old new → has_command new.stage ≡ true
 attends_works true found old new kind is = ap (λ (chip : ChipState). has_command chip.stage) is
-attends_works false found old new kind obeys = obeys_works found old new kind obeys
+attends_works false found old new kind obeys = busy_works new.stage (obeys_busy found old new kind obeys)
 
 -- ---- a held command stays under way
 

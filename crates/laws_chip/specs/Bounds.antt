@@ -1,11 +1,12 @@
 -- Commands that are under way, from their last byte on, and for how many device steps they are at most.
 use Rattle.std.specs.Prelude.{◌≡◌, ◌⊎◌, ◌<◌, ◌≤◌, ℕ, ◌+◌, ◌*◌, max, Bool, true, false, not, ◌&&◌, Option, None, Some, List, [], ◌∷◌, if◌then◌else◌}
+use Rattle.drive_model.specs.Drive.{DriveState}
 use Rattle.fdc_commands.specs.Seeking.{has_ended_seek}
 use Rattle.fdc_commands.specs.declared.motion.Seek.{Seek as DriveSeek}
 use Rattle.fdc_commands.specs.declared.results.Results.{Results}
 use Rattle.fdc_core.specs.Ranges.{IsInRange}
 use Rattle.laws_sequencer.specs.Lasting.{HasByteNumbers}
-use Rattle.fdc_chip.specs.Chips.{ChipState}
+use Rattle.fdc_chip.specs.Chips.{ChipState, IsNewChip}
 use Rattle.fdc_chip.specs.Codes.{has_bit, has_multitrack}
 use Rattle.fdc_chip.specs.Doing.{sectors_to, verifying}
 use Rattle.fdc_chip.specs.Ports.{WritesChip}
@@ -99,6 +100,14 @@ pub data WaitsFor (left : ℕ) (chip : ChipState) : Type 0 where
   go : (drive : ℕ) (goal : Option ℕ) → HeadsGo left drive goal Held chip → WaitsFor left chip
   pace : (pulses drive : ℕ) (goal : Option ℕ) → HeadsPaced pulses drive goal Held chip → pulses + most_of goal ≤ left → WaitsFor left chip
 
+-- the device steps for which a command waits at most: none if it isn't held
+abbrev pub wait_at : Stage → ChipState → ℕ
+wait_at Held chip = heads_of chip
+wait_at _ chip = 0
+
+abbrev pub wait_of : ChipState → ℕ
+wait_of chip = wait_at chip.stage chip
+
 -- a sound chip is given the last byte of a command, which is then under way. If it is held, it waits for heads for at
 -- most so many device steps
 pub record IsGiven (wait : ℕ) (code : Code) (byte : ℕ) (old new : ChipState) : Type 0 where
@@ -122,3 +131,20 @@ abbrev pub EndsAmong : (calls : List Call) (old new : ChipState) → AreWithoutR
 EndsAmong [] old new same = ⊥
 EndsAmong (made ∷ calls) old new are =
     ((results : Results) × Tells results are.0) ⊎ ((has_command are.0.stage ≡ true) × EndsAmong calls are.0 new are.5)
+
+-- ---- a chip that was used
+
+-- any calls, after each of which the numbers of the chip are those of registers and bytes
+abbrev pub AreUses : List Call → ChipState → ChipState → Type 0
+AreUses [] old new = new ≡ old
+AreUses (made ∷ calls) old new = (between : ChipState) × Does made old between × WritesByte made × HasRanges between × AreUses calls between new
+
+-- the chip was made new, and then used by any calls
+pub record IsUsed (chip : ChipState) : Type 0 where
+  pub bay0 : DriveState
+  pub bay1 : DriveState
+  pub made : ChipState
+  pub new : IsNewChip bay0 bay1 made
+  pub ranges : HasRanges made
+  pub calls : List Call
+  pub uses : AreUses calls made chip
