@@ -208,7 +208,7 @@ module _ (words n : ℕ) (old : Front) (pace : Pace) (chip new : ChipState) (was
       let sought = seek_given pace.unit next.cylinder chip.front new stands sends in
       let seek = new.front.adapter.controller.seeks.seek in
       let steps = pulse_on (pulses_left next) (pulses_left pace) words (step_words chip.settings) pace.wait (seek_steps old.adapter.controller.seeks.seek) (seek_steps seek) n
-          (fewer_left (step_words chip.settings) pace goes) some (later sought.runs sought.idle) few in
+      (fewer_left (step_words chip.settings) pace goes) some (later sought.runs sought.idle) few in
       sought_paced words (n - 1) chip.front new sought was.none
       (subst (λ (p : Option Pace). heads_steps words p seek ≤ n - 1) (sym (ap (λ (c : ChipState). c.pace) rest)) steps)
 

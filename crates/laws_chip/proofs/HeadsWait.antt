@@ -175,7 +175,7 @@ move_step left found order old new sound range still held is heads was step =
     let later : IsFewLater paced = λ runs idle.
     subst (λ (seek : Option DriveSeek). seek_steps seek ≤ 256) (ap (λ (chip : ChipState). chip.front.adapter.controller.seeks.seek) now ∙ drained_same paced idle runs) (range_steps new.front.adapter.controller still) in
     let on = paces_on (step_words old.settings) left old step.between paced sound (sound_basis old (ap is_ready held.held) sound).free (at_rest old.stage old.front (ap is_busy held.held) sound.now) step.steps
-        range.seeks.pending (runs_tells old.front.adapter.controller.seeks was.runs) was.within (same_words (step_words old.settings)) later paces in
+    range.seeks.pending (runs_tells old.front.adapter.controller.seeks was.runs) was.within (same_words (step_words old.settings)) later paces in
     let settings : step_words paced.settings ≡ step_words old.settings = ap step_words (paces_settings old.pace (with_front step.between old) paced paces) in
     let go = drained_move (step_words old.settings) (left - 1) paced settings on moves in
     inl (subst (λ chip. IsHeldFor order chip × HeadsMove (left - 1) chip) (sym now) (

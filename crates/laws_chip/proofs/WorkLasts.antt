@@ -221,7 +221,7 @@ given_left wait found byte old begun kind heads given =
     either_way (still_moves old)
     (λ moves.
     let held = attended_held found (attending byte old) begun (byte_attends found byte old begun given.sound given.few heads given.last given.writes) heads
-        (same_moves (attending byte old) old refl refl ∙ moves) in
+    (same_moves (attending byte old) old refl refl ∙ moves) in
     inr (record { held = held; wait = wait; waits = given.waits held.held; few = same_most (wait + most) }))
     (λ stands.
     let done = byte_free found byte old begun given.sound given.few heads given.last given.writes stands in
