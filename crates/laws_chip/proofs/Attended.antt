@@ -215,7 +215,7 @@ transfer_sound false old new basis stands is obeys =
     id_sound (task.Refused old.order.unit old.order.key false) old.order.unit (with_last old.order.last_sector old) new (noted_basis old.order.last_sector old basis) stands (λ executes. executes) obeys
 
 -- VERIFY's READ DATA, whatever its code
-verifying_served : (code : ℕ) → code < 256 → is_some (opcode_of (bit_or 0x46 (bit_and code 0xA0))) ≡ true
+pub verifying_served : (code : ℕ) → code < 256 → is_some (opcode_of (bit_or 0x46 (bit_and code 0xA0))) ≡ true
 verifying_served code few = agree_below_at (λ n. is_some (opcode_of (bit_or 0x46 (bit_and n 0xA0)))) (λ _. true) 256 code refl few
 
 verify_sound : (mfm : Bool) (old new : ChipState) → IsBasis old → Stands old.front → Obeys (Verify mfm) old new → IsSound new

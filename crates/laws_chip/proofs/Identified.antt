@@ -181,7 +181,7 @@ step_hears place unit chip new step was at =
 free_of : (chip : ChipState) → IsSound chip → chip.stage ≡ Busy Sent → is_held chip.front.adapter.controller ≡ false
 free_of chip sound at = (sound_basis chip (ap parts.is_ready at) sound).free
 
-results_are : (front : Front) (ending : Ending) (results : Results) → front.stage ≡ Through → front.adapter.controller.phase ≡ Result (Long ending results 0) → results_behind front ≡ results
+pub results_are : (front : Front) (ending : Ending) (results : Results) → front.stage ≡ Through → front.adapter.controller.phase ≡ Result (Long ending results 0) → results_behind front ≡ results
 results_are front ending results through at =
     let fdc = front.adapter.controller in
     ap (λ stage. results_behind (record front { stage = stage })) through

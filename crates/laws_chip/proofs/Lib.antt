@@ -31,3 +31,14 @@ mod PulsesGoing
 mod SeeksHeld
 mod Prompt
 mod FormatLays
+mod NextStages
+mod FormatsEnd
+mod BusyLeft
+mod WorkBegins
+mod WorkLasts
+mod WorkEnds
+mod HeadsTold
+mod HeadsLeft
+mod HeadsWait
+mod KnownEnds
+mod UsedWaits

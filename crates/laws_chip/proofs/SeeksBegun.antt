@@ -75,11 +75,11 @@ four_clear (w ∷ x ∷ y ∷ []) four = absurd (omega arith)
 four_clear (w ∷ x ∷ y ∷ z ∷ v ∷ rest) four = absurd (omega arith)
 
 -- the controller takes commands
-record IsIdleAt (front : Front) : Type 0 where
-  through : front.stage ≡ Through
-  takes : front.adapter.controller.phase ≡ Taking
-  whole : front.adapter.controller.command ≡ []
-  free : is_held front.adapter.controller ≡ false
+pub record IsIdleAt (front : Front) : Type 0 where
+  pub through : front.stage ≡ Through
+  pub takes : front.adapter.controller.phase ≡ Taking
+  pub whole : front.adapter.controller.command ≡ []
+  pub free : is_held front.adapter.controller ≡ false
 
 -- the controller takes commands once a result was taken
 record IsTaken (old new : Fdc) : Type 0 where
@@ -106,17 +106,17 @@ result_taken fdc = by_first (position is_some s.pending) refl
       pending = ap (λ f. (option_map_or (seeking.without_result fdc.seeks) f fdc.seeks).pending) is ∙ sym (ap (λ f. option_map_or (λ p. slice_set fdc.seeks.pending p None) f fdc.seeks.pending) is);
     }
 
-idle_takes : (front : Front) → IsIdleAt front → is_idle front.adapter.controller ≡ true
+pub idle_takes : (front : Front) → IsIdleAt front → is_idle front.adapter.controller ≡ true
 idle_takes front idle =
     let fdc = front.adapter.controller in
     and_from (is_taking fdc) (not (is_begun fdc.command)) (ap (λ phase. takes_in phase (is_held fdc)) idle.takes ∙ ap not idle.free) (ap (λ command. not (is_begun command)) idle.whole)
 
 -- results were taken
-record AreTaken (old new : Front) : Type 0 where
-  idle : IsIdleAt new
-  poll : new.adapter.controller.poll_due ≡ old.adapter.controller.poll_due
+pub record AreTaken (old new : Front) : Type 0 where
+  pub idle : IsIdleAt new
+  pub poll : new.adapter.controller.poll_due ≡ old.adapter.controller.poll_due
 
-one_taken : (chip : ChipState) → IsIdleAt chip.front → AreTaken chip.front (drained_one chip).front × ((drained_one chip).front.adapter.controller.seeks.pending ≡ without_first chip.front.adapter.controller.seeks.pending)
+pub one_taken : (chip : ChipState) → IsIdleAt chip.front → AreTaken chip.front (drained_one chip).front × ((drained_one chip).front.adapter.controller.seeks.pending ≡ without_first chip.front.adapter.controller.seeks.pending)
 one_taken chip idle =
     let front = chip.front in
     let fdc = front.adapter.controller in
@@ -131,11 +131,11 @@ one_taken chip idle =
     )
 
 -- all results were taken
-record AreAllTaken (old new : Front) : Type 0 where
-  taken : AreTaken old new
-  pending : new.adapter.controller.seeks.pending ≡ none_pending
+pub record AreAllTaken (old new : Front) : Type 0 where
+  pub taken : AreTaken old new
+  pub pending : new.adapter.controller.seeks.pending ≡ none_pending
 
-all_taken : (chip : ChipState) → IsIdleAt chip.front → length chip.front.adapter.controller.seeks.pending ≡ 4 → AreAllTaken chip.front (drained chip).front
+pub all_taken : (chip : ChipState) → IsIdleAt chip.front → length chip.front.adapter.controller.seeks.pending ≡ 4 → AreAllTaken chip.front (drained chip).front
 unfolding drained_by
 all_taken chip idle four =
     let first = drained_one chip in
@@ -233,7 +233,7 @@ goal_moves (ReadTrack mfm) goal set new is obeys = absurd (cc)
 
 -- ---- what is then under way in the inner controller
 
-motion_within : (motion : Motion) → IsMotion motion → steps_left motion ≤ 256
+pub motion_within : (motion : Motion) → IsMotion motion → steps_left motion ≤ 256
 motion_within (Outward pulses) few = omega arith
 motion_within (Toward cylinder target) (first, second) = omega arith
 motion_within Ended few = omega arith
@@ -355,7 +355,7 @@ seek_comes code goal byte old new was is_after few completes is writes still unp
 -- ---- with the strap for the time of step pulses on
 
 -- if no seek bit is set, no seek is kept
-none_kept : (seek : Option DriveSeek) → option_map_or (λ (s : DriveSeek). 2 ^ s.drive) seek 0 ≡ 0 → seek ≡ None
+pub none_kept : (seek : Option DriveSeek) → option_map_or (λ (s : DriveSeek). 2 ^ s.drive) seek 0 ≡ 0 → seek ≡ None
 none_kept None none = refl
 none_kept (Some seek) none = let some = pow_pos seek.drive in absurd (omega arith)
 

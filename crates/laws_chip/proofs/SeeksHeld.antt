@@ -44,11 +44,11 @@ no_bytes_at Held waits = refl
 no_bytes_at (Busy task) waits = absurd (false≢true waits)
 no_bytes_at (Telling answer read) waits = absurd (false≢true waits)
 
-no_channel : (stage : Stage) (chip : ChipState) → waits_for_heads stage ≡ true → chip.stage ≡ stage → passes_by_channel chip ≡ false
+pub no_channel : (stage : Stage) (chip : ChipState) → waits_for_heads stage ≡ true → chip.stage ≡ stage → passes_by_channel chip ≡ false
 no_channel stage chip waits at =
     and_right (chip.gated && not (is_by_port chip.settings)) (passes chip) (ap (λ b. b && not (is_format chip.order && (chip.keys == 0))) (ap passes_at at ∙ no_bytes_at stage waits))
 
-not_counted : (stage : Stage) (chip : ChipState) → waits_for_heads stage ≡ true → count_told stage chip ≡ chip
+pub not_counted : (stage : Stage) (chip : ChipState) → waits_for_heads stage ≡ true → count_told stage chip ≡ chip
 not_counted Ready chip waits = refl
 not_counted Held chip waits = refl
 not_counted (Busy task) chip waits = absurd (false≢true waits)

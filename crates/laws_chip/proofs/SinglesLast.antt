@@ -29,6 +29,7 @@ use Rattle.laws_chip.specs.Lasting.{AreAt}
 use Rattle.laws_chip.specs.Sound.{ExecutesBehind, IsSound, executes_single}
 use Rattle.laws_chip.proofs.Channels.{counts_executes, front_gives, front_takes, gives_executes, keeps_executes, port_executes, front_left, takes_executes}
 use Rattle.laws_chip.proofs.FirstSectors.{base_held}
+use Rattle.laws_chip.proofs.FormatsEnd.{FormatsOn, formats, formats_step, told_formats}
 use Rattle.laws_chip.proofs.Rests.{through_step}
 use Rattle.laws_chip.proofs.Singles.{adapter_ends, executes_none, executes_step, single_fewer, waits_shown}
 use Rattle.laws_chip.proofs.SoundCalls.{call_sound}
@@ -99,6 +100,7 @@ ends_leave (task.Track track) results old new ends same = place_leaves track.pla
 pub record StaysSingle (n : ℕ) (old new : Front) : Type 0 where
   pub executes : ExecutesBehind new
   pub left : steps_left new.adapter.controller.phase + n ≤ steps_left old.adapter.controller.phase
+  pub formats : formats old.adapter.controller.phase ≡ true → formats new.adapter.controller.phase ≡ true
 
 same_left : (n m : ℕ) → n ≡ m → n + 0 ≤ m
 same_left n m same = omega arith
@@ -110,11 +112,16 @@ same_single : (old new : Front) → new ≡ old → ExecutesBehind old → Stays
 same_single old new is was = record {
   executes = subst ExecutesBehind (sym is) was;
   left = same_left (steps_left new.adapter.controller.phase) (steps_left old.adapter.controller.phase) (ap (λ (front : Front). steps_left front.adapter.controller.phase) is);
+  formats = λ was. ap (λ (front : Front). formats front.adapter.controller.phase) is ∙ was;
 }
 
 phase_left : (old new : Front) → new.adapter.controller.phase ≡ old.adapter.controller.phase → ExecutesBehind new → StaysSingle 0 old new
 phase_left old new same executes =
-    record { executes = executes; left = same_left (steps_left new.adapter.controller.phase) (steps_left old.adapter.controller.phase) (ap steps_left same) }
+    record {
+      executes = executes;
+      left = same_left (steps_left new.adapter.controller.phase) (steps_left old.adapter.controller.phase) (ap steps_left same);
+      formats = λ was. ap formats same ∙ was;
+    }
 
 -- a device step
 pub step_fewer : (old between : Front) → StepsFront old between → ExecutesBehind old → steps_left between.adapter.controller.phase < steps_left old.adapter.controller.phase
@@ -122,6 +129,11 @@ step_fewer old between step was =
     let phase = old.adapter.controller.phase in
     let fewer = (single_fewer phase step.between.controller.phase was.executes (adapter_ends old.adapter step.between step.steps)).0 in
     subst (λ (front : Front). steps_left front.adapter.controller.phase < steps_left phase) (sym (through_step old between step was.through)) fewer
+
+still_formats : (phase : Phase) → executes_single phase ≡ true → FormatsOn phase → formats phase ≡ true
+still_formats Taking single on = absurd (false≢true single)
+still_formats (Result ended) single on = absurd (false≢true single)
+still_formats (Execute execution) single on = on
 
 may_single : (what : Task) (old : ChipState) (between : Front) (new : ChipState) → IsBasis old → StepsFront old.front between → ExecutesBehind old.front → MayEnd what (with_front between old) new
     → stage_kind new.stage ≡ kind_of what → StaysSingle 1 old.front new.front
@@ -135,7 +147,11 @@ may_single what old between new basis step was may same =
           let shown = executes_none between free still in
           let at : new ≡ with_front between old = subst (λ b. EndsIf b what (with_front between old) new) shown may in
           subst (λ (chip : ChipState). StaysSingle 1 old.front chip.front) (sym at)
-          (record { executes = still; left = less_left (steps_left between.adapter.controller.phase) (steps_left fdc.phase) less })
+          (record {
+            executes = still;
+            left = less_left (steps_left between.adapter.controller.phase) (steps_left fdc.phase) less;
+            formats = λ formatted. still_formats between.adapter.controller.phase still.executes (formats_step old.front between step was.through formatted);
+          })
       | inr waits ↦
           let shown = waits_shown between free waits in
           absurd (ends_leave what (results_behind between) (with_front (results_taken between) old) new (subst (λ b. EndsIf b what (with_front between old) new) shown may) same)
@@ -173,6 +189,7 @@ counts_single old new is was =
       executes = counts_executes old new is was;
       left = same_left (steps_left new.adapter.controller.phase) (steps_left old.adapter.controller.phase)
           (ap (λ (front : Front). steps_left front.adapter.controller.phase) at ∙ told_left old.adapter.controller.phase);
+      formats = λ formatted. ap (λ (front : Front). formats front.adapter.controller.phase) at ∙ told_formats old.adapter.controller.phase formatted;
     }
 
 takes_if : (b : Bool) (byte : Option ℕ) (old new : ChipState) → TakesIf b old byte new → ExecutesBehind old.front → StaysSingle 0 old.front new.front

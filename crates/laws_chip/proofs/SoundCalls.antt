@@ -105,13 +105,13 @@ counts_at (Busy (task.Track track)) old new at sound is =
 -- ---- reads
 
 -- a byte of an answer is read
-record IsTold (old new : ChipState) : Type 0 where
-  front : new.front ≡ old.front
+pub record IsTold (old new : ChipState) : Type 0 where
+  pub front : new.front ≡ old.front
   count : new.count ≡ old.count
   order : new.order ≡ old.order
   idle : is_busy new.stage ≡ false
 
-byte_stays : (answer : Answer) (read : ℕ) (old : ChipState) → IsTold old (byte_told answer read old)
+pub byte_stays : (answer : Answer) (read : ℕ) (old : ChipState) → IsTold old (byte_told answer read old)
 byte_stays answer read old = by_last (is_of_data answer && (read == 0)) (nat_le (length (answer_bytes answer)) (read + 1))
   where
     by_last : (quiet last : Bool) → IsTold old (record (quieted_if quiet old) { stage = if last then Ready else Telling answer (read + 1) })

@@ -61,7 +61,7 @@ sector_given what unit key gap length set new basis stands at sized busy (sends,
     (ap (λ (chip : ChipState). chip.stage) rest ∙ at)
 
 -- the chip with what is then under way
-set_basis : (stage : Stage) (old : ChipState) → IsBasis old → IsBasis (record old { stage = stage })
+pub set_basis : (stage : Stage) (old : ChipState) → IsBasis old → IsBasis (record old { stage = stage })
 set_basis stage old basis = record { by_dma = basis.by_dma; whole = basis.whole; free = basis.free; none = basis.none; gated = basis.gated; code = basis.code }
 
 track_basis : (track : Track) (old : ChipState) → IsBasis old → IsBasis (track_at track old)
@@ -116,7 +116,7 @@ ends_sound (task.Track track) results old new basis stands ends = place_sound tr
 -- ---- ---- what may wait after a step
 
 -- what is executed for this task, or the results of that
-abbrev IsAtStep : Task → Front → Type 0
+abbrev pub IsAtStep : Task → Front → Type 0
 IsAtStep what front = IsBusyWith what front ⊎ IsOverBehind front
 
 serves_none : (front : Front) → ServesBehind front → has_results front ≡ false
@@ -127,7 +127,7 @@ place_none Index front free serves = serves_none front serves
 place_none Address front free executes = executes_none front free executes
 place_none Data front free serves = serves_none front serves
 
-busy_none : (what : Task) (front : Front) → is_held front.adapter.controller ≡ false → IsBusyWith what front → has_results front ≡ false
+pub busy_none : (what : Task) (front : Front) → is_held front.adapter.controller ≡ false → IsBusyWith what front → has_results front ≡ false
 busy_none task.Sent front free (inl serves) = serves_none front serves
 busy_none task.Sent front free (inr executes) = executes_none front free executes
 busy_none (task.Sought first) front free executes = executes_none front free executes
@@ -153,9 +153,9 @@ may_end_sound what under chip new basis at (inr (inr waits)) may =
 -- ---- what the front's step leaves
 
 -- after the step the front is in such a state, and the controller's base stays
-record IsStepped (what : Task) (old new : Front) : Type 0 where
-  at : IsAtStep what new
-  base : IsBase old.adapter.controller new.adapter.controller
+pub record IsStepped (what : Task) (old new : Front) : Type 0 where
+  pub at : IsAtStep what new
+  pub base : IsBase old.adapter.controller new.adapter.controller
 
 serves_stepped : (old new : Front) → StepsFront old new → old.adapter.controller.command ≡ [] → old.adapter.controller.non_dma ≡ false → ServesBehind old
     → (ServesBehind new ⊎ IsOverBehind new) × IsBase old.adapter.controller new.adapter.controller
@@ -178,7 +178,7 @@ place_stepped Address track old new at step none clear busy =
 place_stepped Data track old new at step none clear busy =
     stepped_as (task.Track track) old new (λ serves. subst (λ place. IsBusyAt place new) (sym at) serves) (serves_stepped old new step none clear busy)
 
-front_stepped : (what : Task) (old new : Front) → StepsFront old new → old.adapter.controller.command ≡ [] → old.adapter.controller.non_dma ≡ false → IsBusyWith what old → IsStepped what old new
+pub front_stepped : (what : Task) (old new : Front) → StepsFront old new → old.adapter.controller.command ≡ [] → old.adapter.controller.non_dma ≡ false → IsBusyWith what old → IsStepped what old new
 front_stepped task.Sent old new step none clear (inl busy) = stepped_as task.Sent old new (λ serves. inl serves) (serves_stepped old new step none clear busy)
 front_stepped task.Sent old new step none clear (inr busy) = stepped_as task.Sent old new (λ executes. inr executes) (executes_stepped old new step none busy)
 front_stepped (task.Sought first) old new step none clear busy = stepped_as (task.Sought first) old new (λ executes. executes) (executes_stepped old new step none busy)
@@ -214,7 +214,7 @@ swallows_one what left now start old new was one =
       base = base_on start.adapter.controller old.adapter.controller one.between.adapter.controller was.base (takes_front_base old one.byte one.between was.base.command one.takes);
     }) one.after
 
-swallows_many : (n : ℕ) (what : Task) (left now : ℕ) (start old new : Front) → IsStepped what start old → SwallowsBy n left old now new → IsStepped what start new
+pub swallows_many : (n : ℕ) (what : Task) (left now : ℕ) (start old new : Front) → IsStepped what start old → SwallowsBy n left old now new → IsStepped what start new
 unfolding SwallowsBy
 swallows_many zero what left now start old new was (now_is, is) = subst (IsStepped what start) (sym is) was
 swallows_many (suc n) what left now start old new was (some, between, many, one) =
@@ -292,7 +292,7 @@ goes_rests false pace old new by_dma none rests due is =
     subst (IsResting old) (sym is) (record { rests = rests; base = base_same old.front.adapter.controller none; stage = refl; count = refl; order = refl })
 
 -- the inner controller still rests
-paces_rest : (pace : Option Pace) (old new : ChipState) → old.front.adapter.controller.non_dma ≡ false → old.front.adapter.controller.command ≡ [] → RestsBehind old.front → Paces pace old new → IsResting old new
+pub paces_rest : (pace : Option Pace) (old new : ChipState) → old.front.adapter.controller.non_dma ≡ false → old.front.adapter.controller.command ≡ [] → RestsBehind old.front → Paces pace old new → IsResting old new
 paces_rest None old new by_dma none rests is =
     subst (IsResting old) (sym is) (record { rests = rests; base = base_same old.front.adapter.controller none; stage = refl; count = refl; order = refl })
 paces_rest (Some pace) old new by_dma none rests goes =

@@ -51,16 +51,16 @@ use Rattle.laws_chip.proofs.VerifiesLast.{IsWithin, none_within, one_within}
 
 -- the device steps left at each place: the search for the index and all sectors; READ ID, its sector and those after
 -- it; or a sector and those after it
-abbrev LeavesAt : Place → ℕ → ℕ → Front → Type 0
+abbrev pub LeavesAt : Place → ℕ → ℕ → Front → Type 0
 LeavesAt Index n left front = (here : ℕ) × Lasts here front × (here + 131328 * left ≤ n)
 LeavesAt Address n left front = steps_left front.adapter.controller.phase + (65792 + 131328 * left) ≤ n + 131328
 LeavesAt Data n left front = (here : ℕ) × Lasts here front × (here + 131328 * left ≤ n + 131328)
 
-record Leaves (n : ℕ) (chip : ChipState) : Type 0 where
-  track : Track
-  at : chip.stage ≡ Busy (task.Track track)
-  some : 1 ≤ track.left
-  leaves : LeavesAt track.place n track.left chip.front
+pub record Leaves (n : ℕ) (chip : ChipState) : Type 0 where
+  pub track : Track
+  pub at : chip.stage ≡ Busy (task.Track track)
+  pub some : 1 ≤ track.left
+  pub leaves : LeavesAt track.place n track.left chip.front
 
 -- a device step was made, and so many device steps are left
 abbrev SpentAt : Place → ℕ → ℕ → Type 0
@@ -78,7 +78,7 @@ data_spent : (here n left : ℕ) → 1 ≤ here → 1 ≤ left → here + 131328
 data_spent here n left one some few = omega arith
 
 -- while a sector is served at least one device step is left
-some_here : (here : ℕ) (front : Front) → ServesBehind front → Lasts here front → 1 ≤ here
+pub some_here : (here : ℕ) (front : Front) → ServesBehind front → Lasts here front → 1 ≤ here
 some_here here front serves lasts = lasts_some here front.stage serves.first serves.history front.adapter.controller serves.serves.now lasts serves.under_way
 
 spent_at : (place : Place) (n left : ℕ) (front : Front) → IsBusyAt place front → 1 ≤ left → LeavesAt place n left front → SpentAt place n left
@@ -403,7 +403,7 @@ other_leaves call n old new sound still was does other tracks =
 off_none : (n : ℕ) → n ≡ n - 0
 off_none n = omega arith
 
-call_leaves : (call : Call) (n : ℕ) (old new : ChipState) → IsSound old → IsSound new → Leaves n old → Does call old new → IsTracking new → Leaves (n - steps_of call) new
+pub call_leaves : (call : Call) (n : ℕ) (old new : ChipState) → IsSound old → IsSound new → Leaves n old → Does call old new → IsTracking new → Leaves (n - steps_of call) new
 call_leaves call n old new sound still was does tracks = either_way (is_step call)
     (λ steps. by_step call steps does)
     (λ other. subst (λ m. Leaves m new) (off_none n ∙ ap (λ m. n - m) (sym (none_of call other))) (other_leaves call n old new sound still was does other tracks))
@@ -428,7 +428,7 @@ address_some here left n some few = omega arith
 data_some : (here left n : ℕ) → 1 ≤ here → 1 ≤ left → here + 131328 * left ≤ n + 131328 → 0 < n
 data_some here left n one some few = omega arith
 
-leaves_some : (place : Place) (n left : ℕ) (front : Front) → IsBusyAt place front → 1 ≤ left → LeavesAt place n left front → 0 < n
+pub leaves_some : (place : Place) (n left : ℕ) (front : Front) → IsBusyAt place front → 1 ≤ left → LeavesAt place n left front → 0 < n
 leaves_some Index n left front serves some (here, lasts, few) = index_some here left n some few
 leaves_some Address n left front executes some few = address_some (steps_left front.adapter.controller.phase) left n some few
 leaves_some Data n left front serves some (here, lasts, few) = data_some here left n (some_here here front serves lasts) some few
@@ -455,7 +455,7 @@ all_left last = by_none (last == 0) refl
 at_most : (n : ℕ) → n ≤ n
 at_most n = omega arith
 
-track_leaves : (old begun : ChipState) → is_size old.order.key.n ≡ true → IsFreeBehind old.front → Obeys (ReadTrack true) old begun → IsInRange begun.front.adapter.controller → Leaves (most_track_steps old.order) begun
+pub track_leaves : (old begun : ChipState) → is_size old.order.key.n ≡ true → IsFreeBehind old.front → Obeys (ReadTrack true) old begun → IsInRange begun.front.adapter.controller → Leaves (most_track_steps old.order) begun
 track_leaves old begun size free obeys range =
     let order = old.order in
     let noted = with_last order.last_sector old in

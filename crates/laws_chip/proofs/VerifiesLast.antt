@@ -198,7 +198,7 @@ other_read port value old new no_data reads = either_way (port == 0x3F4)
     (λ status. (reads.status (eqb-true port 0x3F4 status)).1)
     (λ no_status. (reads.others no_status no_data).1)
 
-call_within : (call : Call) (left : ℕ) (old new : ChipState) → old.stage ≡ Busy (Verify left) → Does call old new → IsVerifying new → IsWithin (steps_of call) old.front new.front
+pub call_within : (call : Call) (left : ℕ) (old new : ChipState) → old.stage ≡ Busy (Verify left) → Does call old new → IsVerifying new → IsWithin (steps_of call) old.front new.front
 call_within made.Steps left old new at does still = step_within left old new at does still
 call_within (made.Takes byte) left old new at does still = takes_within (passes_by_channel old) byte old new (none_by_channel left old at) does
 call_within (made.Gives byte given) left old new at does still = gives_within (passes_by_channel old) byte given old new (none_by_channel left old at) does

@@ -99,7 +99,7 @@ attended_free code old new attended still =
       obeys = subst (λ b. AttendsIf b code set new) (and_right (needs_heads code) (is_moving set) still) attended.attends;
     }
 
-attended_held : (code : Code) (old new : ChipState) → IsAttended code old new → needs_heads code ≡ true → still_moves old ≡ true → IsHeldFor old.order new
+pub attended_held : (code : Code) (old new : ChipState) → IsAttended code old new → needs_heads code ≡ true → still_moves old ≡ true → IsHeldFor old.order new
 attended_held code old new attended heads moves =
     let set = drained old in
     let resting : IsResting old set = drained_rests 4 old attended.basis.whole attended.rests in
@@ -121,7 +121,7 @@ abbrev pub attending : ℕ → ChipState → ChipState
 attending byte old = record (with_next byte old) { count = 0 }
 
 -- the byte isn't the first one, and no more are wanted
-last_bytes : (code : Code) → needs_heads code ≡ true → ((parameters code == 0) ≡ false) × (nat_le (parameters code + 1) ((parameters code + 1) % 256) ≡ true)
+pub last_bytes : (code : Code) → needs_heads code ≡ true → ((parameters code == 0) ≡ false) × (nat_le (parameters code + 1) ((parameters code + 1) % 256) ≡ true)
 last_bytes Specify heads = absurd (false≢true heads)
 last_bytes SenseInterrupt heads = absurd (false≢true heads)
 last_bytes Version heads = absurd (false≢true heads)

@@ -10,3 +10,4 @@ pub mod Seeks
 pub mod PacedSeeks
 pub mod InTime
 pub mod FormatTracks
+pub mod Bounds

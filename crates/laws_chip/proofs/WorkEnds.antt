@@ -1,0 +1,136 @@
+-- A command that was given is over after its bound: its results are told with INT.
+use Rattle.std.proofs.Common.{◌≡◌, inl, inr, ℕ, ◌+◌, ◌-◌, ◌<◌, ◌≤◌, Bool, true, false, ◌&&◌, Some, List, [], ◌∷◌, refl, sym, ◌∙◌, ap, subst, arith}
+use Rattle.std.proofs.lemmas.Bool.{false≢true}
+use Rattle.fdc_commands.specs.declared.results.Results.{Results}
+use Rattle.fdc_chip.specs.Chips.{ChipState}
+use Rattle.fdc_chip.specs.Codes.{code_of}
+use Rattle.fdc_chip.specs.Doing.{AttendsIf, Begins, BeginsReadId, FormatsIf, Obeys, RemembersIf, TransfersIf, begun, drained, implies, is_moving, is_size, needs_heads, sought_if, with_keys, with_last}
+use Rattle.fdc_chip.specs.declared.code.Code.{Code}
+use Rattle.fdc_chip.specs.declared.code.Code.TheVariants as code
+use Rattle.fdc_chip.specs.declared.order.Order.{Order}
+use Rattle.fdc_chip.specs.declared.stage.Stage.{Stage}
+use Rattle.fdc_chip.specs.declared.stage.Stage.TheVariants.{Ready, Held, Busy, Telling}
+use Rattle.fdc_chip.specs.declared.stage.Task.{Task}
+use Rattle.laws_chip.specs.Beginning.{IsHeldFor, completed}
+use Rattle.laws_chip.specs.Bounds.{AreWithoutReset, EndsAmong, IsGiven, IsWorking, HasRanges, has_command, most_steps_of}
+use Rattle.laws_chip.specs.Calls as made
+use Rattle.laws_chip.specs.Calls.{Call, Does, is_reset, is_step, steps_in, steps_of}
+use Rattle.laws_chip.specs.Sound.{IsSound}
+use Rattle.laws_chip.specs.Told.{Tells}
+use Rattle.laws_chip.proofs.BusyLeft.{BusyLeft}
+use Rattle.laws_chip.proofs.Silences.{call_goes}
+use Rattle.laws_chip.proofs.SoundCalls.{call_sound, code_few}
+use Rattle.laws_chip.proofs.SoundParts.{is_busy}
+use Rattle.laws_chip.proofs.UnderWay.{clash, either_way}
+use Rattle.laws_chip.proofs.WholeTransfers.{IsAttended, call_held, follows_held, step_attends, step_rests}
+use Rattle.laws_chip.proofs.WorkBegins.{is_data}
+use Rattle.laws_chip.proofs.WorkLasts.{WorkLeft, given_left, work_call, work_some}
+
+-- ---- a command that begins is executed
+
+remembers_busy : (b : Bool) (old new : ChipState) → is_busy old.stage ≡ true → RemembersIf b old new → is_busy new.stage ≡ true
+remembers_busy true old new busy (sends, rest) = ap (λ (chip : ChipState). is_busy chip.stage) rest ∙ busy
+remembers_busy false old new busy is = ap (λ (chip : ChipState). is_busy chip.stage) is ∙ busy
+
+begins_busy : (what : Task) (seeks : Bool) (bytes : List ℕ) (old new : ChipState) → Begins what seeks bytes old new → is_busy new.stage ≡ true
+begins_busy what seeks bytes old new begins =
+    ap (λ (chip : ChipState). is_busy chip.stage) begins.sends.1 ∙ remembers_busy old.settings.forgotten (begun what seeks old) begins.set refl begins.remembers
+
+transfers_busy : (b mfm : Bool) (what : Task) (bytes : List ℕ) (old new : ChipState) → TransfersIf b mfm what bytes old new → is_busy new.stage ≡ true
+transfers_busy true mfm what bytes old new begins = begins_busy _ _ _ (sought_if (implies old) old) new begins
+transfers_busy false mfm what bytes old new begins = begins_busy _ _ _ old new begins
+
+formats_busy : (b mfm : Bool) (old new : ChipState) → FormatsIf b mfm old new → is_busy new.stage ≡ true
+formats_busy true mfm old new begins = begins_busy _ _ _ old new begins
+formats_busy false mfm old new begins = begins_busy _ _ _ old new begins
+
+id_busy : (mfm : Bool) (old new : ChipState) → BeginsReadId mfm old new → is_busy new.stage ≡ true
+id_busy true old new begins = begins_busy _ _ _ old new begins
+id_busy false old new begins = begins_busy _ _ _ old new begins
+
+pub obeys_busy : (found : Code) (old new : ChipState) → is_data found ≡ true → Obeys found old new → is_busy new.stage ≡ true
+obeys_busy (code.ReadId mfm) old new kind obeys = id_busy mfm old new obeys
+obeys_busy (code.FormatTrack mfm) old new kind obeys = formats_busy (mfm && is_size old.order.key.c) mfm (with_keys old.order.key.h (with_last old.order.key.h old)) new obeys
+obeys_busy (code.Transfer mfm) old new kind obeys = transfers_busy (mfm && is_size old.order.key.n) mfm _ _ (with_last old.order.last_sector old) new obeys
+obeys_busy (code.Verify mfm) old new kind obeys = transfers_busy (mfm && is_size old.order.key.n) mfm _ _ (with_last old.order.last_sector old) new obeys
+obeys_busy (code.ReadTrack mfm) old new kind obeys = transfers_busy (mfm && is_size old.order.key.n) mfm _ _ (with_last old.order.last_sector old) new obeys
+obeys_busy code.Specify old new kind obeys = absurd (false≢true kind)
+obeys_busy code.SenseDrive old new kind obeys = absurd (false≢true kind)
+obeys_busy code.SenseInterrupt old new kind obeys = absurd (false≢true kind)
+obeys_busy code.Recalibrate old new kind obeys = absurd (false≢true kind)
+obeys_busy code.Seek old new kind obeys = absurd (false≢true kind)
+obeys_busy (code.RelativeSeek inward) old new kind obeys = absurd (false≢true kind)
+obeys_busy code.Version old new kind obeys = absurd (false≢true kind)
+obeys_busy code.Perpendicular old new kind obeys = absurd (false≢true kind)
+obeys_busy code.Configure old new kind obeys = absurd (false≢true kind)
+obeys_busy code.DumpRegisters old new kind obeys = absurd (false≢true kind)
+obeys_busy (code.Lock on) old new kind obeys = absurd (false≢true kind)
+
+busy_works : (stage : Stage) → is_busy stage ≡ true → has_command stage ≡ true
+busy_works Ready busy = absurd (false≢true busy)
+busy_works Held busy = refl
+busy_works (Busy what) busy = refl
+busy_works (Telling answer read) busy = absurd (false≢true busy)
+
+attends_works : (b : Bool) (found : Code) (old new : ChipState) → is_data found ≡ true → AttendsIf b found old new → has_command new.stage ≡ true
+attends_works true found old new kind is = ap (λ (chip : ChipState). has_command chip.stage) is
+attends_works false found old new kind obeys = busy_works new.stage (obeys_busy found old new kind obeys)
+
+-- ---- a held command stays under way
+
+held_works : (found : Code) (order : Order) (call : Call) (old new : ChipState) → is_data found ≡ true → code_of order.code ≡ Some found → IsSound old → IsHeldFor order old → Does call old new → is_reset call ≡ false
+    → has_command new.stage ≡ true
+held_works found order call old new kind is sound held does quiet = either_way (is_step call)
+    (λ steps. by_step call steps does)
+    (λ other. ap has_command (call_held order call old new held does other quiet).held)
+  where
+    attended : Does made.Steps old new → has_command new.stage ≡ true
+    attended step =
+        let (paced, paces, attends) = follows_held old new step held.held in
+        let attended = step_attends found old paced new sound held.held (ap (λ (o : Order). code_of o.code) held.order_is ∙ is) (step_rests old paced new step sound held.held paces) attends in
+        attends_works (needs_heads found && is_moving (drained paced)) found (drained paced) new kind attended.attends
+
+    by_step : (call : Call) → is_step call ≡ true → Does call old new → has_command new.stage ≡ true
+    by_step made.Steps steps does = attended does
+    by_step (made.Takes byte) steps does = absurd (false≢true steps)
+    by_step (made.Gives byte given) steps does = absurd (false≢true steps)
+    by_step made.Counts steps does = absurd (false≢true steps)
+    by_step (made.Reads port value) steps does = absurd (false≢true steps)
+    by_step (made.Writes port value) steps does = absurd (false≢true steps)
+    by_step made.Changes steps does = absurd (false≢true steps)
+    by_step (made.Straps on) steps does = absurd (false≢true steps)
+    by_step (made.StrapsSteps on) steps does = absurd (false≢true steps)
+
+-- ---- the end
+
+none_left : (n : ℕ) → 0 < n → n ≤ 0 → ⊥
+none_left n some none = omega arith
+
+fewer_left : (n steps more : ℕ) → n ≤ steps + more → n - steps ≤ more
+fewer_left n steps more few = omega arith
+
+module _ (found : Code) (order : Order) (kind : is_data found ≡ true) (heads : needs_heads found ≡ true) (few_code : order.code < 256) (is : code_of order.code ≡ Some found) where
+  -- a command that is over after a call was executed, and its results are told
+  over_tells : (n : ℕ) (call : Call) (old new : ChipState) → IsSound old → WorkLeft (most_steps_of found order) order n old → Does call old new → is_reset call ≡ false → has_command new.stage ≡ false
+      → (results : Results) × Tells results new
+  over_tells n call old new sound (inl was) does quiet over = elim (call_goes call was.task old new does was.at quiet) [
+    | inl (what, busy) ↦ clash (has_command new.stage) over (ap has_command busy)
+    | inr tells ↦ tells
+  ]
+  over_tells n call old new sound (inr was) does quiet over = clash (has_command new.stage) over (held_works found order call old new kind is sound was.held does quiet)
+
+  works_end : (calls : List Call) (n : ℕ) (old new : ChipState) → IsSound old → IsWorking old → WorkLeft (most_steps_of found order) order n old → (are : AreWithoutReset calls old new) → n ≤ steps_in calls → EndsAmong calls old new are
+  works_end [] n old new sound worked was same many = none_left n (work_some found order kind heads few_code is n old sound was) many
+  works_end (call ∷ calls) n old new sound worked was (between, does, writes, quiet, ranges, rest) many = either_way (has_command between.stage)
+      (λ works.
+      let still = call_sound call old between does writes sound in
+      let working : IsWorking between = record { works = works; ranges = ranges } in
+      inr (works, works_end calls (n - steps_of call) between new still working (work_call found order kind heads few_code is call n old between sound still worked working was does) rest (fewer_left n (steps_of call) (steps_in calls) many)))
+      (λ over. inl (over_tells n call old between sound was does quiet over))
+
+pub given_ends : (found : Code) → is_data found ≡ true → needs_heads found ≡ true → (wait byte : ℕ) (calls : List Call) (old begun new : ChipState) → IsGiven wait found byte old begun → (are : AreWithoutReset calls begun new)
+    → wait + most_steps_of found (completed byte old) ≤ steps_in calls → EndsAmong calls begun new are
+given_ends found kind heads wait byte calls old begun new given are many =
+    let order = completed byte old in
+    works_end found order kind heads (code_few old.count byte old.order given.few given.sound.code) given.last.whole calls (wait + most_steps_of found order) begun new
+    (call_sound (made.Writes 0x3F5 byte) old begun given.writes given.few given.sound) given.working (given_left wait found byte old begun kind heads given) are many

@@ -1,0 +1,19 @@
+use Rattle.std.proofs.Common.{refl}
+use Rattle.fdc_chip.specs.declared.code.Code.TheVariants.{FormatTrack, ReadId, ReadTrack, Transfer, Verify}
+use Rattle.laws_chip.proofs.WorkEnds.{given_ends}
+use Rattle.laws_chip.proofs.lasting.a_command_that_comes_tells.Goals as goal
+
+pub returns-clause-read_id : goal.returns-clause-read_id
+returns-clause-read_id c = λ wait mfm. given_ends (ReadId mfm) refl refl wait
+
+pub returns-clause-format : goal.returns-clause-format
+returns-clause-format c = λ wait mfm. given_ends (FormatTrack mfm) refl refl wait
+
+pub returns-clause-transfer : goal.returns-clause-transfer
+returns-clause-transfer c = λ wait mfm. given_ends (Transfer mfm) refl refl wait
+
+pub returns-clause-verify : goal.returns-clause-verify
+returns-clause-verify c = λ wait mfm. given_ends (Verify mfm) refl refl wait
+
+pub returns-clause-read_track : goal.returns-clause-read_track
+returns-clause-read_track c = λ wait mfm. given_ends (ReadTrack mfm) refl refl wait
