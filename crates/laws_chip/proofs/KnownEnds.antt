@@ -328,13 +328,13 @@ none_at (Telling answer read) idle = refl
 none_passes : (chip : ChipState) → is_busy chip.stage ≡ false → passes chip ≡ false
 none_passes chip idle = and_left (passes_at chip.stage) (not (is_format chip.order && (chip.keys == 0))) (none_at chip.stage idle)
 
-none_by_port : (chip : ChipState) → is_busy chip.stage ≡ false → passes_by_port chip ≡ false
+pub none_by_port : (chip : ChipState) → is_busy chip.stage ≡ false → passes_by_port chip ≡ false
 none_by_port chip idle = and_right (is_by_port chip.settings) (passes chip) (none_passes chip idle)
 
-none_by_channel : (chip : ChipState) → is_busy chip.stage ≡ false → passes_by_channel chip ≡ false
+pub none_by_channel : (chip : ChipState) → is_busy chip.stage ≡ false → passes_by_channel chip ≡ false
 none_by_channel chip idle = and_right (chip.gated && not (is_by_port chip.settings)) (passes chip) (none_passes chip idle)
 
-idle_counts : (stage : Stage) (old : ChipState) → is_busy stage ≡ false → count_told stage old ≡ old
+pub idle_counts : (stage : Stage) (old : ChipState) → is_busy stage ≡ false → count_told stage old ≡ old
 idle_counts Ready old idle = refl
 idle_counts Held old idle = refl
 idle_counts (Busy what) old idle = absurd (false≢true (sym idle))

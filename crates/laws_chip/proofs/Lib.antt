@@ -42,3 +42,4 @@ mod HeadsLeft
 mod HeadsWait
 mod KnownEnds
 mod UsedWaits
+mod SeeksLast

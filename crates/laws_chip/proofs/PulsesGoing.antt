@@ -260,7 +260,7 @@ sent_calm unit target start new stands none sends =
       pending = ap (λ (fdc : Fdc). fdc.seeks.pending) is ∙ none;
     }
 
-bits_shown : (drive : ℕ) → drive ≤ 3 → not (bit_and (bit_or 0x80 (2 ^ drive)) 0x0F == 0) ≡ true
+pub bits_shown : (drive : ℕ) → drive ≤ 3 → not (bit_and (bit_or 0x80 (2 ^ drive)) 0x0F == 0) ≡ true
 bits_shown zero few = refl
 bits_shown (suc zero) few = refl
 bits_shown (suc (suc zero)) few = refl

@@ -33,10 +33,10 @@ use Rattle.laws_chip.proofs.WorkEnds.{obeys_busy}
 
 -- ---- what is true of a chip that was used
 
-record IsKnown (chip : ChipState) : Type 0 where
-  sound : IsSound chip
-  knows : KnowsEnd chip
-  ranges : HasRanges chip
+pub record IsKnown (chip : ChipState) : Type 0 where
+  pub sound : IsSound chip
+  pub knows : KnowsEnd chip
+  pub ranges : HasRanges chip
 
 new_known : (bay0 bay1 : DriveState) (made : ChipState) → IsNewChip bay0 bay1 made → KnowsEnd made
 new_known bay0 bay1 made is = record { tells = λ idle. subst (λ (fdc : Fdc). TellsEnd fdc.seeks) (sym is.front.adapter.controller) tt }
@@ -49,13 +49,13 @@ uses_known (call ∷ calls) old new was (between, does, writes, ranges, rest) = 
   ranges = ranges;
 }) rest
 
-used_known : (chip : ChipState) → IsUsed chip → IsKnown chip
+pub used_known : (chip : ChipState) → IsUsed chip → IsKnown chip
 used_known chip used =
     uses_known used.calls used.made chip (record { sound = new_sound used.bay0 used.bay1 used.made used.new; knows = new_known used.bay0 used.bay1 used.made used.new; ranges = used.ranges }) used.uses
 
 -- ---- a command that is done isn't held
 
-abbrev is_held_at : Stage → Bool
+abbrev pub is_held_at : Stage → Bool
 is_held_at Held = true
 is_held_at _ = false
 
@@ -69,24 +69,24 @@ moves_free : (b : Bool) (goal : Option ℕ) (old new : ChipState) → MovesIf b 
 moves_free true goal old new is = ap (λ (chip : ChipState). is_held_at chip.stage) is
 moves_free false goal old new (sends, rest) = ap (λ (chip : ChipState). is_held_at chip.stage) rest
 
-obeys_free : (found : Code) (old new : ChipState) → needs_heads found ≡ true → Obeys found old new → is_held_at new.stage ≡ false
-obeys_free code.Specify old new heads is = absurd (false≢true heads)
-obeys_free code.SenseInterrupt old new heads is = absurd (false≢true heads)
-obeys_free code.Version old new heads is = absurd (false≢true heads)
-obeys_free code.Perpendicular old new heads is = absurd (false≢true heads)
-obeys_free code.DumpRegisters old new heads is = absurd (false≢true heads)
-obeys_free (code.Lock on) old new heads is = absurd (false≢true heads)
-obeys_free code.SenseDrive old new heads asks = ap (λ (chip : ChipState). is_held_at chip.stage) asks.told_is
-obeys_free code.Recalibrate old new heads moves = moves_free old.paced None old new moves
-obeys_free code.Seek old new heads moves = moves_free old.paced (Some old.order.key.c) old new moves
-obeys_free (code.RelativeSeek inward) old new heads moves =
+pub obeys_free : (found : Code) (old new : ChipState) → Obeys found old new → is_held_at new.stage ≡ false
+obeys_free code.Specify old new is = ap (λ (chip : ChipState). is_held_at chip.stage) is
+obeys_free code.SenseInterrupt old new is = ap (λ (chip : ChipState). is_held_at chip.stage) is
+obeys_free code.Version old new is = ap (λ (chip : ChipState). is_held_at chip.stage) is
+obeys_free code.Perpendicular old new is = ap (λ (chip : ChipState). is_held_at chip.stage) is
+obeys_free code.DumpRegisters old new is = ap (λ (chip : ChipState). is_held_at chip.stage) is
+obeys_free (code.Lock on) old new is = ap (λ (chip : ChipState). is_held_at chip.stage) is
+obeys_free code.SenseDrive old new asks = ap (λ (chip : ChipState). is_held_at chip.stage) asks.told_is
+obeys_free code.Recalibrate old new moves = moves_free old.paced None old new moves
+obeys_free code.Seek old new moves = moves_free old.paced (Some old.order.key.c) old new moves
+obeys_free (code.RelativeSeek inward) old new moves =
     moves_free old.paced (Some (relative_target inward (cylinder_of old.order.unit old.interrupts) old.order.key.c)) old new moves
-obeys_free code.Configure old new heads (sends, rest) = ap (λ (chip : ChipState). is_held_at chip.stage) rest
-obeys_free (code.ReadId mfm) old new heads obeys = busy_free new.stage (obeys_busy (code.ReadId mfm) old new refl obeys)
-obeys_free (code.FormatTrack mfm) old new heads obeys = busy_free new.stage (obeys_busy (code.FormatTrack mfm) old new refl obeys)
-obeys_free (code.Transfer mfm) old new heads obeys = busy_free new.stage (obeys_busy (code.Transfer mfm) old new refl obeys)
-obeys_free (code.Verify mfm) old new heads obeys = busy_free new.stage (obeys_busy (code.Verify mfm) old new refl obeys)
-obeys_free (code.ReadTrack mfm) old new heads obeys = busy_free new.stage (obeys_busy (code.ReadTrack mfm) old new refl obeys)
+obeys_free code.Configure old new (sends, rest) = ap (λ (chip : ChipState). is_held_at chip.stage) rest
+obeys_free (code.ReadId mfm) old new obeys = busy_free new.stage (obeys_busy (code.ReadId mfm) old new refl obeys)
+obeys_free (code.FormatTrack mfm) old new obeys = busy_free new.stage (obeys_busy (code.FormatTrack mfm) old new refl obeys)
+obeys_free (code.Transfer mfm) old new obeys = busy_free new.stage (obeys_busy (code.Transfer mfm) old new refl obeys)
+obeys_free (code.Verify mfm) old new obeys = busy_free new.stage (obeys_busy (code.Verify mfm) old new refl obeys)
+obeys_free (code.ReadTrack mfm) old new obeys = busy_free new.stage (obeys_busy (code.ReadTrack mfm) old new refl obeys)
 
 -- ---- a command that is held
 
@@ -107,7 +107,7 @@ known_moves found byte old begun known few heads last writes held = either_way (
     (record { runs = runs; some = heads_some (drained start) (taken_idle start idle four) runs move; within = at_most (heads_of (drained start)) }))
     (λ stands.
     let done = byte_free found byte old begun known.sound few heads last writes stands in
-    clash (is_held_at begun.stage) (obeys_free found done.set begun heads done.obeys) (ap is_held_at held))
+    clash (is_held_at begun.stage) (obeys_free found done.set begun done.obeys) (ap is_held_at held))
   where
     started : (old begun : ChipState) → IsKnown old → Completes found byte old → old.stage ≡ Ready
     started old begun known last = known.sound.comes (ap (λ n. n == 0) last.others ∙ (last_bytes found heads).0)

@@ -1,10 +1,11 @@
 -- Commands that are under way, from their last byte on, and for how many device steps they are at most.
-use Rattle.std.specs.Prelude.{◌≡◌, ◌⊎◌, ◌<◌, ◌≤◌, ℕ, ◌+◌, ◌*◌, max, Bool, true, false, not, ◌&&◌, Option, None, Some, List, [], ◌∷◌, if◌then◌else◌}
+use Rattle.std.specs.Prelude.{◌≡◌, ◌⊎◌, ◌<◌, ◌≤◌, ℕ, ◌+◌, ◌*◌, max, Bool, true, false, not, ◌&&◌, ◌||◌, Option, None, Some, is_some, List, [], ◌∷◌, if◌then◌else◌}
 use Rattle.drive_model.specs.Drive.{DriveState}
-use Rattle.fdc_commands.specs.Seeking.{has_ended_seek}
+use Rattle.fdc_commands.specs.Seeking.{has_ended_seek, is_seeking}
 use Rattle.fdc_commands.specs.declared.motion.Seek.{Seek as DriveSeek}
 use Rattle.fdc_commands.specs.declared.results.Results.{Results}
 use Rattle.fdc_core.specs.Ranges.{IsInRange}
+use Rattle.fdc_core.specs.State.{is_held}
 use Rattle.laws_sequencer.specs.Lasting.{HasByteNumbers}
 use Rattle.fdc_chip.specs.Chips.{ChipState, IsNewChip}
 use Rattle.fdc_chip.specs.Codes.{has_bit, has_multitrack}
@@ -148,3 +149,34 @@ pub record IsUsed (chip : ChipState) : Type 0 where
   pub ranges : HasRanges made
   pub calls : List Call
   pub uses : AreUses calls made chip
+
+-- ---- ---- the end of a seek
+
+-- pulses are to come, or a seek runs in the inner controller
+abbrev pub heads_go : ChipState → Bool
+heads_go chip = is_some chip.pace || is_seeking chip.front.adapter.controller.seeks
+
+abbrev pub is_executed : Stage → Bool
+is_executed (Busy task) = true
+is_executed _ = false
+
+-- heads move, and no command is executed. DOR doesn't hold the chip in reset, and SPECIFY sets at most so many word times
+-- between two pulses
+pub record HeadsGoOn (words : ℕ) (chip : ChipState) : Type 0 where
+  pub goes : heads_go chip ≡ true
+  pub idle : is_executed chip.stage ≡ false
+  pub free : is_held chip.front.adapter.controller ≡ false
+  pub pace : step_words chip.settings ≤ words
+  pub ranges : HasRanges chip
+
+-- a command that is held stays held
+abbrev pub StaysHeld : Stage → Stage → Type 0
+StaysHeld Held new = new ≡ Held
+StaysHeld _ new = Unit {0}
+
+-- any calls, after each of which these heads still move
+abbrev pub AreSeeking : ℕ → List Call → ChipState → ChipState → Type 0
+AreSeeking words [] old new = new ≡ old
+AreSeeking words (made ∷ calls) old new =
+    (between : ChipState) × Does made old between × WritesByte made × HeadsGoOn words between × StaysHeld old.stage between.stage
+    × AreSeeking words calls between new

@@ -1,0 +1,333 @@
+-- Heads that move come to stand, whatever calls come: each device step leaves fewer, and other calls leave no more.
+use Rattle.std.proofs.Common.{◌≡◌, ◌⊎◌, inl, inr, ℕ, zero, suc, ◌+◌, ◌-◌, ◌*◌, ◌^◌, ◌<◌, ◌≤◌, max, nat_le, Bool, true, false, not, ◌&&◌, ◌||◌, ◌==◌, if◌then◌else◌, Option, Some, None, is_some, List, [], ◌∷◌, length, bit_and, bit_or, refl, sym, ◌∙◌, ap, subst, arith}
+use Rattle.std.specs.Option.{option_map_or}
+use Rattle.std.proofs.lemmas.Bool.{and_from, eqb-true, false≢true, not-true, or_right}
+use Rattle.fdc_commands.specs.Seeking.{Seeking, has_ended, has_ended_seek, is_seeking}
+use Rattle.fdc_commands.specs.declared.motion.Motion.{Motion}
+use Rattle.fdc_commands.specs.declared.motion.Motion.TheVariants.{Outward, Toward, Ended}
+use Rattle.fdc_commands.specs.declared.motion.Seek.{Seek as DriveSeek}
+use Rattle.fdc_core.specs.Ports.{resets}
+use Rattle.fdc_core.specs.Ranges.{IsInRange}
+use Rattle.fdc_core.specs.State.{is_held}
+use Rattle.fdc_core.specs.declared.controller.Fdc.{Fdc}
+use Rattle.fdc_sequencer.specs.Fronts.{Front, WritesFront, interrupts_outside, status_at}
+use Rattle.fdc_sequencer.specs.Moves.{StepsFront}
+use Rattle.fdc_chip.specs.Answers.{answer_bytes, is_of_data}
+use Rattle.fdc_chip.specs.Chips.{ChipState, passes_by_channel, passes_by_port, with_front}
+use Rattle.fdc_chip.specs.Codes.{code_of}
+use Rattle.fdc_chip.specs.Doing.{AttendsIf, AttendsTo, Obeys, drained, is_moving, moves_heads, needs_heads, pace_begun}
+use Rattle.fdc_chip.specs.Paces.{Paces}
+use Rattle.fdc_chip.specs.Ports.{CollectsIf, ComesIf, GivesChipIf, GivesIf, ReadsAt, ReadsIf, TakesByte, TakesIf, WritesChip, byte_told, count_told, gated_by, is_whole, may_come, quieted_if, reset_if, value_behind, with_next}
+use Rattle.fdc_chip.specs.Settings.{step_words}
+use Rattle.fdc_chip.specs.Steps.{Follows}
+use Rattle.fdc_chip.specs.declared.answer.Answer.{Answer}
+use Rattle.fdc_chip.specs.declared.code.Code.{Code}
+use Rattle.fdc_chip.specs.declared.code.Code.TheVariants as code
+use Rattle.fdc_chip.specs.declared.pace.Pace.{Pace}
+use Rattle.fdc_chip.specs.declared.settings.Settings.{Settings}
+use Rattle.fdc_chip.specs.declared.stage.Stage.{Stage}
+use Rattle.fdc_chip.specs.declared.stage.Stage.TheVariants.{Ready, Held, Busy, Telling}
+use Rattle.laws_chip.specs.Bounds.{AreSeeking, HeadsGoOn, IsUsed, StaysHeld, heads_go, heads_steps, is_executed, seek_steps}
+use Rattle.laws_chip.specs.Calls as made
+use Rattle.laws_chip.specs.Calls.{Call, Does, WritesByte, is_step, steps_in, steps_of}
+use Rattle.laws_chip.specs.PacedSeeks.{pulses_left}
+use Rattle.laws_chip.specs.Seeks.{steps_left}
+use Rattle.laws_chip.specs.Sound.{IsSound, RestsBehind}
+use Rattle.laws_chip.proofs.BusyLeft.{none_of}
+use Rattle.laws_chip.proofs.Channels.{front_left}
+use Rattle.laws_chip.proofs.HeadsLeft.{IsFewLater, IsPaced, paces_on}
+use Rattle.laws_chip.proofs.HeadsTold.{TellsEnd, drained_left, drained_same}
+use Rattle.laws_chip.proofs.HeadsWait.{heads_less, range_steps}
+use Rattle.laws_chip.proofs.KnownEnds.{KnowsEnd, call_known, idle_counts, none_by_channel, none_by_port}
+use Rattle.laws_chip.proofs.PassedOn.{other_read}
+use Rattle.laws_chip.proofs.PulsesGoing.{bits_shown}
+use Rattle.laws_chip.proofs.SeeksBegun.{IsIdleAt, all_taken}
+use Rattle.laws_chip.proofs.SoundCalls.{byte_stays, call_sound, comes_free, front_anew}
+use Rattle.laws_chip.proofs.SoundParts.{at_rest, is_busy}
+use Rattle.laws_chip.proofs.Standing.{status_free}
+use Rattle.laws_chip.proofs.UnderWay.{clash, either_way}
+use Rattle.laws_chip.proofs.UsedWaits.{is_held_at, obeys_free, used_known}
+use Rattle.laws_chip.proofs.WholeTransfers.{drained_pace}
+
+-- ---- what is left
+
+executed_busy : (stage : Stage) → is_executed stage ≡ false → is_busy stage ≡ false
+executed_busy Ready idle = refl
+executed_busy Held idle = refl
+executed_busy (Busy what) idle = absurd (false≢true (sym idle))
+executed_busy (Telling answer read) idle = refl
+
+abbrev left_at : ℕ → ChipState → ℕ
+left_at words chip = heads_steps words chip.pace chip.front.adapter.controller.seeks.seek
+
+run_some : (motion : Motion) → not (has_ended motion) ≡ true → 1 ≤ steps_left motion
+run_some (Outward pulses) runs = omega arith
+run_some (Toward cylinder target) runs = omega arith
+run_some Ended runs = absurd (false≢true runs)
+
+pace_some : (all wait now : ℕ) → 0 < max wait now + (all + 257)
+pace_some all wait now = omega arith
+
+go_some : (words : ℕ) (pace : Option Pace) (seek : Option DriveSeek) → (is_some pace || option_map_or (λ (d : DriveSeek). not (has_ended d.motion)) seek false) ≡ true → 0 < heads_steps words pace seek
+go_some words (Some pace) seek goes = pace_some (pulses_left pace * (max words 256 + 1)) pace.wait (seek_steps seek)
+go_some words None None goes = absurd (false≢true goes)
+go_some words None (Some seek) goes = run_some seek.motion goes
+
+less_all : (n m k : ℕ) → n ≤ m → m ≤ k → n ≤ k
+less_all n m k one two = omega arith
+
+-- results that are taken over leave no more
+drained_few : (words n : ℕ) (chip : ChipState) → IsIdleAt chip.front → left_at words chip ≤ n → left_at words (drained chip) ≤ n
+drained_few words n chip idle few =
+    let set = drained chip in
+    subst (λ (p : Option Pace). heads_steps words p set.front.adapter.controller.seeks.seek ≤ n) (sym (drained_pace 4 chip))
+    (heads_less words n chip.pace set.front.adapter.controller.seeks.seek chip.front.adapter.controller.seeks.seek (drained_left chip idle) few)
+
+-- the pace and the seeks stay
+same_few : (words n : ℕ) (old new : ChipState) → new.pace ≡ old.pace → new.front.adapter.controller.seeks.seek ≡ old.front.adapter.controller.seeks.seek → left_at words old ≤ n → left_at words new ≤ n
+same_few words n old new pace seek few =
+    subst (λ (p : Option Pace). heads_steps words p new.front.adapter.controller.seeks.seek ≤ n) (sym pace) (subst (λ (s : Option DriveSeek). heads_steps words old.pace s ≤ n) (sym seek) few)
+
+is_few : (words n : ℕ) (old new : ChipState) → new ≡ old → left_at words old ≤ n → left_at words new ≤ n
+is_few words n old new is few = subst (λ chip. left_at words chip ≤ n) (sym is) few
+
+-- ---- ---- heads that move are seen after the results were taken over
+
+runs_of : (b : Bool) (seek : Option DriveSeek) → b ≡ option_map_or (λ (d : DriveSeek). not (has_ended d.motion)) seek false → b ≡ true → option_map_or (λ (d : DriveSeek). has_ended d.motion) seek false ≡ false
+runs_of b None is runs = refl
+runs_of b (Some seek) is runs = not-true (has_ended seek.motion) (sym is ∙ runs)
+
+seek_moves : (front : Front) → IsIdleAt front → IsInRange front.adapter.controller → is_seeking front.adapter.controller.seeks ≡ true → (other : Front) → IsIdleAt other
+    → other.adapter.controller.seeks.seek ≡ front.adapter.controller.seeks.seek → moves_heads other ≡ true
+seek_moves front idle range runs other free same = by_seek front.adapter.controller.seeks.seek refl runs
+  where
+    by_seek : (seek : Option DriveSeek) → front.adapter.controller.seeks.seek ≡ seek → option_map_or (λ (d : DriveSeek). not (has_ended d.motion)) seek false ≡ true → moves_heads other ≡ true
+    by_seek None is runs = absurd (false≢true runs)
+    by_seek (Some seek) is runs =
+        let fdc = other.adapter.controller in
+        ap (λ stage. not (bit_and (status_at stage fdc) 0x0F == 0)) free.through
+        ∙ (ap (λ status. not (bit_and status 0x0F == 0)) (status_free fdc free.free free.takes free.whole)
+        ∙ (ap (λ (s : Option DriveSeek). not (bit_and (bit_or 0x80 (option_map_or (λ (d : DriveSeek). 2 ^ d.drive) s 0)) 0x0F == 0)) (same ∙ is) ∙ bits_shown seek.drive (few_drive seek.drive (range.seeks.drive seek is))))
+      where
+        few_drive : (drive : ℕ) → drive < 4 → drive ≤ 3
+        few_drive drive few = omega arith
+
+go_moving : (chip : ChipState) → IsIdleAt chip.front → IsInRange chip.front.adapter.controller → heads_go chip ≡ true → is_moving (drained chip) ≡ true
+go_moving chip idle range goes = by_pace chip.pace refl goes
+  where
+    by_pace : (pace : Option Pace) → chip.pace ≡ pace → (is_some pace || is_seeking chip.front.adapter.controller.seeks) ≡ true → is_moving (drained chip) ≡ true
+    by_pace (Some pace) at goes = ap (λ (p : Option Pace). is_some p || moves_heads (drained chip).front) (drained_pace 4 chip ∙ at)
+    by_pace None at runs =
+        let s = chip.front.adapter.controller.seeks in
+        let same = drained_same chip idle (runs_of (is_seeking s) s.seek refl runs) in
+        or_right (is_some (drained chip).pace) (moves_heads (drained chip).front)
+        (seek_moves chip.front idle range runs (drained chip).front (all_taken chip idle range.seeks.pending).taken.idle same)
+
+-- ---- a whole command comes
+
+-- a command that doesn't need the inner controller leaves the heads
+obeys_few : (words n : ℕ) (found : Code) (old new : ChipState) → needs_heads found ≡ false → Obeys found old new → left_at words old ≤ n → left_at words new ≤ n
+obeys_few words n code.Specify old new other is few = same_few words n old new (ap (λ (chip : ChipState). chip.pace) is) (ap (λ (chip : ChipState). chip.front.adapter.controller.seeks.seek) is) few
+obeys_few words n code.SenseInterrupt old new other is few = same_few words n old new (ap (λ (chip : ChipState). chip.pace) is) (ap (λ (chip : ChipState). chip.front.adapter.controller.seeks.seek) is) few
+obeys_few words n code.Version old new other is few = same_few words n old new (ap (λ (chip : ChipState). chip.pace) is) (ap (λ (chip : ChipState). chip.front.adapter.controller.seeks.seek) is) few
+obeys_few words n code.Perpendicular old new other is few = same_few words n old new (ap (λ (chip : ChipState). chip.pace) is) (ap (λ (chip : ChipState). chip.front.adapter.controller.seeks.seek) is) few
+obeys_few words n code.DumpRegisters old new other is few = same_few words n old new (ap (λ (chip : ChipState). chip.pace) is) (ap (λ (chip : ChipState). chip.front.adapter.controller.seeks.seek) is) few
+obeys_few words n (code.Lock on) old new other is few = same_few words n old new (ap (λ (chip : ChipState). chip.pace) is) (ap (λ (chip : ChipState). chip.front.adapter.controller.seeks.seek) is) few
+obeys_few words n code.SenseDrive old new other is few = absurd (false≢true (sym other))
+obeys_few words n code.Recalibrate old new other is few = absurd (false≢true (sym other))
+obeys_few words n code.Seek old new other is few = absurd (false≢true (sym other))
+obeys_few words n (code.RelativeSeek inward) old new other is few = absurd (false≢true (sym other))
+obeys_few words n code.Configure old new other is few = absurd (false≢true (sym other))
+obeys_few words n (code.ReadId mfm) old new other is few = absurd (false≢true (sym other))
+obeys_few words n (code.FormatTrack mfm) old new other is few = absurd (false≢true (sym other))
+obeys_few words n (code.Transfer mfm) old new other is few = absurd (false≢true (sym other))
+obeys_few words n (code.Verify mfm) old new other is few = absurd (false≢true (sym other))
+obeys_few words n (code.ReadTrack mfm) old new other is few = absurd (false≢true (sym other))
+
+-- any other command is held, since heads move
+attends_few : (heads : Bool) (words n : ℕ) (found : Code) (old new : ChipState) → needs_heads found ≡ heads → is_moving old ≡ true → AttendsIf (heads && is_moving old) found old new → left_at words old ≤ n → left_at words new ≤ n
+attends_few true words n found old new needs moves attends few =
+    let is : new ≡ record old { stage = Held } = subst (λ b. AttendsIf b found old new) moves attends in
+    same_few words n old new (ap (λ (chip : ChipState). chip.pace) is) (ap (λ (chip : ChipState). chip.front.adapter.controller.seeks.seek) is) few
+attends_few false words n found old new needs moves obeys few = obeys_few words n found old new needs obeys few
+
+attended_few : (words n : ℕ) (found : Option Code) (old new : ChipState) → IsIdleAt old.front → IsInRange old.front.adapter.controller → heads_go old ≡ true → AttendsTo found old new → left_at words old ≤ n → left_at words new ≤ n
+attended_few words n None old new idle range goes is few = same_few words n old new (ap (λ (chip : ChipState). chip.pace) is) (ap (λ (chip : ChipState). chip.front.adapter.controller.seeks.seek) is) few
+attended_few words n (Some found) old new idle range goes attends few =
+    attends_few (needs_heads found) words n found (drained old) new refl (go_moving old idle range goes) attends (drained_few words n old idle few)
+
+collects_few : (b : Bool) (words n : ℕ) (found : Option Code) (old new : ChipState) → IsIdleAt old.front → IsInRange old.front.adapter.controller → heads_go old ≡ true → CollectsIf b found old new → left_at words old ≤ n → left_at words new ≤ n
+collects_few true words n found old new idle range goes attends few = attended_few words n found (record old { count = 0 }) new idle range goes attends few
+collects_few false words n found old new idle range goes is few = is_few words n old new is few
+
+comes_few : (b : Bool) (words n byte : ℕ) (old new : ChipState) → IsIdleAt old.front → IsInRange old.front.adapter.controller → heads_go old ≡ true → ComesIf b byte old new → left_at words old ≤ n → left_at words new ≤ n
+comes_few true words n byte old new idle range goes collects few =
+    let next = with_next byte old in collects_few (is_whole next.count (code_of next.order.code)) words n (code_of next.order.code) next new idle range goes collects few
+comes_few false words n byte old new idle range goes is few = is_few words n old new is few
+
+-- ---- ---- calls that are no device steps
+
+told_pace : (answer : Answer) (read : ℕ) (old : ChipState) → (byte_told answer read old).pace ≡ old.pace
+told_pace answer read old = by_quiet (is_of_data answer && (read == 0))
+  where
+    by_quiet : (b : Bool) → (record (quieted_if b old) { stage = if nat_le (length (answer_bytes answer)) (read + 1) then Ready else Telling answer (read + 1) }).pace ≡ old.pace
+    by_quiet true = refl
+    by_quiet false = refl
+
+told_few : (words n : ℕ) (answer : Answer) (read : ℕ) (old new : ChipState) → new ≡ byte_told answer read old → left_at words old ≤ n → left_at words new ≤ n
+told_few words n answer read old new is few =
+    is_few words n (byte_told answer read old) new is
+    (same_few words n old (byte_told answer read old) (told_pace answer read old) (ap (λ (front : Front). front.adapter.controller.seeks.seek) (byte_stays answer read old).front) few)
+
+read_few : (stage : Stage) (words n value : ℕ) (old new : ChipState) → old.stage ≡ stage → is_busy stage ≡ false → ReadsAt stage old value new → left_at words old ≤ n → left_at words new ≤ n
+read_few Ready words n value old new at idle reads few = is_few words n old new (subst (λ b. ReadsIf b old value new) (none_by_port old (ap is_busy at)) reads).1 few
+read_few Held words n value old new at idle reads few = is_few words n old new (subst (λ b. ReadsIf b old value new) (none_by_port old (ap is_busy at)) reads).1 few
+read_few (Busy what) words n value old new at idle reads few = absurd (false≢true (sym idle))
+read_few (Telling answer read) words n value old new at idle (value_is, is) few = told_few words n answer read old new is few
+
+write_few : (stage : Stage) (words n value : ℕ) (old new : ChipState) → old.stage ≡ stage → is_busy stage ≡ false → IsIdleAt old.front → IsInRange old.front.adapter.controller → heads_go old ≡ true → TakesByte stage value old new
+    → left_at words old ≤ n → left_at words new ≤ n
+write_few Ready words n value old new at idle free range goes comes few = comes_few (may_come old) words n value old new free range goes comes few
+write_few Held words n value old new at idle free range goes gives few = is_few words n old new (subst (λ b. GivesIf b value old new) (none_by_port old (ap is_busy at)) gives) few
+write_few (Busy what) words n value old new at idle free range goes gives few = absurd (false≢true (sym idle))
+write_few (Telling answer read) words n value old new at idle free range goes gives few = is_few words n old new (subst (λ b. GivesIf b value old new) (none_by_port old (ap is_busy at)) gives) few
+
+-- a reset lets no heads move
+none_go : (pace : Option Pace) (s : Seeking) → pace ≡ None → s.seek ≡ None → (is_some pace || is_seeking s) ≡ false
+none_go pace s none stands =
+    ap (λ (p : Option Pace). is_some p || is_seeking s) none ∙ ap (λ (seek : Option DriveSeek). option_map_or (λ (d : DriveSeek). not (has_ended d.motion)) seek false) stands
+
+port_few : (b : Bool) (words n port value : ℕ) (old set new : ChipState) → resets port value ≡ b → (port == 0x3F5) ≡ false → set.pace ≡ old.pace → heads_go new ≡ true → WritesFront port value old.front new.front → new ≡ with_front new.front (reset_if b set)
+    → left_at words old ≤ n → left_at words new ≤ n
+port_few true words n port value old set new anew no_data pace goes writes rest few =
+    let seeks = (front_anew port value old.front new.front writes no_data anew).0.seeks in
+    clash (heads_go new) (none_go new.pace new.front.adapter.controller.seeks (ap (λ (chip : ChipState). chip.pace) rest) (ap (λ (s : Seeking). s.seek) seeks)) goes
+port_few false words n port value old set new quiet no_data pace goes writes rest few =
+    same_few words n old new (ap (λ (chip : ChipState). chip.pace) rest ∙ pace) (ap (λ (s : Seeking). s.seek) (front_left port value old.front new.front writes no_data quiet).seeks) few
+
+other_few : (call : Call) (words n : ℕ) (old new : ChipState) → is_busy old.stage ≡ false → IsIdleAt old.front → IsInRange old.front.adapter.controller → heads_go old ≡ true → heads_go new ≡ true → Does call old new → is_step call ≡ false
+    → left_at words old ≤ n → left_at words new ≤ n
+other_few made.Steps words n old new idle free range goes still does no_step few = absurd (false≢true (sym no_step))
+other_few (made.Takes byte) words n old new idle free range goes still does no_step few = is_few words n old new (subst (λ b. TakesIf b old byte new) (none_by_channel old idle) does).1 few
+other_few (made.Gives byte given) words n old new idle free range goes still does no_step few = is_few words n old new (subst (λ b. GivesChipIf b byte old given new) (none_by_channel old idle) does).1 few
+other_few made.Counts words n old new idle free range goes still does no_step few = is_few words n old new (does ∙ idle_counts old.stage old idle) few
+other_few (made.Reads port value) words n old new idle free range goes still does no_step few = either_way (port == 0x3F5)
+    (λ here. read_few old.stage words n value old new refl idle (does.byte (eqb-true port 0x3F5 here)) few)
+    (λ no_data. is_few words n old new (other_read port value old new no_data does) few)
+other_few (made.Writes port value) words n old new idle free range goes still does no_step few = either_way (port == 0x3F5)
+    (λ here. write_few old.stage words n value old new refl idle free range goes (does.bytes (eqb-true port 0x3F5 here)) few)
+    (λ no_data.
+    let (front, rest) = does.others no_data in
+    let behind = value_behind port value in
+    port_few (resets port behind) words n port behind old (gated_by port value old) new refl no_data refl still front rest few)
+other_few made.Changes words n old new idle free range goes still does no_step few =
+    same_few words n old new (ap (λ (chip : ChipState). chip.pace) does.rest) (ap (λ (fdc : Fdc). fdc.seeks.seek) does.front.controller) few
+other_few (made.Straps on) words n old new idle free range goes still does no_step few =
+    same_few words n old new (ap (λ (chip : ChipState). chip.pace) does) (ap (λ (chip : ChipState). chip.front.adapter.controller.seeks.seek) does) few
+other_few (made.StrapsSteps on) words n old new idle free range goes still does no_step few =
+    same_few words n old new (ap (λ (chip : ChipState). chip.pace) does) (ap (λ (chip : ChipState). chip.front.adapter.controller.seeks.seek) does) few
+
+-- ---- a device step
+
+same_n : (n : ℕ) → n ≤ n
+same_n n = omega arith
+
+-- what the chip does after the pulses of the step leaves the seek, or takes over its result
+after_few : (words n : ℕ) (old : ChipState) (between : Front) (paced : ChipState) → IsSound old → is_busy old.stage ≡ false → HeadsGoOn words old → TellsEnd old.front.adapter.controller.seeks → StepsFront old.front between
+    → Paces old.pace (with_front between old) paced → left_at words old ≤ n → IsFewLater paced → IsPaced words (n - 1) paced
+after_few words n old between paced sound idle was tells step paces few later =
+    paces_on words n old between paced sound was.free (at_rest old.stage old.front idle sound.now) step was.ranges.controller.seeks.pending tells few was.pace later paces
+
+later_same : (paced new : ChipState) → IsInRange new.front.adapter.controller → new.front ≡ paced.front → IsFewLater paced
+later_same paced new range is = λ runs idle. subst (λ (front : Front). seek_steps front.adapter.controller.seeks.seek ≤ 256) is (range_steps new.front.adapter.controller range)
+
+later_drained : (paced new : ChipState) → IsInRange new.front.adapter.controller → new.front ≡ (drained paced).front → IsFewLater paced
+later_drained paced new range is = λ runs idle.
+    subst (λ (seek : Option DriveSeek). seek_steps seek ≤ 256) (ap (λ (front : Front). front.adapter.controller.seeks.seek) is ∙ drained_same paced idle runs) (range_steps new.front.adapter.controller range)
+
+ready_few : (b : Bool) (words n : ℕ) (old : ChipState) (between : Front) (paced new : ChipState) → IsSound old → is_busy old.stage ≡ false → HeadsGoOn words old → HeadsGoOn words new → TellsEnd old.front.adapter.controller.seeks → StepsFront old.front between
+    → Paces old.pace (with_front between old) paced → left_at words old ≤ n → new ≡ (if b then drained paced else paced) → left_at words new ≤ n - 1
+ready_few true words n old between paced new sound idle was still tells step paces few is =
+    let on = after_few words n old between paced sound idle was tells step paces few (later_drained paced new still.ranges.controller (ap (λ (chip : ChipState). chip.front) is)) in
+    is_few words (n - 1) (drained paced) new is (drained_few words (n - 1) paced on.idle on.within)
+ready_few false words n old between paced new sound idle was still tells step paces few is =
+    let on = after_few words n old between paced sound idle was tells step paces few (later_same paced new still.ranges.controller (ap (λ (chip : ChipState). chip.front) is)) in
+    is_few words (n - 1) paced new is on.within
+
+-- a command that is held stays held
+held_as : (b : Bool) (found : Code) (old new : ChipState) → is_held_at new.stage ≡ true → AttendsIf b found old new → new ≡ record old { stage = Held }
+held_as true found old new held is = is
+held_as false found old new held obeys = clash (is_held_at new.stage) (obeys_free found old new obeys) held
+
+held_now : (found : Option Code) (old new : ChipState) → is_held_at new.stage ≡ true → AttendsTo found old new → new ≡ record (drained old) { stage = Held }
+held_now None old new held is = clash (is_held_at new.stage) (ap (λ (chip : ChipState). is_held_at chip.stage) is) held
+held_now (Some found) old new held attends = held_as (needs_heads found && is_moving (drained old)) found (drained old) new held attends
+
+step_few : (stage : Stage) (words n : ℕ) (old : ChipState) (between : Front) (new : ChipState) → old.stage ≡ stage → is_busy stage ≡ false → IsSound old → HeadsGoOn words old → HeadsGoOn words new → StaysHeld stage new.stage → TellsEnd old.front.adapter.controller.seeks
+    → StepsFront old.front between → Follows stage (with_front between old) new → left_at words old ≤ n → left_at words new ≤ n - 1
+step_few Ready words n old between new at idle sound was still stays tells step (paced, paces, is) few =
+    ready_few (interrupts_outside paced.front) words n old between paced new sound (ap is_busy at) was still tells step paces few is
+step_few Held words n old between new at idle sound was still stays tells step (paced, paces, attends) few =
+    let is = held_now (code_of paced.order.code) paced new (ap is_held_at stays) attends in
+    let on = after_few words n old between paced sound (ap is_busy at) was tells step paces few (later_drained paced new still.ranges.controller (ap (λ (chip : ChipState). chip.front) is)) in
+    same_few words (n - 1) (drained paced) new (ap (λ (chip : ChipState). chip.pace) is) (ap (λ (chip : ChipState). chip.front.adapter.controller.seeks.seek) is) (drained_few words (n - 1) paced on.idle on.within)
+step_few (Busy what) words n old between new at idle sound was still stays tells step follows few = absurd (false≢true (sym idle))
+step_few (Telling answer read) words n old between new at idle sound was still stays tells step paces few =
+    (after_few words n old between new sound (ap is_busy at) was tells step paces few (later_same new new still.ranges.controller refl)).within
+
+-- ---- any call
+
+idle_front : (words : ℕ) (chip : ChipState) → IsSound chip → is_busy chip.stage ≡ false → HeadsGoOn words chip → IsIdleAt chip.front
+idle_front words chip sound idle was =
+    let rests = at_rest chip.stage chip.front idle sound.now in record { through = rests.through; takes = rests.takes; whole = sound.whole; free = was.free }
+
+fewer_none : (all n steps : ℕ) → steps ≡ 0 → all ≤ n → all ≤ n - steps
+fewer_none all n steps none few = omega arith
+
+call_few : (call : Call) (words n : ℕ) (old new : ChipState) → IsSound old → KnowsEnd old → HeadsGoOn words old → HeadsGoOn words new → StaysHeld old.stage new.stage → Does call old new → left_at words old ≤ n → left_at words new ≤ n - steps_of call
+call_few call words n old new sound knows was still stays does few = either_way (is_step call)
+    (λ steps. by_step call steps does)
+    (λ other. fewer_none (left_at words new) n (steps_of call) (none_of call other) (other_few call words n old new idle (idle_front words old sound idle was) was.ranges.controller was.goes still.goes does other few))
+  where
+    idle : is_busy old.stage ≡ false
+    idle = executed_busy old.stage was.idle
+
+    by_step : (call : Call) → is_step call ≡ true → Does call old new → left_at words new ≤ n - steps_of call
+    by_step made.Steps is step =
+        step_few old.stage words n old step.between new refl (executed_busy old.stage was.idle) sound was still stays (knows.tells (executed_busy old.stage was.idle)) step.steps step.follows few
+    by_step (made.Takes byte) is does = absurd (false≢true is)
+    by_step (made.Gives byte given) is does = absurd (false≢true is)
+    by_step made.Counts is does = absurd (false≢true is)
+    by_step (made.Reads port value) is does = absurd (false≢true is)
+    by_step (made.Writes port value) is does = absurd (false≢true is)
+    by_step made.Changes is does = absurd (false≢true is)
+    by_step (made.Straps on) is does = absurd (false≢true is)
+    by_step (made.StrapsSteps on) is does = absurd (false≢true is)
+
+some_few : (all n : ℕ) → 0 < all → all ≤ n → 0 < n
+some_few all n some few = omega arith
+
+steps_less : (steps more n : ℕ) → more < n - steps → steps + more < n
+steps_less steps more n less = omega arith
+
+seeks_last : (words n : ℕ) (calls : List Call) (old new : ChipState) → IsSound old → KnowsEnd old → HeadsGoOn words old → left_at words old ≤ n → AreSeeking words calls old new → steps_in calls < n
+seeks_last words n [] old new sound knows was few same = some_few (left_at words old) n (go_some words old.pace old.front.adapter.controller.seeks.seek was.goes) few
+seeks_last words n (call ∷ calls) old new sound knows was few (between, does, writes, still, stays, rest) =
+    steps_less (steps_of call) (steps_in calls) n
+    (seeks_last words (n - steps_of call) calls between new (call_sound call old between does writes sound) (call_known call old between sound was.ranges.controller knows does writes) still
+    (call_few call words n old between sound knows was still stays does few) rest)
+
+pub used_stands : (words : ℕ) (calls : List Call) (old new : ChipState) → IsUsed old → HeadsGoOn words old → AreSeeking words calls old new
+    → steps_in calls < heads_steps words old.pace old.front.adapter.controller.seeks.seek
+used_stands words calls old new used was are =
+    let known = used_known old used in seeks_last words (left_at words old) calls old new known.sound known.knows was (same_n (left_at words old)) are
+
+pub words_most : (settings : Settings) → step_words settings ≤ 1000
+words_most settings = omega arith
+
+-- as a seek begins whose pulses come in time, its first pulse is due
+none_waits : (all : ℕ) → max 0 0 + all ≡ all
+none_waits all = omega arith
+
+pub pace_begins : (words unit cylinder : ℕ) (goal : Option ℕ) → heads_steps words (Some (pace_begun unit cylinder goal)) None ≡ pulses_left (pace_begun unit cylinder goal) * (max words 256 + 1) + 257
+pace_begins words unit cylinder goal = none_waits (pulses_left (pace_begun unit cylinder goal) * (max words 256 + 1) + 257)
