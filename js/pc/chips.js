@@ -186,8 +186,12 @@ export class Keyboard {
         }
     }
 
-    /** A byte of a key, if there is room, and if the keyboard isn't switched off. */
-    press(byte) { if (!(this.mode & 0x10) && this.queue.length < 16) this.give(byte); }
+    /** A byte of a key. The keyboard keeps it if it is switched off, or while an earlier byte waits; then this is false. */
+    press(byte) {
+        if (this.mode & 0x10 || this.queue.length > 0) return false;
+        this.give(byte);
+        return true;
+    }
 
     get status() { return 0x1C | (this.queue.length > 0 ? 1 : 0); }
 

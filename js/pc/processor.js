@@ -1,6 +1,6 @@
 // A processor of the 80386's instruction set, without paging, tasks, virtual 8086 mode and privilege levels. Limits of
 // segments aren't checked. An instruction is executed at a time, and counted; one with a repeat prefix counts once.
-import { AX, CS, DS, ES, Fault, FS, GS, INTERRUPT, PROTECTION, SETTABLE, SP, SS, Stop, TRAP } from "./names.js";
+import { CS, DS, ES, Fault, FS, GS, INTERRUPT, PROTECTION, SETTABLE, SP, SS, Stop, TRAP } from "./names.js";
 import { OPERATIONS } from "./operations.js";
 
 const PREFIXES = new Map([[0x26, ES], [0x2E, CS], [0x36, SS], [0x3E, DS], [0x64, FS], [0x65, GS]]);
@@ -266,4 +266,3 @@ export class Processor {
 export const registersOf = (cpu) => ({
     registers: [...cpu.registers], selectors: [...cpu.selectors], pointer: cpu.pointer, flags: cpu.flags, isProtected: cpu.isProtected, isWide: cpu.areWide[CS] !== 0,
 });
-export { AX };
