@@ -31,7 +31,6 @@ export class Computer {
         this.extra = 0;         // time besides that of instructions: of port accesses, and of waiting
         this.retrace = 0;
         this.messages = "";     // the end of what the BIOS wrote to its message port
-        this.unknown = 0;       // accesses of ports that aren't there
         this.stopped = null;    // why the PC can't go on
     }
 
@@ -87,7 +86,6 @@ export class Computer {
         case 0x3DA: return this.retrace ^= 9;
         case MESSAGES: return MESSAGES_ARE_THERE;
         }
-        this.unknown++;
         return 0xFF;
     }
 
@@ -105,9 +103,8 @@ export class Computer {
         case 0x64: this.keyboard.writeCommand(value); return;
         case 0x70: this.clock.at = value & 0x7F; return;
         case 0x71: this.clock.write(value); return;
-        case MESSAGES: this.messages = (this.messages + String.fromCharCode(value)).slice(-KEPT); return;
+        case MESSAGES: this.messages = (this.messages + String.fromCharCode(value)).slice(-KEPT);
         }
-        this.unknown++;
     }
 
     // ---- running

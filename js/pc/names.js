@@ -30,6 +30,10 @@ export const STATUS = 0x8D5;
 /** The flags that a program can set: also the input and output privilege level, and the nested task. */
 export const SETTABLE = 0x7FD5;
 
+/** The prefixes of instructions for strings. */
+export const REPEAT = 1;
+export const REPEAT_WHILE_DIFFERENT = 2;
+
 /** Vectors of faults. */
 export const DIVIDE = 0;
 export const BOUND = 5;

@@ -1,15 +1,19 @@
 // A processor of the 80386's instruction set, without paging, tasks, virtual 8086 mode and privilege levels. Limits of
 // segments aren't checked. An instruction is executed at a time, and counted; one with a repeat prefix counts once.
-import { CS, DS, ES, Fault, FS, GS, INTERRUPT, PROTECTION, SETTABLE, SP, SS, Stop, TRAP } from "./names.js";
+import { BP, BX, CS, DI, DS, ES, Fault, FS, GS, INTERRUPT, PROTECTION, REPEAT, REPEAT_WHILE_DIFFERENT, SETTABLE, SI, SP, SS, Stop, TRAP } from "./names.js";
 import { OPERATIONS } from "./operations.js";
 
-const PREFIXES = new Map([[0x26, ES], [0x2E, CS], [0x36, SS], [0x3E, DS], [0x64, FS], [0x65, GS]]);
-/** What a prefix byte does: the number of a segment, or one of these. Other bytes have 0 here. */
-const OPERAND = 16, ADDRESS = 17, REPEAT_WHILE_DIFFERENT = 18, REPEAT = 19, LOCK = 20;
-const PREFIX = Uint8Array.from({ length: 256 }, (_, byte) => (PREFIXES.has(byte) ? PREFIXES.get(byte) + 1 : { 0x66: OPERAND, 0x67: ADDRESS, 0xF0: LOCK, 0xF2: REPEAT_WHILE_DIFFERENT, 0xF3: REPEAT }[byte] ?? 0));
+/** What a prefix does, by its byte. Other bytes have null here. */
+const PREFIXES = new Array(256).fill(null);
+for (const [byte, segment] of [[0x26, ES], [0x2E, CS], [0x36, SS], [0x3E, DS], [0x64, FS], [0x65, GS]]) PREFIXES[byte] = (cpu) => { cpu.override = segment; };
+PREFIXES[0x66] = (cpu) => { cpu.size = cpu.areWide[CS] ? 2 : 4; };
+PREFIXES[0x67] = (cpu) => { cpu.addressSize = cpu.areWide[CS] ? 2 : 4; };
+PREFIXES[0xF0] = () => {};      // LOCK: there is no other processor
+PREFIXES[0xF2] = (cpu) => { cpu.repeat = REPEAT_WHILE_DIFFERENT; };
+PREFIXES[0xF3] = (cpu) => { cpu.repeat = REPEAT; };
 
 /** The registers of an address of 16 bits, and the segment that it has. */
-const PAIRS = [[3, 6, DS], [3, 7, DS], [5, 6, SS], [5, 7, SS], [6, -1, DS], [7, -1, DS], [5, -1, SS], [3, -1, DS]];
+const PAIRS = [[BX, SI, DS], [BX, DI, DS], [BP, SI, SS], [BP, DI, SS], [SI, -1, DS], [DI, -1, DS], [BP, -1, SS], [BX, -1, DS]];
 const PAGING = 0x80000000, PROTECTED = 1;
 
 export class Processor {
@@ -98,11 +102,11 @@ export class Processor {
 
     #decodeWide(mode) {
         let offset, segment = DS;
-        if (this.place === 4) ({ offset, segment } = this.#scaled(mode));
-        else if (this.place === 5 && mode === 0) offset = this.fetch(4);
+        if (this.place === SP) ({ offset, segment } = this.#scaled(mode));
+        else if (this.place === BP && mode === 0) offset = this.fetch(4);
         else {
             offset = this.registers[this.place];
-            if (this.place === 5) segment = SS;
+            if (this.place === BP) segment = SS;
         }
         if (mode === 1) offset += this.fetchSigned();
         if (mode === 2) offset += this.fetch(4);
@@ -111,10 +115,10 @@ export class Processor {
 
     /** An address with an index that is multiplied by 1, 2, 4 or 8. */
     #scaled(mode) {
-        const byte = this.fetch(1), index = byte >> 3 & 7, base = byte & 7, isBare = base === 5 && mode === 0;
+        const byte = this.fetch(1), index = byte >> 3 & 7, base = byte & 7, isBare = base === BP && mode === 0;
         const from = isBare ? this.fetch(4) : this.registers[base];
-        const segment = !isBare && (base === SP || base === 5) ? SS : DS;
-        return { offset: from + (index === 4 ? 0 : this.registers[index] * (1 << (byte >> 6))), segment };
+        const segment = !isBare && (base === SP || base === BP) ? SS : DS;
+        return { offset: from + (index === SP ? 0 : this.registers[index] * (1 << (byte >> 6))), segment };
     }
 
     #point(segment, offset) {
@@ -232,19 +236,12 @@ export class Processor {
         this.holdsOff = false;
         try {
             let byte = this.fetch(1);
-            for (; PREFIX[byte] !== 0; byte = this.fetch(1)) this.#prefix(PREFIX[byte]);
+            for (; PREFIXES[byte] !== null; byte = this.fetch(1)) PREFIXES[byte](this);
             OPERATIONS[byte](this, byte);
         } catch (fault) {
             this.#fault(fault);
         }
         this.count++;
-    }
-
-    #prefix(kind) {
-        if (kind <= GS + 1) this.override = kind - 1;
-        else if (kind === OPERAND) this.size = this.areWide[CS] ? 2 : 4;
-        else if (kind === ADDRESS) this.addressSize = this.areWide[CS] ? 2 : 4;
-        else if (kind !== LOCK) this.repeat = kind === REPEAT ? 1 : 2;
     }
 
     #fault(fault) {

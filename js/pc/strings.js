@@ -1,6 +1,6 @@
 // The instructions for strings, with their repeat prefixes.
 import { subtract } from "./arithmetic.js";
-import { AX, CX, DI, DIRECTION, DS, DX, ES, SI, ZERO } from "./names.js";
+import { AX, CX, DI, DIRECTION, DS, DX, ES, REPEAT, SI, ZERO } from "./names.js";
 
 const source = (cpu) => cpu.bases[cpu.override < 0 ? DS : cpu.override] + cpu.register(cpu.addressSize, SI);
 const target = (cpu) => cpu.bases[ES] + cpu.register(cpu.addressSize, DI);
@@ -56,7 +56,7 @@ function repeated(cpu, size, once, compares) {
     while (cpu.register(width, CX) !== 0) {
         once(cpu, size);
         cpu.setRegister(width, CX, cpu.register(width, CX) - 1);
-        if (compares && (cpu.flags & ZERO) !== (cpu.repeat === 1 ? ZERO : 0)) break;
+        if (compares && (cpu.flags & ZERO) !== (cpu.repeat === REPEAT ? ZERO : 0)) break;
     }
 }
 

@@ -141,6 +141,10 @@ test("addresses and calls", () => {
     assert.equal(stack.cpu.register(2, AX), 0x4321);
     const call = stepped([0xFF, 0xD4], { registers: { [SP]: 0x9000 } });                // CALL SP
     assert.deepEqual([call.cpu.pointer, call.world.read16(0x8FFE)], [0x9000, AT + 2]);
+    const pop = begun([0x67, 0x8F, 0x44, 0x24, 0x10], { registers: { [SP]: 0x700 } });  // POP [ESP + 10]: of the time after the pop
+    pop.world.write16(0x700, 0x5678);
+    pop.cpu.step();
+    assert.equal(pop.world.read16(0x712), 0x5678);
     const push = stepped([0x54], { registers: { [SP]: 0x9000 } });                      // PUSH SP
     assert.equal(push.world.read16(0x8FFE), 0x9000);
     const control = stepped([0x0F, 0x20, 0x05], { isProtected: true });                 // MOV EBP, CR0, whatever the upper bits say

@@ -18,7 +18,7 @@ const letterOf = (byte) => (byte >= 32 && byte < 127 ? String.fromCharCode(byte)
 export class ComputerPart {
     /** @param {import("./link.js").Link} link @param {{name: string, bytes: Uint8Array} | null} bios what the page has for a BIOS */
     constructor(link, bios) {
-        Object.assign(this, { link, bios, isOn: false, isRunning: false, seen: "", entries: new Map(), chosen: 0 });
+        Object.assign(this, { link, bios, isOn: false, isRunning: false, seen: "", entries: new Map(), chosen: 0, reached: null });
         fill(by("pc-speed"), ...SPEEDS.map(([speed, name]) => make("option", { value: speed }, name)));
         by("pc-power").onclick = () => this.#power();
         by("pc-pause").onclick = () => this.#pause();
@@ -30,6 +30,7 @@ export class ComputerPart {
         by("pc-enter").onclick = () => this.#type();
         by("pc-pick").onclick = () => by("pc-file").click();
         by("pc-file").onchange = (event) => { if (event.target.files[0]) this.#take(event.target.files[0]); };
+        by("pc-story").onkeydown = (event) => this.#walk(event);
         for (const kind of ["keydown", "keyup"]) by("pc-screen").addEventListener(kind, (event) => this.#key(event));
         this.#show(new Uint8Array(2 * COLUMNS * 25));
         this.#lit();
@@ -56,7 +57,7 @@ export class ComputerPart {
 
     async #power() {
         this.entries.clear();
-        this.chosen = 0;
+        Object.assign(this, { chosen: 0, reached: null });
         fill(by("pc-story"));
         fill(by("pc-entry"));
         await this.#ask("pcPower", { bios: this.bios.bytes, disk: by("pc-disk").value });
@@ -139,7 +140,7 @@ export class ComputerPart {
     // ---- the story
 
     #entry(entry) {
-        const known = this.entries.get(entry.id), button = known?.button ?? make("button", { type: "button", onclick: () => this.#choose(entry.id) });
+        const known = this.entries.get(entry.id), button = known?.button ?? make("button", { type: "button", tabIndex: -1, onclick: () => this.#choose(entry.id) });
         button.className = entry.isBad ? "bad" : "";
         fill(button, make("span", { className: "quiet" }, seconds(entry.at)), ` ${entryInWords(entry)}`);
         this.entries.set(entry.id, { entry, button });
@@ -149,12 +150,30 @@ export class ComputerPart {
         list.append(make("li", {}, button));
         if (list.children.length > MOST_ENTRIES) list.firstChild.remove();
         if (isAtEnd) list.scrollTop = list.scrollHeight;
+        if (this.chosen === 0 && document.activeElement !== this.reached) this.#reach(button);
+    }
+
+    /** The tabulator key reaches one entry of the list. Arrow keys lead from there to the others. */
+    #reach(button) {
+        if (this.reached !== null) this.reached.tabIndex = -1;
+        button.tabIndex = 0;
+        this.reached = button;
+    }
+
+    #walk(event) {
+        const list = by("pc-story"), item = document.activeElement.parentElement;
+        const next = { ArrowUp: item.previousSibling, ArrowDown: item.nextSibling, Home: list.firstChild, End: list.lastChild }[event.key];
+        if (!next) return;
+        event.preventDefault();
+        this.#reach(next.firstChild);
+        next.firstChild.focus();
     }
 
     /** Explains an entry: each byte of a command, and each bit of its results. */
     #choose(id) {
-        const { entry } = this.entries.get(id);
+        const { entry, button } = this.entries.get(id);
         this.chosen = id;
+        this.#reach(button);
         if (entry.kind === "port") {
             fill(by("pc-entry"), make("h3", {}, `${hex(entry.port, 3)}: ${hex(entry.value)}`), make("p", {}, entry.port === 0x3F2 ? dorInWords(entry.value) : entry.says));
             return;

@@ -9,7 +9,7 @@ import { made } from "./made.js";
 import { Desktop } from "./work.js";
 
 const DISK = "disk.rt";
-let library, image = null, bench = null, benches = 0, plan = "", desktop, shown = 0, host;
+let library, image = null, bench = null, benches = 0, plan = "", desktop, shown = 0, host, inHost = null;
 
 const tell = (event, told) => postMessage({ event, ...told });
 
@@ -55,18 +55,29 @@ function newBench() {
 
 // ---- the PC
 
-/** What the PC shows. When it waits, the page's disk is the one that it has written. */
+/** What the PC shows. While it waits, the page has the disk as the PC wrote it. */
 function hostState() {
     const state = host.state();
     if (!state.isRunning) takeFromHost();
     return state;
 }
 
+/** If the page shows another disk by now, the one that the PC wrote is a file beside it. */
 function takeFromHost() {
     const written = host.written();
     if (written === null) return;
+    if (image !== inHost) {
+        desktop.files.set("pc.rt", written);
+        return;
+    }
     newBench();
     show(written, DISK, "written by the PC");
+    inHost = image;
+}
+
+function putIntoHost(put) {
+    put();
+    inHost = image;
 }
 
 function bootDisk() {
@@ -115,7 +126,7 @@ const ASKED = {
 
     pcPower({ bios, disk }) {
         if (disk === "boot") bootDisk();
-        host.powerUp(bios, image);
+        putIntoHost(() => host.powerUp(bios, image));
         return hostState();
     },
     pcGo({ speed }) {
@@ -126,7 +137,11 @@ const ASKED = {
     pcStep() { host.step(); return hostState(); },
     pcToCommand() { host.toCommand(); return host.state(); },
     pcKeys: ({ bytes }) => host.keys(bytes),
-    pcInsert() { takeFromHost(); host.insert(image); return host.state(); },
+    pcInsert() {
+        takeFromHost();
+        putIntoHost(() => host.insert(image));
+        return host.state();
+    },
 
     files: () => desktop.list(),
     file: ({ name }) => desktop.files.get(name),

@@ -145,6 +145,7 @@ const LEFT_OUT = {
     "LOOP and JCXZ take the size of operands for that of addresses": (one, { first, size, addressSize }) => first >= 0xE0 && first <= 0xE3 && size !== addressSize,
     "DAS looks at what its first step left": ({ before }, { first }) => first === 0x2F && ((before.registers[0] & 0xFF) < 6 || ((before.registers[0] & 0xFF) > 0x99 && (before.registers[0] & 0xFF) < 0xA6)),
     "LMSW loads all bits, and INVLPG is there": (one, { first, second, third }) => first === 0x0F && second === 0x01 && field(third) > 5,
+    "POP to an address of ESP takes its value before the pop": (one, { first, second, third, addressSize }) => first === 0x8F && addressSize === 4 && second < 0xC0 && (second & 7) === 4 && (third & 7) === 4,
     "CALL by ESP takes its value after the push": (one, { first, second }) => first === 0xFF && second === 0xD4,
     "a coprocessor's instruction is an undefined one there": (one, { first }) => first >= 0xD8 && first <= 0xDF,
     "BOUND isn't there": (one, { first }) => first === 0x62,
