@@ -2,7 +2,7 @@
 import { add, adjust, BINARY, decimalAdjust, decrement, divide, divideDigits, increment, logical, multiply, multiplyDigits, multiplyInto, shift, subtract } from "./arithmetic.js";
 import { decodeMemory, decodeOnly, define, isMet, loadFar, popSegment } from "./common.js";
 import { defineExtended } from "./extended.js";
-import { AX, BOUND, BP, BX, CARRY, CS, CX, DI, DIRECTION, DS, DX, ES, Fault, INTERRUPT, OVERFLOW, SI, signed, SP, SS, UNDEFINED, ZERO } from "./names.js";
+import { AX, BOUND, BP, BX, CARRY, CS, CX, DI, DIRECTION, DS, DX, ES, Fault, INTERRUPT, OVERFLOW, SI, signed, SP, SS, UNDEFINED, unsigned, ZERO } from "./names.js";
 import { defineStrings } from "./strings.js";
 
 const undefinedOperation = () => { throw new Fault(UNDEFINED); };
@@ -19,6 +19,7 @@ const distance = (cpu) => signed(cpu.size, cpu.fetch(cpu.size));
 
 // ---- arithmetic
 
+/** ADD, OR, ADC, SBB, AND, SUB, XOR and CMP have six forms each. */
 BINARY.forEach((operation, number) => {
     const isStored = number !== 7, first = 8 * number;
     both(first, (cpu, size) => {
@@ -40,22 +41,25 @@ BINARY.forEach((operation, number) => {
 /** An operand, and a number: of its size, or a byte with its sign. */
 function withNumber(cpu, size, isByte) {
     cpu.decode();
-    const value = cpu.operand(size), number = isByte ? (size === 1 ? cpu.fetch(1) : cpu.fetchSigned() & (size === 2 ? 0xFFFF : -1)) >>> 0 : cpu.fetch(size);
+    const value = cpu.operand(size), number = isByte ? unsigned(size, cpu.fetchSigned()) : cpu.fetch(size);
     const result = BINARY[cpu.field](cpu, size, value, number);
     if (cpu.field !== 7) cpu.setOperand(size, result);
 }
 both(0x80, (cpu, size) => withNumber(cpu, size, false));
 both(0x82, (cpu, size) => withNumber(cpu, size, true));
 
+/** INC and DEC of a register. */
 one(0x40, (cpu, byte) => cpu.setRegister(cpu.size, byte & 7, increment(cpu, cpu.size, cpu.register(cpu.size, byte & 7))), 8);
 one(0x48, (cpu, byte) => cpu.setRegister(cpu.size, byte & 7, decrement(cpu, cpu.size, cpu.register(cpu.size, byte & 7))), 8);
 
+/** TEST. */
 both(0x84, (cpu, size) => {
     cpu.decode();
     logical(cpu, size, cpu.operand(size) & cpu.register(size, cpu.field));
 });
 both(0xA8, (cpu, size) => logical(cpu, size, cpu.register(size, AX) & cpu.fetch(size)));
 
+/** DAA, DAS, AAA, AAS, AAM, AAD. */
 one(0x27, (cpu) => decimalAdjust(cpu, 1));
 one(0x2F, (cpu) => decimalAdjust(cpu, -1));
 one(0x37, (cpu) => adjust(cpu, 1));
@@ -63,6 +67,7 @@ one(0x3F, (cpu) => adjust(cpu, -1));
 one(0xD4, (cpu) => divideDigits(cpu, cpu.fetch(1)));
 one(0xD5, (cpu) => multiplyDigits(cpu, cpu.fetch(1)));
 
+/** IMUL with a number. */
 one(0x69, (cpu) => {
     cpu.decode();
     const value = cpu.operand(cpu.size);
@@ -74,6 +79,7 @@ one(0x6B, (cpu) => {
     cpu.setRegister(cpu.size, cpu.field, multiplyInto(cpu, cpu.size, value, cpu.fetchSigned()));
 });
 
+/** ROL, ROR, RCL, RCR, SHL, SHR, SAR: by a number, by one, by CL. */
 function shifted(cpu, size, bitsOf) {
     cpu.decode();
     const value = cpu.operand(size);
@@ -83,6 +89,7 @@ both(0xC0, (cpu, size) => shifted(cpu, size, () => cpu.fetch(1)));
 both(0xD0, (cpu, size) => shifted(cpu, size, () => 1));
 both(0xD2, (cpu, size) => shifted(cpu, size, () => cpu.register(1, CX)));
 
+/** TEST, TEST, NOT, NEG, MUL, IMUL, DIV, IDIV. */
 const UNARY = [
     (cpu, size, value) => logical(cpu, size, value & cpu.fetch(size)),
     (cpu, size, value) => logical(cpu, size, value & cpu.fetch(size)),
@@ -98,11 +105,13 @@ both(0xF6, (cpu, size) => {
     UNARY[cpu.field](cpu, size, cpu.operand(size));
 });
 
+/** CBW and CWD, or CWDE and CDQ. */
 one(0x98, (cpu) => cpu.setRegister(cpu.size, AX, signed(cpu.size / 2, cpu.register(cpu.size / 2, AX))));
 one(0x99, (cpu) => cpu.setRegister(cpu.size, DX, signed(cpu.size, cpu.register(cpu.size, AX)) < 0 ? -1 : 0));
 
 // ---- moves
 
+/** MOV from a register, and into one; XCHG. */
 both(0x88, (cpu, size) => {
     cpu.decode();
     cpu.setOperand(size, cpu.register(size, cpu.field));
@@ -117,11 +126,13 @@ both(0x86, (cpu, size) => {
     cpu.setOperand(size, cpu.register(size, cpu.field));
     cpu.setRegister(size, cpu.field, value);
 });
+/** XCHG with AX. */
 one(0x90, (cpu, byte) => {
     const value = cpu.register(cpu.size, byte & 7);
     cpu.setRegister(cpu.size, byte & 7, cpu.register(cpu.size, AX));
     cpu.setRegister(cpu.size, AX, value);
 }, 8);
+/** MOV of a number. */
 one(0xB0, (cpu, byte) => cpu.setRegister(1, byte & 7, cpu.fetch(1)), 8);
 one(0xB8, (cpu, byte) => cpu.setRegister(cpu.size, byte & 7, cpu.fetch(cpu.size)), 8);
 both(0xC6, (cpu, size) => {
@@ -133,15 +144,18 @@ both(0xC6, (cpu, size) => {
 const direct = (cpu) => cpu.bases[cpu.override < 0 ? DS : cpu.override] + cpu.fetch(cpu.addressSize);
 both(0xA0, (cpu, size) => cpu.setRegister(size, AX, cpu.read(size, direct(cpu))));
 both(0xA2, (cpu, size) => cpu.write(size, direct(cpu), cpu.register(size, AX)));
+/** XLAT. */
 one(0xD7, (cpu) => {
     const width = cpu.addressSize, offset = cpu.register(width, BX) + cpu.register(1, AX);
     cpu.setRegister(1, AX, cpu.read(1, cpu.bases[cpu.override < 0 ? DS : cpu.override] + (width === 2 ? offset & 0xFFFF : offset)));
 });
 
+/** LEA. */
 one(0x8D, (cpu) => {
     decodeMemory(cpu);
     cpu.setRegister(cpu.size, cpu.field, cpu.offset);
 });
+/** MOV from a segment register, and into one. */
 one(0x8C, (cpu) => {
     cpu.decode();
     if (cpu.field > 5) throw new Fault(UNDEFINED);
@@ -159,6 +173,7 @@ one(0xC5, (cpu) => loadFar(cpu, DS));
 
 // ---- the stack
 
+/** PUSH and POP of registers, numbers and segment registers. */
 one(0x50, (cpu, byte) => cpu.push(cpu.size, cpu.register(cpu.size, byte & 7)), 8);
 one(0x58, (cpu, byte) => cpu.setRegister(cpu.size, byte & 7, cpu.pop(cpu.size)), 8);
 one(0x68, (cpu) => cpu.push(cpu.size, cpu.fetch(cpu.size)));
@@ -167,12 +182,13 @@ for (const segment of [ES, CS, SS, DS]) {
     one(8 * segment + 6, (cpu) => cpu.push(cpu.size, cpu.selectors[segment]));
     if (segment !== CS) one(8 * segment + 7, (cpu) => popSegment(cpu, segment));
 }
-/** The address of the operand is of the time after the pop, if it uses the stack pointer. */
+/** POP into an operand. If its address uses the stack pointer, this is the one after the pop. */
 one(0x8F, (cpu) => {
     const value = cpu.pop(cpu.size);
     decodeOnly(cpu);
     cpu.setOperand(cpu.size, value);
 });
+/** PUSHA and POPA. */
 one(0x60, (cpu) => {
     const top = cpu.register(cpu.size, SP);
     for (let number = 0; number < 8; number++) cpu.push(cpu.size, number === SP ? top : cpu.register(cpu.size, number));
@@ -183,11 +199,13 @@ one(0x61, (cpu) => {
         if (number !== SP) cpu.setRegister(cpu.size, number, value);
     }
 });
+/** PUSHF, POPF, SAHF, LAHF. */
 one(0x9C, (cpu) => cpu.push(cpu.size, cpu.flags));
 one(0x9D, (cpu) => cpu.setFlags(cpu.size, cpu.pop(cpu.size)));
 one(0x9E, (cpu) => { cpu.flags = cpu.flags & ~0xFF | cpu.register(1, AX + 4) & 0xD5 | 2; });
 one(0x9F, (cpu) => cpu.setRegister(1, AX + 4, cpu.flags));
 
+/** ENTER and LEAVE. */
 one(0xC8, (cpu) => {
     const bytes = cpu.fetch(2), levels = cpu.fetch(1) & 31, width = cpu.areWide[SS] ? 4 : 2;
     cpu.push(cpu.size, cpu.register(cpu.size, BP));
@@ -208,6 +226,7 @@ one(0xC9, (cpu) => {
 
 // ---- jumps
 
+/** Jumps on a condition. */
 one(0x70, (cpu, byte) => {
     const by = cpu.fetchSigned();
     if (isMet(cpu, byte)) cpu.jumpBy(by);
@@ -219,6 +238,7 @@ one(0xE0, (cpu, byte) => {
     const isWanted = byte === 0xE2 || Boolean(cpu.flags & ZERO) === (byte === 0xE1);
     if (cpu.register(width, CX) !== 0 && isWanted) cpu.jumpBy(by);
 }, 3);
+/** JCXZ, JMP and CALL. */
 one(0xE3, (cpu) => {
     const by = cpu.fetchSigned();
     if (cpu.register(cpu.addressSize, CX) === 0) cpu.jumpBy(by);
@@ -242,6 +262,7 @@ function release(cpu, bytes) {
     const width = cpu.areWide[SS] ? 4 : 2;
     cpu.setRegister(width, SP, cpu.register(width, SP) + bytes);
 }
+/** RET, near and far. */
 one(0xC3, (cpu) => cpu.jump(cpu.pop(cpu.size)));
 one(0xC2, (cpu) => {
     const bytes = cpu.fetch(2);
@@ -259,6 +280,7 @@ one(0xCA, (cpu) => {
     release(cpu, bytes);
 });
 
+/** INT 3, INT, INTO, IRET, BOUND. */
 one(0xCC, (cpu) => cpu.call(3));
 one(0xCD, (cpu) => cpu.call(cpu.fetch(1)));
 one(0xCE, (cpu) => { if (cpu.flags & OVERFLOW) cpu.call(4); });
@@ -273,6 +295,7 @@ one(0x62, (cpu) => {
     if (value < least || value > most) throw new Fault(BOUND);
 });
 
+/** INC and DEC; CALL and JMP to an operand, near and far; PUSH. */
 both(0xFE, (cpu, size) => {
     cpu.decode();
     if (cpu.field < 2) cpu.setOperand(size, (cpu.field === 0 ? increment : decrement)(cpu, size, cpu.operand(size)));
@@ -304,6 +327,7 @@ both(0xEE, (cpu, size) => cpu.bus.out(cpu.register(2, DX), size, cpu.register(si
 
 // ---- flags and the processor
 
+/** HLT, CMC, CLC, STC, CLI, STI, CLD, STD, SALC, WAIT. */
 one(0xF4, (cpu) => { cpu.isHalted = true; });
 one(0xF5, (cpu) => { cpu.flags ^= CARRY; });
 for (const [byte, flag] of [[0xF8, CARRY], [0xFA, INTERRUPT], [0xFC, DIRECTION]]) {
