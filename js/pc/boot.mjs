@@ -15,13 +15,13 @@ const words = process.argv.slice(2), [module, bios, image, after] = words;
 
 const library = await instantiate(readFileSync(module)), controller = new library.Controller();
 if (words.includes("--strap")) controller.strapSeeks(true);
-if (words.includes("--rate")) controller.write(0x3F7, Number(words[words.indexOf("--rate") + 1]));
 const tray = library.Tray.ofImage(readFileSync(image));
 controller.insert(0, tray);
 tray.free();
 
 const computer = new Computer({ bios: readFileSync(bios), controller }), began = performance.now();
 computer.floppy.followsRate = words.includes("--by-rate");
+if (words.includes("--rate")) computer.floppy.write(0x3F7, Number(words[words.indexOf("--rate") + 1]));
 computer.run(MINUTES_OF_WORDS, () => computer.screen.printed.includes(VERDICT));
 writeFileSync(after, controller.image(0));
 console.log(JSON.stringify({
