@@ -100,6 +100,10 @@ class Browser:
         self.script("arguments[0].focus()", self.at(name))
         ActionChains(self.driver).send_keys(*keys).perform()
 
+    def keys_here(self, *keys):
+        """Keys that go to the element which has the focus."""
+        ActionChains(self.driver).send_keys(*keys).perform()
+
     def write(self, name, text):
         element = self.at(name)
         element.clear()

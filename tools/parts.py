@@ -1,7 +1,9 @@
 """What tools/install and the tools that make packages have in common: the version, what has been built, and the library
 made of it."""
+import collections
 import datetime
 import pathlib
+import platform
 import re
 import shutil
 import subprocess
@@ -19,6 +21,18 @@ ARCHIVE = TOP / "crates/telwyddus_c/out/libtelwyddus_c.a"
 LIBRARY = ["crates", ":(glob)c/*"]
 PACKAGE = TOP / "python/telwyddus"
 SUMMARY = "The 1.44 MB diskette path of the IBM PC/AT as one machine model, with proofs"
+
+
+# What packages can be made for: how Debian calls it, its folder of libraries, and how the names of its tools begin on
+# another machine.
+Target = collections.namedtuple("Target", "machine arch multiarch tools")
+TARGETS = {it.machine: it for it in (Target("x86_64", "amd64", "x86_64-linux-gnu", "x86_64-linux-gnu-"), Target("aarch64", "arm64", "aarch64-linux-gnu", "aarch64-linux-gnu-"))}
+HERE = platform.machine()
+
+
+def target(name):
+    """A target. On a machine of its own kind the tools have their plain names."""
+    return TARGETS[name]._replace(tools="") if name == HERE else TARGETS[name]
 
 
 def run(*words, **more):
@@ -42,16 +56,16 @@ def built(path, by):
     return path.resolve()
 
 
-def make_library(archive, work):
+def make_library(archive, work, tools=""):
     """Makes the library in a folder, from an archive and c/heap.c: libtelwyddus.a, and the shared library, which
-    exports only its calls."""
+    exports only its calls. `tools` is how the names of the tools begin."""
     heap, static, shared, shown = work / "heap.o", work / "libtelwyddus.a", work / SHARED, work / "shown"
-    run("gcc", "-O2", "-fPIC", "-c", TOP / "c/heap.c", "-o", heap)
+    run(f"{tools}gcc", "-O2", "-fPIC", "-c", TOP / "c/heap.c", "-o", heap)
     shutil.copyfile(archive, static)
-    run("ar", "rs", static, heap, stderr=subprocess.DEVNULL)
+    run(f"{tools}ar", "rs", static, heap, stderr=subprocess.DEVNULL)
     shown.write_text("{ global: telwyddus_*; local: *; };\n")
     whole = ["-Wl,--whole-archive", archive, "-Wl,--no-whole-archive"]
-    run("gcc", "-shared", f"-Wl,-soname,{SONAME},-z,relro,-z,now,--version-script={shown}", "-o", shared, heap, *whole)
+    run(f"{tools}gcc", "-shared", f"-Wl,-soname,{SONAME},-z,relro,-z,now,--version-script={shown}", "-o", shared, heap, *whole)
     return static, shared
 
 

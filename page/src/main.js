@@ -1,4 +1,5 @@
 // The page: it starts the worker, and connects what a person does with what the worker tells.
+import { ComputerPart } from "./computer.js";
 import { Console } from "./console.js";
 import { by, download, fill, make, say } from "./dom.js";
 import { Forms } from "./forms.js";
@@ -14,6 +15,7 @@ const rings = [0, 1].map((head) => new Rings(by(`side-${head}`), head, choose));
 const bench = new Console(link);
 const sector = new Sector(link, (answer) => bench.show(answer, answer.tries[0].from));
 const forms = new Forms(link, open);
+let computer = null;
 
 // ---- the disk
 
@@ -21,6 +23,7 @@ function heard(event, told) {
     if (event === "disk") begin(told);
     else if (event === "fields") add(told);
     else if (event === "surveyed") finished(told);
+    else if (event === "pc") computer.hear(told);
     else if (event === "broken") by("told").textContent = `The library can't run here: ${told.message}`;
 }
 
@@ -103,9 +106,9 @@ for (const [kind, ending] of [["rt", "rt"], ["flat", "img"], ["imd", "imd"]]) {
     };
 }
 
-// ---- the three parts of the page, and its theme
+// ---- the parts of the page, and its theme
 
-const PARTS = ["disk", "console", "forms"];
+const PARTS = ["disk", "console", "computer", "forms"];
 function part(name) {
     for (const it of PARTS) {
         by(`part-${it}`).hidden = it !== name;
@@ -136,11 +139,12 @@ function redraw() {
     bench.waves.draw();
 }
 
-/** The module comes compressed, in the page itself. */
-async function module() {
-    const packed = Uint8Array.from(atob(MODULE_TEXT), (it) => it.charCodeAt(0));
+/** Files come compressed, in the page itself. */
+async function unpacked(text) {
+    const packed = Uint8Array.from(atob(text), (it) => it.charCodeAt(0));
     return new Response(new Blob([packed]).stream().pipeThrough(new DecompressionStream("gzip"))).arrayBuffer();
 }
-const { version } = await link.ask("begin", { module: await module() });
+computer = new ComputerPart(link, BIOS.text === "" ? null : { name: BIOS.name, says: BIOS.says, bytes: new Uint8Array(await unpacked(BIOS.text)) });
+const { version } = await link.ask("begin", { module: await unpacked(MODULE_TEXT) });
 by("version").textContent = `library ${Math.floor(version / 10000)}.${Math.floor(version / 100) % 100}.${version % 100}`;
 await link.ask("made");

@@ -1,13 +1,15 @@
 // The page's worker: it has the library, the disk, the bench and the files. The page asks by messages, so that it never
 // waits for a whole disk.
+import { trialDisk } from "../../js/pc/trial.js";
 import { instantiate } from "../../js/src/library.js";
 import { Bench } from "./bench.js";
 import { opened, saved, shapeOf, surveyed, trackOf } from "./disk.js";
+import { Host } from "./host.js";
 import { made } from "./made.js";
 import { Desktop } from "./work.js";
 
 const DISK = "disk.rt";
-let library, image = null, bench = null, benches = 0, plan = "", desktop, shown = 0;
+let library, image = null, bench = null, benches = 0, plan = "", desktop, shown = 0, host, inHost = null;
 
 const tell = (event, told) => postMessage({ event, ...told });
 
@@ -51,10 +53,48 @@ function newBench() {
     bench = null;
 }
 
+// ---- the PC
+
+/** What the PC shows. While it waits, the page has the disk as the PC wrote it. */
+function hostState() {
+    const state = host.state();
+    if (!state.isRunning) takeFromHost();
+    return state;
+}
+
+/** If the page shows another disk by now, the one that the PC wrote is a file beside it. */
+function takeFromHost() {
+    const written = host.written();
+    if (written === null) return;
+    if (image !== inHost) {
+        desktop.files.set("pc.rt", written);
+        return;
+    }
+    newBench();
+    show(written, DISK, "written by the PC");
+    inHost = image;
+}
+
+function putIntoHost(put) {
+    put();
+    inHost = image;
+}
+
+function bootDisk() {
+    const tray = library.Tray.ofFlat(trialDisk()), bytes = tray.image();
+    tray.free();
+    newBench();
+    show(bytes, "the boot disk", "made here");
+}
+
 const ASKED = {
     async begin({ module }) {
         library = await instantiate(module);
         desktop = new Desktop(library);
+        host = new Host(library, (state) => {
+            tell("pc", state);
+            if (!state.isRunning) takeFromHost();
+        });
         return { version: library.version() };
     },
     made() {
@@ -83,6 +123,25 @@ const ASKED = {
         plan = text;    // which a controller has too that is made later
     },
     benchTries({ cylinder, head, key, most }) { return benchState({ tries: theBench().tries(cylinder, head, key, most) }); },
+
+    pcPower({ bios, disk }) {
+        if (disk === "boot") bootDisk();
+        putIntoHost(() => host.powerUp(bios, image));
+        return hostState();
+    },
+    pcGo({ speed }) {
+        host.go(speed);
+        return host.state();
+    },
+    pcPause() { host.stop(); return hostState(); },
+    pcStep() { host.step(); return hostState(); },
+    pcToCommand() { host.toCommand(); return host.state(); },
+    pcKeys: ({ bytes }) => host.keys(bytes),
+    pcInsert() {
+        takeFromHost();
+        putIntoHost(() => host.insert(image));
+        return host.state();
+    },
 
     files: () => desktop.list(),
     file: ({ name }) => desktop.files.get(name),
