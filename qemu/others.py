@@ -86,8 +86,8 @@ def mach(place, say):
 
 # ---- other kernels of Linux, and file systems
 
-FILE_SYSTEMS = [("vfat", "mkfs.fat /dev/fd0", "fsck.fat -n /dev/fd0"), ("ext2", "mke2fs -q -F -t ext2 /dev/fd0", "e2fsck -f -n /dev/fd0"),
-                ("minix", "mkfs.minix /dev/fd0", "fsck.minix -f /dev/fd0")]
+FILE_SYSTEMS = [("vfat", "mkfs.fat /dev/fd0", "fsck.fat -n /dev/fd0"), ("ext2", "/usr/bin/mke2fs -q -F -t ext2 /dev/fd0", "/usr/bin/e2fsck -f -n /dev/fd0"),
+                ("minix", "/usr/bin/mkfs.minix /dev/fd0", "/usr/bin/fsck.minix -f /dev/fd0")]
 
 
 def make_and_check(say, guest, what):
@@ -96,6 +96,8 @@ def make_and_check(say, guest, what):
         made = guest.sh(f"{make} > /tmp/said 2>&1 && mount -t {kind} /dev/fd0 /mnt && head -c 700001 /new > /mnt/new.bin && umount /mnt")
         sound = guest.sh(f"fresh; {check} > /tmp/check 2>&1 || cat /tmp/check")
         back = guest.sh(f"mount -t {kind} -o ro /dev/fd0 /mnt && sum /mnt/new.bin; umount /mnt; fresh")
+        if made.status != 0:
+            made = guest.sh("cat /tmp/said; dmesg | tail -3; false")
         is_so = made.status == 0 and sound.text == "" and back.text == md5(NEW[:700001])
         say(is_so, f"{what}: {kind} is made, filled, checked and mounted again{'' if is_so else ': ' + made.text + sound.text + back.text}")
 
@@ -105,8 +107,8 @@ def file_systems(place, say, guest):
     put("systems.img", bytes(SECTORS * SECTOR))
     put_in(guest, "systems.img")
     make_and_check(say, guest, "Linux 6.1")
-    found = guest.sh("badblocks -w -s /dev/fd0 1440 2> /tmp/said; echo $?")
-    say(found.text == "0", f"badblocks -w finds no bad block, {figures(found)}")
+    found = guest.sh("/usr/bin/badblocks -w /dev/fd0 1439 2>&1")
+    say(found.status == 0 and found.text == "", f"badblocks -w finds no bad block, {figures(found)}{': ' + found.text if found.text else ''}")
     guest.set("image0", "")
 
 
@@ -118,6 +120,8 @@ def other_linux(place, say, name):
     with Linux(place, name, telwyddus(speed=0), files, kernel=kernel, first=first) as guest:
         version, messages = guest.sh("uname -rm").text, guest.sh(MESSAGES).text
         say("post-1991 82077" in messages, f"Linux {version} finds a post-1991 82077")
+        if "i686" in version:
+            guest.sh("sleep 300")       # its jiffies pass 0 after five minutes; until then a changed disk is an error, on isa-fdc too
         for speed in (0, 1):
             put_in(guest, f"{name}.rt", speed)
             said = guest.sh(READ)
