@@ -1,4 +1,4 @@
-"""What `run` boots from a floppy itself, through SeaBIOS: GRUB, SYSLINUX, memtest86+. Each function is a check, as in
+"""What `run` boots from a floppy itself, through SeaBIOS: GRUB, SYSLINUX, memtest86+, iPXE. Each function is a check, as in
 checks.py."""
 import os
 import re
@@ -58,16 +58,34 @@ def grub(place, say):
     boots(place, say, "grub", bytes(flat), f"(?s){md5(big)}.*GRUB ENDS")
 
 
+def with_syslinux(place, name, verb, path):
+    """A disk on which SYSLINUX starts a file."""
+    flat, config = f"{name}.flat", f"{name}.cfg"
+    if os.path.exists(flat):
+        os.remove(flat)
+    tool(place, "mformat", "-C", "-f", "1440", "-i", flat, "::")
+    tool(place, "syslinux", "-i", flat)
+    put(config, f"DEFAULT it\nPROMPT 0\nSAY from a raw track\nLABEL it\n {verb} it.bin\n".encode())
+    tool(place, "mcopy", "-o", "-i", flat, config, "::syslinux.cfg")
+    tool(place, "mcopy", "-o", "-i", flat, path, "::it.bin")
+    return content(flat)
+
+
 def syslinux(place, say):
     """Boots SYSLINUX, which starts memtest86+."""
-    if os.path.exists("syslinux.flat"):
-        os.remove("syslinux.flat")
-    tool(place, "mformat", "-C", "-f", "1440", "-i", "syslinux.flat", "::")
-    tool(place, "syslinux", "-i", "syslinux.flat")
-    put("syslinux.cfg", b"DEFAULT memtest\nPROMPT 0\nSAY from a raw track\nLABEL memtest\n LINUX memtest\n")
-    tool(place, "mcopy", "-o", "-i", "syslinux.flat", "syslinux.cfg", "::")
-    tool(place, "mcopy", "-o", "-i", "syslinux.flat", os.path.join(place.root, "boot/memtest86+x64.bin"), "::memtest")
-    boots(place, say, "syslinux", content("syslinux.flat"), r"Memtest86\+.*\d")
+    flat = with_syslinux(place, "syslinux", "LINUX", os.path.join(place.root, "boot/memtest86+x64.bin"))
+    boots(place, say, "syslinux", flat, r"Memtest86\+.*\d")
+
+
+def ipxe(place, say):
+    """Boots iPXE by SYSLINUX."""
+    boots(place, say, "ipxe", with_syslinux(place, "ipxe", "LINUX", os.path.join(place.root, "boot/ipxe.lkrn")), r"iPXE \d")
+
+
+def grub_rescue(place, say):
+    """Boots the image that Debian's package grub-rescue-pc has for a floppy."""
+    code = content(os.path.join(place.root, "usr/lib/grub-rescue/grub-rescue-floppy.img"))
+    boots(place, say, "grub_rescue", code + bytes(SECTORS * 512 - len(code)), r"GNU GRUB +version \d")
 
 
 def memtest(place, say):
@@ -76,4 +94,4 @@ def memtest(place, say):
     boots(place, say, "memtest", code + bytes(SECTORS * 512 - len(code)), r"Memtest86\+.*\d")
 
 
-CHECKS = [grub, syslinux, memtest]
+CHECKS = [grub, grub_rescue, syslinux, memtest, ipxe]

@@ -14,7 +14,7 @@ and `faults`.
         guest.start("program"), guest.line(), guest.send("..\n")    # a program that is talked to: give it < /dev/ttyS1
     place.exported("disk.rt")                               # (sectors or None, status, what was printed)
 
-At the end of `with` the guest's power is switched off, so the image is stored; guest.said() is what QEMU has printed.
+At the end of `with` the guest's power is switched off; guest.said() is what QEMU has printed.
 Time is the guest's own (-icount): an instruction takes 2 ** shift nanoseconds, so the host's load makes no difference.
 With clock="host" the host's time counts. While nothing is asked, the guest's time runs on, faster than the host's;
 guest.stop() stops it, and guest.go() lets it go on. A guest that says nothing for `most` seconds of the host is ended:
@@ -47,6 +47,11 @@ def telwyddus(image0="", image1="", **more):
     """QEMU's arguments for the device."""
     told = {"image0": image0, "image1": image1, **more}
     return ["-device", "telwyddus-fdc,id=fd," + ",".join(f"{name}={value}" for name, value in told.items() if value != "")]
+
+
+def by_drive(name, form="raw", drive="", **more):
+    """QEMU's arguments for the device, with a disk in its first bay by -drive."""
+    return ["-drive", f"if=none,id=d0,file={name},format={form}{drive}", *telwyddus(drive0="d0", **more)]
 
 
 def qemus_own(*flats):
@@ -90,8 +95,11 @@ class Place:
         return name
 
     def exported(self, name):
+        """The export of this moment: one that stops stores nothing, so an older file is taken away before."""
+        if os.path.exists(name + ".out"):
+            os.remove(name + ".out")
         status, said = self.program("export", name, name + ".out")
-        if status not in (0, 1):
+        if status != 0:
             return None, status, said
         with open(name + ".out", "rb") as file:
             return file.read(), status, said
@@ -107,16 +115,17 @@ class Said:
 class Guest:
     """A running QEMU."""
 
-    def __init__(self, place, name, device, words=(), clock="own", shift=3, most=600):
+    def __init__(self, place, name, device, words=(), clock="own", shift=3, most=600, user=None, serial=2):
         self.place, self.name, self.most, self.began = place, name, most, time.time()
         self.log, self.pending, self.lines = [], b"", None
         self.socket_path = f"{name}.{os.getpid()}.qmp"
         roms = [os.path.join(place.root, "usr/share", folder) for folder in ("seabios", "qemu")]
         own = ["-icount", f"shift={shift},align=off,sleep=off"] if clock == "own" else []
+        lines = ["-serial", f"file:{name}.console"] if serial == 2 else []
         line = [place.qemu, "-L", roms[0], "-L", roms[1], "-M", "q35", "-m", "192", "-accel", "tcg", *own, "-nodefaults", "-display",
-                "none", "-serial", f"file:{name}.console", "-serial", "stdio", "-qmp", f"unix:{self.socket_path},server=on,wait=off", *device, *words]
+                "none", *lines, "-serial", "stdio", "-qmp", f"unix:{self.socket_path},server=on,wait=off", *device, *words]
         with open(f"{name}.errors", "wb") as errors:
-            self.process = subprocess.Popen(line, stdin=subprocess.PIPE, stdout=subprocess.PIPE, stderr=errors)
+            self.process = subprocess.Popen(line, stdin=subprocess.PIPE, stdout=subprocess.PIPE, stderr=errors, user=user)
 
     def __enter__(self):
         return self
@@ -154,7 +163,10 @@ class Guest:
         self.lines.write(json.dumps({"execute": execute, "arguments": arguments}) + "\n")
         self.lines.flush()
         while True:
-            line = self.lines.readline()
+            try:
+                line = self.lines.readline()
+            except ConnectionError as error:
+                raise Gone(self.name) from error
             if not line:
                 raise Gone(self.name)
             answer = json.loads(line)
@@ -247,12 +259,13 @@ class Linux(Guest):
     """Linux with busybox, and with the floppy driver `driver`: floppy, or floppy-raw, which takes raw commands, or None
     for no driver yet."""
 
-    def __init__(self, place, name, device, files=(), driver="floppy", append="", words=(), **more):
+    def __init__(self, place, name, device, files=(), driver="floppy", append="", words=(), kernel=None, first=None, **more):
         initramfs = f"{name}.{os.getpid()}.initramfs"
-        with open(os.path.join(place.work, "initramfs"), "rb") as base, open(initramfs, "wb") as file:
+        kernel, first = kernel or os.path.join(place.work, "vmlinuz"), first or os.path.join(place.work, "initramfs")
+        with open(first, "rb") as base, open(initramfs, "wb") as file:
             file.write(base.read() + cpio(dict(files)))
         append = f"console=ttyS0 quiet panic=-1 no_timer_check {append}"
-        super().__init__(place, name, device, ["-kernel", os.path.join(place.work, "vmlinuz"), "-initrd", initramfs, "-append", append, *words], **more)
+        super().__init__(place, name, device, ["-kernel", kernel, "-initrd", initramfs, "-append", append, *words], **more)
         try:
             self.ready()
             self.probed = self.sh(f"insmod /modules/{driver}.ko") if driver else None

@@ -1,19 +1,23 @@
 /*
  * A floppy controller (82077AA) with two drives, whose work the library
- * Telwyddus does: what its three parts share.
+ * Telwyddus does: what its parts share.
  */
 #ifndef HW_BLOCK_TELWYDDUS_FDC_H
 #define HW_BLOCK_TELWYDDUS_FDC_H
 
 #include "exec/ioport.h"
+#include "hw/block/block.h"
 #include "hw/isa/isa.h"
-#include "qemu/notify.h"
 #include "qemu/timer.h"
 #include "qom/object.h"
+#include "sysemu/block-backend.h"
 #include "telwyddus.h"
 
 #define TYPE_TELWYDDUS_FDC "telwyddus-fdc"
 OBJECT_DECLARE_SIMPLE_TYPE(TelwyddusFDC, TELWYDDUS_FDC)
+
+#define TYPE_TELWYDDUS_DRIVE "telwyddus-drive"
+OBJECT_DECLARE_SIMPLE_TYPE(TelwyddusDrive, TELWYDDUS_DRIVE)
 
 enum { BAYS = 2 };
 
@@ -24,14 +28,29 @@ enum {
     PORT_DIR = 0x3f7,
 };
 
-typedef struct TelwyddusBay {
-    char *image;        /* the file of its medium; for none NULL or "" */
-    char *plan;         /* the file of its drive's faults; for none the same */
-    char *beside;       /* file for cells that a flat file can't have */
-    bool is_flat;       /* its file has sectors, and no cells */
-    bool is_protected;  /* by its property; an image or file may be too */
-    bool is_unsaved;    /* the file may differ from the loaded state */
-} TelwyddusBay;
+/* A bay with its drive. Its disk is a node of QEMU's block layer */
+struct TelwyddusDrive {
+    DeviceState parent_obj;
+
+    TelwyddusFDC *controller;
+    unsigned bay;
+    BlockConf conf;             /* its block backend, with or without a node */
+    BlockBackend *beside;       /* file of cells that a flat disk can't have */
+    char *image;                /* the name that image0 was given, or "" */
+    char *plan;                 /* the file of its faults, or "" */
+    char *cells;                /* the name for `beside`, or "" */
+    bool is_flat;               /* the disk's bytes are sectors, not cells */
+    bool is_protected;          /* by its property; the node may be too */
+    bool is_loaded;             /* by a state; not yet compared to the node */
+    telwyddus_tracks owed;      /* tracks that are to be written to the node */
+    uint32_t stuck_changes;     /* reads of DIR that still have bit 7 set */
+    uint32_t commands;          /* data commands since its plan was set */
+    uint32_t later_size;        /* the lines of its plan that hold later */
+    char *later;
+
+    uint32_t saved_size;        /* the medium, while a state is loaded */
+    uint8_t *saved;
+};
 
 /*
  * A line of plan0 for the bus: how often, and how many device steps each
@@ -51,20 +70,25 @@ struct TelwyddusFDC {
     uint32_t channel;
     uint32_t drives;            /* the other bays have no drive */
     uint32_t speed;             /* times as fast as a drive; 0: no waiting */
+    int32_t boot_index[BAYS];
 
     PortioList ports;
     qemu_irq irq;
     IsaDma *dma;
     QEMUTimer *timer;
     QEMUTimer *stray;
-    Notifier exit;
-    TelwyddusBay bays[BAYS];
+    TelwyddusDrive bays[BAYS];
 
     telwyddus_controller chip;
     uint8_t lines;              /* of the chip, as the last call gave them */
     bool is_up;                 /* INT, as the guest knows it */
     bool is_held;               /* DREQ, as the channel knows it */
     bool is_asking;             /* now: for bytes, of the channel */
+    bool is_owing;              /* a disk couldn't be written: INT waits */
+    bool is_writing;            /* now: a node, while other work goes on */
+    bool is_within;             /* an access of the guest is under way */
+    CPUState *cpu;              /* the processor that had the last access */
+    int64_t cpu_time;           /* the time that it had worked by then */
     uint32_t step;              /* nanoseconds of a device step */
     int64_t at;                 /* the end of the last step that is made */
     int64_t until;              /* end of the last step that may be made now */
@@ -94,6 +118,10 @@ void telwyddus_settle(TelwyddusFDC *s);
 /* Makes ahead what is then under way; called after any access */
 void telwyddus_go_on(TelwyddusFDC *s);
 
+/* Around each access of the guest, except a read of a port that only looks */
+void telwyddus_begin_access(TelwyddusFDC *s);
+void telwyddus_end_access(TelwyddusFDC *s);
+
 /* Reads a port; sets INT if it has changed; asks how long a step is */
 uint8_t telwyddus_look(TelwyddusFDC *s, uint16_t port);
 void telwyddus_tell(TelwyddusFDC *s);
@@ -107,21 +135,42 @@ void telwyddus_stray(void *opaque);
 /* Sets the timer of the next spurious interrupt, if one is planned */
 void telwyddus_set_stray(TelwyddusFDC *s);
 
-/* ---- telwyddus-media.c */
+/* ---- telwyddus-block.c */
+
+/* Reads the node of a backend into a tray: the cells, or the sectors */
+bool telwyddus_read_node(BlockBackend *blk, telwyddus_tray *tray,
+                         bool *is_flat, Error **errp);
 
 /*
- * Stores the medium of a bay in its file, if it differs from the file. The
- * medium stays in. If that fails, it still counts as unsaved.
+ * Writes to the nodes what the guest has written to the media. If that fails,
+ * the machine is paused, and INT waits until a write after it goes on.
  */
-bool telwyddus_store(TelwyddusFDC *s, unsigned bay, Error **errp);
-void telwyddus_store_all(TelwyddusFDC *s);
+void telwyddus_write_back(TelwyddusFDC *s);
 
-/* Does that for the bays whose motor is off */
-void telwyddus_store_still(TelwyddusFDC *s);
+/* The same, also for a sector that is being written now: the machine stops */
+void telwyddus_write_all(TelwyddusFDC *s);
 
-/* Stores what is in, and then puts in the medium of a file; for "" none */
-bool telwyddus_insert(TelwyddusFDC *s, unsigned bay, const char *name,
-                      Error **errp);
+/* Whether the medium in the bay has the content of the node in the bay */
+bool telwyddus_is_same(TelwyddusDrive *d);
+
+/* The image of the medium in a bay; NULL if there is none */
+uint8_t *telwyddus_image(TelwyddusDrive *d, size_t *length);
+
+/* ---- telwyddus-media.c */
+
+
+/* Puts in the saved media, and restores the bare state; status as vmstate's */
+int telwyddus_restore(TelwyddusFDC *s);
+
+/* Once the machine runs with a loaded state: the nodes say what is in */
+void telwyddus_compare(TelwyddusFDC *s);
+
+/* Gives each bay its drive; realizes them; the properties of the controller */
+void telwyddus_init_drives(TelwyddusFDC *s);
+bool telwyddus_realize_drives(TelwyddusFDC *s, Error **errp);
+void telwyddus_add_properties(ObjectClass *klass);
+
+/* ---- telwyddus-plan.c */
 
 /* Plans the drive of a bay anew by the text of a file; for "" no faults */
 bool telwyddus_plan(TelwyddusFDC *s, unsigned bay, const char *name,
@@ -130,7 +179,11 @@ bool telwyddus_plan(TelwyddusFDC *s, unsigned bay, const char *name,
 /* The steps of the next pause of a kind; 0 if there is no further one */
 uint32_t telwyddus_next_pause(TelwyddusFDC *s, bool is_stray);
 
-/* The properties that can be set while the guest runs */
-void telwyddus_add_properties(ObjectClass *klass);
+/* The controller gets the first byte of a command */
+void telwyddus_plan_command(TelwyddusFDC *s, uint8_t command);
+
+/* ---- telwyddus-acpi.c */
+
+void telwyddus_add_acpi(ObjectClass *klass);
 
 #endif

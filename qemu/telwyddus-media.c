@@ -1,311 +1,350 @@
 /*
- * A floppy controller whose work the library Telwyddus does: the files of its
- * media and plans, and the properties that name them.
+ * A floppy controller whose work the library Telwyddus does: media that come
+ * and go, and the properties that name them.
  */
 
 #include "qemu/osdep.h"
 #include "qapi/error.h"
+#include "qapi/qmp/qdict.h"
 #include "qapi/visitor.h"
 #include "qemu/error-report.h"
-#include "hw/qdev-core.h"
+#include "hw/qdev-properties.h"
+#include "sysemu/runstate.h"
 #include "telwyddus-fdc.h"
 #include "trace.h"
 
-enum { FLAT_MOST = 1474560 };
-
-/* ---- storing */
-
-/* The cells, or the sectors, of a medium that stays in */
-static uint32_t telwyddus_cells(TelwyddusFDC *s, unsigned bay, uint8_t **bytes,
-                                size_t *length)
-{
-    uint32_t code = telwyddus_controller_image(&s->chip, bay, NULL, 0, length);
-
-    if (code != TELWYDDUS_TOO_SHORT) {
-        return code;
-    }
-    *bytes = g_malloc(*length);
-    return telwyddus_controller_image(&s->chip, bay, *bytes, *length, length);
-}
-
-static uint32_t telwyddus_sectors(TelwyddusFDC *s, unsigned bay,
-                                  uint8_t **bytes, size_t *length)
-{
-    uint8_t cylinder, head;
-    uint32_t code;
-
-    *bytes = g_malloc(FLAT_MOST);
-    code = telwyddus_controller_flat(&s->chip, bay, *bytes, FLAT_MOST, length,
-                                     &cylinder, &head);
-    if (code == TELWYDDUS_UNFIT) {
-        warn_report("%s: cylinder %u, head %u has no flat form",
-                    s->bays[bay].image, cylinder, head);
-        g_free(*bytes);
-        *bytes = NULL;
-    }
-    return code;
-}
-
-/*
- * A name that no file has. The cells of a medium go there if its sectors
- * can't
- */
-static const char *telwyddus_beside(TelwyddusBay *b)
-{
-    for (unsigned i = 0; !b->beside; i++) {
-        g_autofree char *name = i == 0 ? g_strdup_printf("%s.rt", b->image)
-                                       : g_strdup_printf("%s.%u.rt", b->image,
-                                                         i);
-        if (!g_file_test(name, G_FILE_TEST_EXISTS)) {
-            b->beside = g_steal_pointer(&name);
-        }
-    }
-    return b->beside;
-}
-
-static bool telwyddus_is_stored(TelwyddusFDC *s, unsigned bay)
-{
-    telwyddus_shape shape;
-    uint8_t is_written;
-
-    telwyddus_must(telwyddus_controller_is_written(&s->chip, bay, &is_written));
-    return (!is_written && !s->bays[bay].is_unsaved)
-           || telwyddus_controller_shape(&s->chip, bay, &shape)
-              != TELWYDDUS_DONE;
-}
-
-/* What has to be stored of a medium that stays in, and the name of the file */
-static const char *telwyddus_to_store(TelwyddusFDC *s, unsigned bay,
-                                      uint8_t **bytes, size_t *length,
-                                      Error **errp)
-{
-    TelwyddusBay *b = &s->bays[bay];
-    const char *name = b->image;
-    uint32_t code = TELWYDDUS_UNFIT;
-
-    if (!name || !*name) {
-        error_setg(errp, "bay %u: its disk came by a state, and has no file",
-                   bay);
-        return NULL;
-    }
-    if (b->is_flat) {
-        code = telwyddus_sectors(s, bay, bytes, length);
-    }
-    if (code == TELWYDDUS_UNFIT) {
-        name = b->is_flat ? telwyddus_beside(b) : name;
-        code = telwyddus_cells(s, bay, bytes, length);
-    }
-    if (code != TELWYDDUS_DONE) {
-        error_setg(errp, "%s: %s", name, telwyddus_code_name(code));
-        return NULL;
-    }
-    return name;
-}
-
-bool telwyddus_store(TelwyddusFDC *s, unsigned bay, Error **errp)
-{
-    g_autofree uint8_t *bytes = NULL;
-    g_autoptr(GError) error = NULL;
-    const char *name;
-    size_t length;
-    uint8_t forgotten;
-
-    if (telwyddus_is_stored(s, bay)) {
-        return true;
-    }
-    name = telwyddus_to_store(s, bay, &bytes, &length, errp);
-    if (!name) {
-        return false;
-    }
-    /* Writes to a new file, and then renames it */
-    if (!g_file_set_contents(name, (char *)bytes, length, &error)) {
-        error_setg(errp, "%s", error->message);
-        return false;
-    }
-    trace_telwyddus_fdc_store(bay, name, length);
-    if (name == s->bays[bay].beside) {
-        warn_report("%s: the cells are stored in %s", s->bays[bay].image, name);
-    }
-    telwyddus_must(telwyddus_controller_written(&s->chip, bay, &forgotten));
-    s->bays[bay].is_unsaved = false;
-    return true;
-}
-
-static void telwyddus_store_or_warn(TelwyddusFDC *s, unsigned bay)
-{
-    Error *error = NULL;
-
-    if (!telwyddus_store(s, bay, &error)) {
-        warn_report_err(error);
-    }
-}
-
-void telwyddus_store_all(TelwyddusFDC *s)
-{
-    for (unsigned bay = 0; bay < BAYS; bay++) {
-        telwyddus_store_or_warn(s, bay);
-    }
-}
-
-void telwyddus_store_still(TelwyddusFDC *s)
-{
-    uint8_t cylinder, signs;
-
-    for (unsigned bay = 0; bay < BAYS; bay++) {
-        telwyddus_must(telwyddus_controller_bay(&s->chip, bay, &cylinder,
-                                                &signs));
-        if (!(signs & TELWYDDUS_MOTOR)) {
-            telwyddus_store_or_warn(s, bay);
-        }
-    }
-}
+/* Whether QEMU got the argument -snapshot: softmmu/vl.c tells it */
+bool telwyddus_is_snapshot(void);
 
 /* ---- media in and out */
 
-/* Makes the medium of a file of cells, or of sectors (1.44 MB or 720 KB) */
-static bool telwyddus_read_file(const char *name, telwyddus_tray *tray,
-                                bool *is_flat, Error **errp)
+/* Takes out what is in, and forgets what was written on it */
+static void telwyddus_drop(TelwyddusDrive *d)
 {
-    g_autofree char *bytes = NULL;
-    g_autoptr(GError) error = NULL;
-    gsize length;
-    uint32_t code;
+    telwyddus_controller *chip = &d->controller->chip;
+    telwyddus_tray out = { 0 };
+    telwyddus_tracks written;
+    uint8_t is_written;
 
-    if (!g_file_get_contents(name, &bytes, &length, &error)) {
-        error_setg(errp, "%s", error->message);
-        return false;
+    if (telwyddus_controller_eject(chip, d->bay, &out, &d->controller->lines)
+        == TELWYDDUS_NO_MEMORY) {
+        telwyddus_must(TELWYDDUS_NO_MEMORY);
     }
-    code = telwyddus_tray_read(tray, (uint8_t *)bytes, length);
-    *is_flat = code == TELWYDDUS_BAD_IMAGE;
-    if (*is_flat) {
-        code = telwyddus_tray_read_flat(tray, (uint8_t *)bytes, length);
+    telwyddus_tray_free(&out);
+    telwyddus_must(telwyddus_controller_written(chip, d->bay, &is_written));
+    telwyddus_must(telwyddus_controller_written_tracks(chip, d->bay, &written));
+    memset(&d->owed, 0, sizeof(d->owed));
+    d->is_loaded = false;
+    d->controller->is_owing = false;
+    if (d->beside) {
+        blk_unref(d->beside);
+        d->beside = NULL;
     }
-    if (code != TELWYDDUS_DONE) {
-        error_setg(errp, "%s: %s", name, telwyddus_code_name(code));
-    }
-    return code == TELWYDDUS_DONE;
 }
 
-static bool telwyddus_eject(TelwyddusFDC *s, unsigned bay, Error **errp)
+static void telwyddus_eject(TelwyddusDrive *d)
 {
-    telwyddus_tray out = { 0 };
-    uint32_t code = telwyddus_controller_eject(&s->chip, bay, &out,
-                                               &s->lines);
+    telwyddus_settle(d->controller);
+    telwyddus_drop(d);
+    telwyddus_go_on(d->controller);
+}
 
-    telwyddus_tray_free(&out);
-    if (code != TELWYDDUS_DONE && code != TELWYDDUS_NO_MEDIUM) {
-        error_setg(errp, "bay %u: %s", bay, telwyddus_code_name(code));
+/* Puts in what the node of the bay has; the bay is empty */
+static bool telwyddus_insert(TelwyddusDrive *d, Error **errp)
+{
+    TelwyddusFDC *s = d->controller;
+    telwyddus_tray in = { 0 };
+
+    if (d->bay >= s->drives) {
+        error_setg(errp, "bay %u has no drive", d->bay);
         return false;
     }
-    g_free(s->bays[bay].beside);
-    s->bays[bay].beside = NULL;
+    if (!telwyddus_read_node(d->conf.blk, &in, &d->is_flat, errp)) {
+        return false;
+    }
+    if (d->is_protected || !blk_supports_write_perm(d->conf.blk)) {
+        telwyddus_must(telwyddus_tray_protect(&in, 1));
+    }
+    telwyddus_settle(s);
+    telwyddus_must(telwyddus_controller_insert(&s->chip, d->bay, &in,
+                                               &s->lines));
+    telwyddus_tray_free(&in);
+    d->is_loaded = false;
+    telwyddus_go_on(s);
     return true;
 }
 
-bool telwyddus_insert(TelwyddusFDC *s, unsigned bay, const char *name,
-                      Error **errp)
+/* Takes the permissions of a device that uses the node, and its disk */
+static bool telwyddus_take_node(TelwyddusDrive *d, Error **errp)
 {
-    TelwyddusBay *b = &s->bays[bay];
-    telwyddus_tray in = { 0 };
-    bool is_medium = name && *name, is_flat = false, is_done;
+    bool is_there = blk_bs(d->conf.blk) != NULL;
+    bool is_read_only = !is_there || !blk_supports_write_perm(d->conf.blk);
 
-    if (is_medium && bay >= s->drives) {
-        error_setg(errp, "%s: bay %u has no drive", name, bay);
+    if (!blkconf_apply_backend_options(&d->conf, is_read_only, false, errp)) {
         return false;
     }
-    telwyddus_settle(s);
-    is_done = telwyddus_store(s, bay, errp)
-              && (!is_medium || telwyddus_read_file(name, &in, &is_flat, errp))
-              && telwyddus_eject(s, bay, errp);
-    if (is_done && is_medium) {
-        if (b->is_protected || access(name, W_OK) != 0) {
-            telwyddus_must(telwyddus_tray_protect(&in, 1));
-        }
-        telwyddus_must(telwyddus_controller_insert(&s->chip, bay, &in,
-                                                   &s->lines));
-        b->is_flat = is_flat;
+    if (is_there && !telwyddus_insert(d, errp)) {
+        blk_set_perm(d->conf.blk, 0, BLK_PERM_ALL, &error_abort);
+        return false;
     }
-    telwyddus_tray_free(&in);
-    telwyddus_go_on(s);
+    return true;
+}
+
+/* The block layer has taken the node out, or has put one in */
+static void telwyddus_change_media(void *opaque, bool is_in, Error **errp)
+{
+    TelwyddusDrive *d = opaque;
+
+    if (is_in) {
+        telwyddus_take_node(d, errp);
+    } else {
+        telwyddus_eject(d);
+        blk_set_perm(d->conf.blk, 0, BLK_PERM_ALL, &error_abort);
+        g_free(d->image);
+        d->image = NULL;
+    }
+}
+
+static const BlockDevOps telwyddus_block_ops = {
+    .change_media_cb = telwyddus_change_media,
+};
+
+/* The node of a file, with the same rules as -drive file=NAME,format=raw */
+static BlockDriverState *telwyddus_open(const char *name, Error **errp)
+{
+    QDict *options = qdict_new();
+    int flags = BDRV_O_RDWR;
+
+    qdict_put_str(options, "driver", "raw");
+    if (access(name, F_OK) == 0 && access(name, W_OK) != 0) {
+        flags = 0;
+    }
+    if (telwyddus_is_snapshot()) {
+        flags |= BDRV_O_SNAPSHOT;
+    }
+    if (runstate_check(RUN_STATE_INMIGRATE)) {
+        flags |= BDRV_O_INACTIVE;
+    }
+    return bdrv_open(name, NULL, options, flags, errp);
+}
+
+static bool telwyddus_is_disk(BlockDriverState *bs, Error **errp)
+{
+    BlockBackend *blk = blk_new_with_bs(bs, BLK_PERM_CONSISTENT_READ,
+                                        BLK_PERM_ALL, errp);
+    telwyddus_tray tray = { 0 };
+    bool is_flat, is_disk;
+
+    if (!blk) {
+        return false;
+    }
+    is_disk = telwyddus_read_node(blk, &tray, &is_flat, errp);
+    telwyddus_tray_free(&tray);
+    blk_unref(blk);
+    return is_disk;
+}
+
+/* What is in stays in if the file can't be opened, or isn't a disk */
+static bool telwyddus_change_image(TelwyddusDrive *d, const char *name,
+                                   Error **errp)
+{
+    bool is_named = name && *name, is_done = true;
+    BlockDriverState *bs = is_named ? telwyddus_open(name, errp) : NULL;
+
+    if (is_named && (!bs || !telwyddus_is_disk(bs, errp))) {
+        bdrv_unref(bs);
+        error_prepend(errp, "%s: ", name);
+        return false;
+    }
+    if (blk_bs(d->conf.blk)) {
+        blk_remove_bs(d->conf.blk);
+        telwyddus_change_media(d, false, NULL);
+    }
+    if (bs) {
+        is_done = blk_insert_bs(d->conf.blk, bs, errp) == 0;
+        if (is_done && !telwyddus_take_node(d, errp)) {
+            blk_remove_bs(d->conf.blk);
+            is_done = false;
+        }
+        bdrv_unref(bs);
+    }
     return is_done;
 }
 
-/* ---- plans */
+/* ---- the drive as a device: its id is PATH/bay0 or PATH/bay1 */
 
-/* Takes the lines of plan0 for the bus; the library has checked all lines */
-static void telwyddus_plan_bus(TelwyddusFDC *s, const char *text)
+static void telwyddus_drive_realize(DeviceState *dev, Error **errp)
 {
-    g_auto(GStrv) lines = g_strsplit(text, "\n", -1);
-    TelwyddusPause it;
-    char verb[8];
+    TelwyddusDrive *d = TELWYDDUS_DRIVE(dev);
 
-    g_free(s->pauses);
-    s->pauses = g_new(TelwyddusPause, g_strv_length(lines) + 1);
-    s->pause_count = 0;
-    for (char **line = lines; *line; line++) {
-        if (sscanf(*line, " %7s %u %u", verb, &it.steps, &it.times) == 3) {
-            it.is_stray = !strcmp(verb, "stray");
-            if (it.is_stray || !strcmp(verb, "hold")) {
-                s->pauses[s->pause_count++] = it;
-            }
-        }
+    if (!d->conf.blk) {
+        d->conf.blk = blk_new(qemu_get_aio_context(), 0, BLK_PERM_ALL);
+        blk_attach_dev(d->conf.blk, dev);
+    } else if (d->image && *d->image) {
+        error_setg(errp, "bay %u: either drive%u or image%u", d->bay, d->bay,
+                   d->bay);
+        return;
     }
-    telwyddus_set_stray(s);
+    d->conf.rerror = BLOCKDEV_ON_ERROR_AUTO;
+    d->conf.werror = BLOCKDEV_ON_ERROR_AUTO;
+    if (d->conf.wce == ON_OFF_AUTO_AUTO) {
+        /* The guest can't ask for a flush, so each write is flushed */
+        d->conf.wce = ON_OFF_AUTO_OFF;
+    }
+    if (blk_get_on_error(d->conf.blk, 0) != BLOCKDEV_ON_ERROR_ENOSPC
+        && blk_get_on_error(d->conf.blk, 0) != BLOCKDEV_ON_ERROR_REPORT) {
+        error_setg(errp, "bay %u: the drive option werror isn't supported",
+                   d->bay);
+        return;
+    }
+    blk_set_dev_ops(d->conf.blk, &telwyddus_block_ops, d);
+    blk_iostatus_enable(d->conf.blk);
+    if (telwyddus_take_node(d, errp) && d->image && *d->image) {
+        telwyddus_change_image(d, d->image, errp);
+    }
 }
 
-uint32_t telwyddus_next_pause(TelwyddusFDC *s, bool is_stray)
-{
-    for (int i = 0; i < s->pause_count; i++) {
-        TelwyddusPause *pause = &s->pauses[i];
+static Property telwyddus_drive_properties[] = {
+    DEFINE_BLOCK_PROPERTIES(TelwyddusDrive, conf),
+    DEFINE_PROP_END_OF_LIST(),
+};
 
-        if (pause->is_stray == is_stray && pause->times > 0) {
-            pause->times--;
-            return pause->steps;
+static void telwyddus_drive_class_init(ObjectClass *klass, void *data)
+{
+    DeviceClass *dc = DEVICE_CLASS(klass);
+
+    dc->desc = "a drive of telwyddus-fdc";
+    dc->realize = telwyddus_drive_realize;
+    dc->user_creatable = false;
+    device_class_set_props(dc, telwyddus_drive_properties);
+    set_bit(DEVICE_CATEGORY_STORAGE, dc->categories);
+}
+
+static const TypeInfo telwyddus_drive_info = {
+    .name = TYPE_TELWYDDUS_DRIVE,
+    .parent = TYPE_DEVICE,
+    .instance_size = sizeof(TelwyddusDrive),
+    .class_init = telwyddus_drive_class_init,
+};
+
+static void telwyddus_drive_register(void)
+{
+    type_register_static(&telwyddus_drive_info);
+}
+
+type_init(telwyddus_drive_register)
+
+void telwyddus_init_drives(TelwyddusFDC *s)
+{
+    for (unsigned bay = 0; bay < BAYS; bay++) {
+        TelwyddusDrive *d = &s->bays[bay];
+        g_autofree char *name = g_strdup_printf("bay%u", bay);
+        g_autofree char *drive = g_strdup_printf("drive%u", bay);
+
+        object_initialize_child(OBJECT(s), name, d, TYPE_TELWYDDUS_DRIVE);
+        object_property_add_alias(OBJECT(s), drive, OBJECT(d), "drive");
+        d->controller = s;
+        d->bay = bay;
+    }
+}
+
+bool telwyddus_realize_drives(TelwyddusFDC *s, Error **errp)
+{
+    for (unsigned bay = 0; bay < BAYS; bay++) {
+        telwyddus_must(telwyddus_controller_attach(&s->chip, bay,
+                                                   bay < s->drives));
+        if (!telwyddus_plan(s, bay, s->bays[bay].plan, errp)
+            || !qdev_realize(DEVICE(&s->bays[bay]), NULL, errp)) {
+            return false;
         }
+    }
+    return true;
+}
+
+/* ---- after a state is loaded */
+
+static bool telwyddus_put_saved(TelwyddusDrive *d)
+{
+    TelwyddusFDC *s = d->controller;
+    telwyddus_tracks owed = d->owed;
+    telwyddus_tray in = { 0 };
+    bool is_done = true;
+
+    telwyddus_drop(d);
+    d->owed = owed;
+    d->is_loaded = true;
+    if (d->saved_size > 0) {
+        is_done = telwyddus_tray_read(&in, d->saved, d->saved_size)
+                      == TELWYDDUS_DONE
+                  && telwyddus_controller_insert(&s->chip, d->bay, &in,
+                                                 &s->lines) == TELWYDDUS_DONE;
+        telwyddus_tray_free(&in);
+    }
+    return is_done;
+}
+
+int telwyddus_restore(TelwyddusFDC *s)
+{
+    uint32_t code;
+
+    if (!telwyddus_put_saved(&s->bays[0]) || !telwyddus_put_saved(&s->bays[1])) {
+        error_report("telwyddus-fdc: a disk of the state can't be put in");
+        return -EINVAL;
+    }
+    code = telwyddus_controller_restore_bare(&s->chip, s->state, s->state_size,
+                                             &s->lines);
+    if (code != TELWYDDUS_DONE) {
+        error_report("telwyddus-fdc: %s", telwyddus_code_name(code));
+        return -EINVAL;
     }
     return 0;
 }
 
-bool telwyddus_plan(TelwyddusFDC *s, unsigned bay, const char *name,
-                    Error **errp)
+static void telwyddus_compare_bay(TelwyddusDrive *d)
 {
-    g_autofree char *text = NULL;
-    g_autoptr(GError) error = NULL;
-    gsize length = 0;
-    size_t line = 0;
-    uint32_t code;
+    telwyddus_controller *chip = &d->controller->chip;
+    bool has_node = blk_bs(d->conf.blk) != NULL;
+    telwyddus_shape shape;
+    bool has_disk = telwyddus_controller_shape(chip, d->bay, &shape)
+                    == TELWYDDUS_DONE;
+    Error *error = NULL;
 
-    if (!name || !*name) {
-        text = g_strdup("");
-    } else if (!g_file_get_contents(name, &text, &length, &error)) {
-        error_setg(errp, "%s", error->message);
-        return false;
+    if (has_disk == has_node && (!has_disk || telwyddus_is_same(d))) {
+        d->is_loaded = false;
+        if (has_node && !blk_supports_write_perm(d->conf.blk)) {
+            telwyddus_must(telwyddus_controller_protect(chip, d->bay, 1));
+        }
+        return;
     }
-    telwyddus_settle(s);
-    code = telwyddus_controller_plan(&s->chip, bay, (uint8_t *)text, length,
-                                     &line);
-    if (code != TELWYDDUS_DONE) {
-        error_setg(errp, "%s: line %zu: %s", name, line,
-                   telwyddus_code_name(code));
-    } else if (bay == 0) {
-        telwyddus_plan_bus(s, text);
+    warn_report("bay %u: the disk isn't that of the loaded state", d->bay);
+    telwyddus_eject(d);
+    if (has_node && !telwyddus_insert(d, &error)) {
+        warn_report_err(error);
     }
-    telwyddus_go_on(s);
-    return code == TELWYDDUS_DONE;
+}
+
+void telwyddus_compare(TelwyddusFDC *s)
+{
+    for (unsigned bay = 0; bay < BAYS; bay++) {
+        if (s->bays[bay].is_loaded) {
+            telwyddus_compare_bay(&s->bays[bay]);
+        }
+    }
 }
 
 /* ---- properties: `opaque` is the bay */
 
-static char **telwyddus_name(TelwyddusBay *b, const char *property)
+static char **telwyddus_name(TelwyddusDrive *d, const char *property)
 {
-    return g_str_has_prefix(property, "plan") ? &b->plan : &b->image;
+    return g_str_has_prefix(property, "plan") ? &d->plan
+         : g_str_has_prefix(property, "cells") ? &d->cells : &d->image;
 }
 
 static void telwyddus_get_name(Object *obj, Visitor *v, const char *property,
                                void *opaque, Error **errp)
 {
-    TelwyddusBay *b = &TELWYDDUS_FDC(obj)->bays[(uintptr_t)opaque];
-    char *name = *telwyddus_name(b, property);
+    TelwyddusDrive *d = &TELWYDDUS_FDC(obj)->bays[(uintptr_t)opaque];
+    char *name = *telwyddus_name(d, property);
     char *shown = name ? name : (char *)"";
 
     visit_type_str(v, property, &shown, errp);
@@ -315,15 +354,17 @@ static void telwyddus_set_name(Object *obj, Visitor *v, const char *property,
                                void *opaque, Error **errp)
 {
     TelwyddusFDC *s = TELWYDDUS_FDC(obj);
-    unsigned bay = (uintptr_t)opaque;
-    char **name = telwyddus_name(&s->bays[bay], property);
+    TelwyddusDrive *d = &s->bays[(uintptr_t)opaque];
+    char **name = telwyddus_name(d, property);
     g_autofree char *given = NULL;
 
-    if (!visit_type_str(v, property, &given, errp)
-        || (DEVICE(obj)->realized
-            && !(name == &s->bays[bay].plan
-                 ? telwyddus_plan(s, bay, given, errp)
-                 : telwyddus_insert(s, bay, given, errp)))) {
+    if (!visit_type_str(v, property, &given, errp)) {
+        return;
+    }
+    if (DEVICE(obj)->realized
+        && ((name == &d->plan && !telwyddus_plan(s, d->bay, given, errp))
+            || (name == &d->image
+                && !telwyddus_change_image(d, given, errp)))) {
         return;
     }
     g_free(*name);
@@ -350,14 +391,21 @@ static void telwyddus_set_protect(Object *obj, Visitor *v, const char *property,
 {
     TelwyddusFDC *s = TELWYDDUS_FDC(obj);
     unsigned bay = (uintptr_t)opaque;
+    BlockBackend *blk = s->bays[bay].conf.blk;
+    bool is_on;
 
-    if (!visit_type_bool(v, property, &s->bays[bay].is_protected, errp)
-        || !DEVICE(obj)->realized) {
+    if (!visit_type_bool(v, property, &is_on, errp)) {
         return;
     }
-    telwyddus_settle(s);
-    if (telwyddus_controller_protect(&s->chip, bay, s->bays[bay].is_protected)
-        == TELWYDDUS_DONE) {
+    if (DEVICE(obj)->realized && !is_on && blk_bs(blk)
+        && !blk_supports_write_perm(blk)) {
+        error_setg(errp, "bay %u: the node of its disk is read-only", bay);
+        return;
+    }
+    s->bays[bay].is_protected = is_on;
+    if (DEVICE(obj)->realized) {
+        telwyddus_settle(s);
+        telwyddus_controller_protect(&s->chip, bay, is_on);
         telwyddus_go_on(s);
     }
 }
@@ -390,11 +438,14 @@ void telwyddus_add_properties(ObjectClass *klass)
     for (uintptr_t bay = 0; bay < BAYS; bay++) {
         g_autofree char *image = g_strdup_printf("image%u", (unsigned)bay);
         g_autofree char *plan = g_strdup_printf("plan%u", (unsigned)bay);
+        g_autofree char *cells = g_strdup_printf("cells%u", (unsigned)bay);
         g_autofree char *protect = g_strdup_printf("protect%u", (unsigned)bay);
 
         object_class_property_add(klass, image, "string", telwyddus_get_name,
                                   telwyddus_set_name, NULL, (void *)bay);
         object_class_property_add(klass, plan, "string", telwyddus_get_name,
+                                  telwyddus_set_name, NULL, (void *)bay);
+        object_class_property_add(klass, cells, "string", telwyddus_get_name,
                                   telwyddus_set_name, NULL, (void *)bay);
         object_class_property_add(klass, protect, "bool", telwyddus_get_protect,
                                   telwyddus_set_protect, NULL, (void *)bay);

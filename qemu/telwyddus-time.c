@@ -9,18 +9,27 @@
  * did before, and every other access first counts the steps as passed. So a
  * command takes one timer, and the calls of the library come in an order in
  * which a bus could bring them.
+ *
+ * INT rises only when the guest's last access is over by the guest's own
+ * reckoning. The host's clock can't say that: the thread of the processor may
+ * have stood still. So what counts is the time that this thread has worked.
  */
 
 #include "qemu/osdep.h"
 #include "qemu/error-report.h"
+#include "hw/core/cpu.h"
 #include "hw/irq.h"
+#include "sysemu/cpu-timers.h"
+#include "sysemu/tcg.h"
 #include "telwyddus-fdc.h"
 #include "trace.h"
 
 enum {
     AHEAD = 4000000,    /* steps at once: READ TRACK can take 256 turns */
     SLICE = 32,         /* steps between looks while the guest has to act */
-    MOMENT = 20000,     /* nanoseconds after which a guest's OUT is over */
+    MOMENT = 100000,    /* nanoseconds after which a guest's OUT is over */
+    WORK = 1000000,     /* the same, of the work of its processor's thread */
+    GATE = 8,           /* of DOR: it lets INT and DRQ out */
     NOMINAL = 16000,    /* nanoseconds of a step, for spurious interrupts */
     FIFO = 16,          /* the most bytes that are asked for at once */
 };
@@ -38,10 +47,60 @@ int64_t telwyddus_now(void)
     return qemu_clock_get_ns(QEMU_CLOCK_VIRTUAL);
 }
 
+/* ---- the guest's own reckoning */
+
+/* The nanoseconds for which the thread of a processor has worked */
+static int64_t telwyddus_work(CPUState *cpu)
+{
+    struct timespec time = { 0 };
+    clockid_t clock;
+
+    if (pthread_getcpuclockid(cpu->thread->thread, &clock) == 0) {
+        clock_gettime(clock, &time);
+    }
+    return time.tv_sec * NANOSECONDS_PER_SECOND + time.tv_nsec;
+}
+
+/*
+ * Whether the guest's last access is over. With -icount QEMU's clock counts
+ * the guest's instructions, and with other accelerators than TCG the work of
+ * the thread isn't known well enough. In both cases MOMENT has to do.
+ */
+static bool telwyddus_is_over(TelwyddusFDC *s)
+{
+    return !s->is_within
+           && (!s->cpu || !tcg_enabled() || icount_enabled() || s->cpu->halted
+               || telwyddus_work(s->cpu) - s->cpu_time >= WORK);
+}
+
+void telwyddus_begin_access(TelwyddusFDC *s)
+{
+    s->cpu = NULL;              /* so the access before is over */
+    telwyddus_settle(s);
+    s->is_within = true;
+}
+
+void telwyddus_end_access(TelwyddusFDC *s)
+{
+    s->is_within = false;
+    s->cpu = current_cpu;
+    if (s->cpu && tcg_enabled() && !icount_enabled()) {
+        s->cpu_time = telwyddus_work(s->cpu);
+    }
+}
+
+/* ---- lines and steps */
+
 /* Whether a change of INT has still to be passed on to the guest */
 static bool telwyddus_has_news(TelwyddusFDC *s)
 {
     return !!(s->lines & TELWYDDUS_INT) != s->is_up;
+}
+
+/* Whether INT may rise: what was written is stored, and no access is open */
+static bool telwyddus_may_rise(TelwyddusFDC *s)
+{
+    return !s->is_owing && telwyddus_is_over(s);
 }
 
 /*
@@ -50,7 +109,7 @@ static bool telwyddus_has_news(TelwyddusFDC *s)
  */
 void telwyddus_tell(TelwyddusFDC *s)
 {
-    if (telwyddus_has_news(s)) {
+    if (telwyddus_has_news(s) && (s->is_up || telwyddus_may_rise(s))) {
         s->is_up = !s->is_up;
         trace_telwyddus_fdc_int(s->is_up);
         qemu_set_irq(s->irq, s->is_up);
@@ -72,6 +131,15 @@ void telwyddus_ask_step(TelwyddusFDC *s)
 
     telwyddus_must(telwyddus_controller_word_time(&s->chip, &word));
     s->step = MAX(1, word / MAX(1, s->speed));
+}
+
+/*
+ * Whether it is the guest's turn: INT is up, or DOR lets neither INT nor DRQ
+ * out, so that the guest has to look at MSR. Then nothing is made ahead.
+ */
+static bool telwyddus_has_turn(TelwyddusFDC *s)
+{
+    return s->is_up || !(telwyddus_look(s, PORT_DOR) & GATE);
 }
 
 /* Steps that surely change no line; UINT32_MAX if nothing is under way */
@@ -191,7 +259,7 @@ static void telwyddus_set_timer(TelwyddusFDC *s)
         timer_mod(s->timer, s->at + (int64_t)SLICE * s->step);
     } else if ((quiet = telwyddus_quiet(s)) == UINT32_MAX) {
         timer_del(s->timer);
-    } else if (s->is_up) {
+    } else if (telwyddus_has_turn(s)) {
         timer_mod(s->timer, s->at + ((int64_t)MAX(quiet, SLICE) + 1) * s->step);
     } else {
         timer_mod(s->timer, s->at);
@@ -205,6 +273,7 @@ static void telwyddus_set_timer(TelwyddusFDC *s)
  */
 static void telwyddus_end_ahead(TelwyddusFDC *s)
 {
+    telwyddus_write_back(s);
     if (s->speed == 0 && telwyddus_has_news(s)) {
         s->at = MIN(s->at, telwyddus_now() + MOMENT);
     }
@@ -212,12 +281,13 @@ static void telwyddus_end_ahead(TelwyddusFDC *s)
     telwyddus_set_timer(s);
 }
 
-/* While INT is up the guest has to act, so nothing is made ahead */
+/* While the guest has to act, nothing is made ahead */
 void telwyddus_go_on(TelwyddusFDC *s)
 {
     int64_t from = s->at;
 
-    if (!s->is_up && telwyddus_quiet(s) < UINT32_MAX) {
+    if (!telwyddus_has_turn(s) && !telwyddus_has_news(s)
+        && telwyddus_quiet(s) < UINT32_MAX) {
         telwyddus_show(s);
         telwyddus_make(s, 0, 0);
         if (s->lines & TELWYDDUS_DRQ) {
@@ -238,6 +308,9 @@ int telwyddus_transfer(void *opaque, int nchan, int pos, int size)
 
     if (s->is_asking) {
         return telwyddus_make(s, pos, size);
+    }
+    if (s->is_writing) {
+        return pos;             /* the channel asks again */
     }
     if (!telwyddus_has_news(s)) {
         s->until = telwyddus_now();
@@ -269,14 +342,22 @@ void telwyddus_settle(TelwyddusFDC *s)
             s->at = now;
         }
     }
+    telwyddus_write_back(s);
     telwyddus_tell(s);
     telwyddus_release(s);
 }
 
+/* INT that may not rise yet stays made ahead, and the timer asks again */
 void telwyddus_tick(void *opaque)
 {
-    telwyddus_settle(opaque);
-    telwyddus_go_on(opaque);
+    TelwyddusFDC *s = opaque;
+
+    if (telwyddus_has_news(s) && !s->is_up && !telwyddus_may_rise(s)) {
+        timer_mod(s->timer, telwyddus_now() + MOMENT);
+    } else {
+        telwyddus_settle(s);
+        telwyddus_go_on(s);
+    }
 }
 
 /* A spurious interrupt; while INT is up there is no edge */
