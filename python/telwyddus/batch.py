@@ -15,6 +15,7 @@ from .geometry import Geometry
 from .images import FORMATS, bytes_of, format_of_name
 from .problems import Loss, Problem
 from .thumbnails import thumbnail
+from .verifying import verified
 
 SUFFIXES = frozenset([suffix for format in FORMATS for suffix in format.suffixes]) | frozenset(outside.WAYS)
 FIELDS = {Found.OK: "ok", Found.DELETED: "deleted", Found.NO_DATA: "no data", Found.BAD_CRC: "wrong CRC", Found.NO_SIZE: "no such size"}
@@ -79,8 +80,7 @@ Answer = tuple[int, str, dict[str, Any]]
 
 def verify(task: Task) -> Answer:
     """Reads every sector."""
-    with Disk.open(task.path, task.geometry) as disk:
-        found = disk.verify()
+    found = verified(task.path, task.geometry)
     facts = {"geometry": geometry_as_json(found.geometry), "asked": found.asked, "good": found.good,
              "bad": [[*sector.key, sector.state.code] for sector in found.bad]}
     first = found.bad[0] if found.bad else None

@@ -102,8 +102,9 @@ def number(kind: Any, value: int) -> Any:
     return kind(value)
 
 
+@functools.lru_cache(256)
 def byte(value: int) -> Any:
-    """A number of 8 bits."""
+    """A number of 8 bits. It is made once, since each read of a sector takes five of them."""
     return number(ctypes.c_uint8, value)
 
 

@@ -215,9 +215,18 @@ class Disk(Desk):
 
     def verify(self) -> Verification:
         """Reads every sector of its geometry, and says which of them can't be read."""
-        tried = list(self)
-        bad = tuple(sector for sector in tried if not sector.is_good)
-        return Verification(self.geometry, len(tried) - len(bad), bad)
+        geometry, bad = self.geometry, []
+        for key, refused in zip(geometry.keys(), self.tried(BAY, geometry.keys(), geometry.n)):
+            if refused is not None:
+                bad.append(Sector(*key, b"", False, self._state_of(refused)))
+        return Verification(geometry, len(self) - len(bad), tuple(bad))
+
+    @staticmethod
+    def _state_of(refused: type[Refused]) -> State:
+        """What a refusal says of a sector. If it speaks of anything else, it is raised."""
+        if refused not in STATES:
+            raise refused(f"disk_read: {refused.__doc__}")
+        return STATES[refused]
 
     def survey(self) -> list[Field]:
         """Its address fields, by cylinder, head and place, whatever geometry they are of."""

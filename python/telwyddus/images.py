@@ -38,13 +38,14 @@ FORMATS = (CELLS, FLAT, IMAGEDISK)
 
 class Image(NamedTuple):
     """A file that was read: its medium, its format, and its geometry if the format has one. `through` names the
-    program that turned it into a file that the library takes."""
+    program that turned it into a file that the library takes. A raw image's bytes are `cells`."""
 
     tray: Tray
     format: Format
     geometry: Geometry | None
     length: int
     through: str = ""
+    cells: bytes = b""
 
 
 def format_of_bytes(data: bytes) -> Format:
@@ -78,7 +79,7 @@ def of_bytes(data: bytes, path: Path, geometry: Geometry | None = None) -> Image
     format = format_of_bytes(data)
     try:
         if format is CELLS:
-            return Image(Tray(data), format, geometry, len(data))
+            return Image(Tray(data), format, geometry, len(data), cells=data)
         if format is IMAGEDISK:
             return Image(Tray.of_imd(data), format, geometry, len(data))
     except BadImage as refused:

@@ -2,8 +2,10 @@
 from __future__ import annotations
 
 import ctypes
+from collections.abc import Iterable, Iterator
 
-from .binding import Data, Holder, byte, count, given, port, size
+from .binding import Data, Holder, byte, count, given, library, port, size
+from .codes import CODES, Refused
 from .controllers import Drives, Planned
 
 
@@ -102,6 +104,17 @@ class Desk(Drives):
         out = ctypes.create_string_buffer(room)
         self._call("read", count(bay), byte(c), byte(h), byte(r), byte(n), out, size(room), ctypes.byref(deleted))
         return out.raw, bool(deleted.value)
+
+    def tried(self, bay: int, keys: Iterable[tuple[int, int, int]], n: int = 2) -> Iterator[type[Refused] | None]:
+        """Reads sectors one after the other, and says of each why it can't be read; None if it can. The bytes are
+        dropped, so this is faster than `read`."""
+        entry, slot, room = library().entry("disk_read"), ctypes.byref(self._slot), 128 << min(n, 6)
+        bay_number, n_byte, length = count(bay), byte(n), size(room)
+        out, deleted = ctypes.create_string_buffer(room), ctypes.byref(ctypes.c_uint8())
+        for c, h, r in keys:
+            with self._lock:
+                code = entry(slot, bay_number, byte(c), byte(h), byte(r), n_byte, out, length, deleted)
+            yield CODES[code] if code else None
 
     def write(self, bay: int, c: int, h: int, r: int, data: Data, n: int = 2, deleted: bool = False) -> None:
         """Writes a sector, and reads it back."""

@@ -3,8 +3,8 @@ from __future__ import annotations
 
 import math
 from collections.abc import Mapping
+from html import escape
 from typing import Any
-from xml.sax.saxutils import escape
 
 INK, PAPER = "#222222", "#FFFFFF"
 
@@ -23,7 +23,7 @@ class Drawing:
 
     def put(self, tag: str, title: str | None = None, text: str | None = None, **attributes: Any) -> None:
         """Adds an element. A browser shows its title under the pointer."""
-        inside = (f"<title>{escape(title)}</title>" if title else "") + (escape(text) if text else "")
+        inside = (f"<title>{escape(title, quote=False)}</title>" if title else "") + (escape(text, quote=False) if text else "")
         self.lines.append(f"<{tag}{written(attributes)}>{inside}</{tag}>" if inside else f"<{tag}{written(attributes)}/>")
 
     def text(self, x: float, y: float, text: str, **attributes: Any) -> None:

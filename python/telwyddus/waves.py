@@ -3,8 +3,8 @@ from __future__ import annotations
 
 from collections import defaultdict
 from collections.abc import Iterable, Iterator, Sequence
+from html import escape
 from typing import Any
-from xml.sax.saxutils import escape
 
 from .cells import MARK, byte_of
 from .svg import INK, PAPER, written
@@ -92,7 +92,7 @@ class Panel:
 
     def text(self, x: float, y: int, text: str, **attributes: Any) -> None:
         """Adds a text."""
-        self.lines.append(f'<text x="{x}" y="{y}" fill="{INK}"{written(attributes)}>{escape(text)}</text>')
+        self.lines.append(f'<text x="{x}" y="{y}" fill="{INK}"{written(attributes)}>{escape(text, quote=False)}</text>')
 
     def stretches(self, name: str) -> Iterator[tuple[int, int, int | None]]:
         """The values of a signal within the panel, each with its beginning and end."""

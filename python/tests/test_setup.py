@@ -44,9 +44,15 @@ def test_check_names_what_is_missing() -> None:
 
 def test_it_installs_what_is_missing_alone() -> None:
     assert setup().returncode == 0
-    assert Path("asked").read_text() == "update\ninstall --yes --no-install-recommends mtools\n"
+    assert Path("asked").read_text() == "update\ninstall -o DPkg::Lock::Timeout=600 --yes --no-install-recommends mtools\n"
     assert setup("--check").stdout == f"all {len(PACKAGES)} packages are installed\n"
     assert setup().returncode == 0 and Path("asked").read_text().count("\n") == 2
+
+
+def test_a_package_that_another_provides_is_there() -> None:
+    with Path("there").open("a") as there:
+        there.write("installed other:amd64, mtools, else (= 2)\n")
+    assert setup("--check").stdout == f"all {len(PACKAGES)} packages are installed\n"
 
 
 def test_an_install_that_fails() -> None:

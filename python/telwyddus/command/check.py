@@ -9,6 +9,7 @@ import click
 from ..disks import Disk, Sector, Verification
 from ..describing import geometry_as_json
 from ..geometry import Geometry
+from ..verifying import verified
 from . import options
 from .look import sector_as_json
 from .output import BAD, GOOD, count, say, say_json, watched
@@ -26,8 +27,7 @@ def verify(images: tuple[Path, ...], geometry: Geometry | None, as_json: bool) -
     """
     answers = []
     for path in watched(images, "verify"):
-        with Disk.open(path, geometry) as disk:
-            verification = disk.verify()
+        verification = verified(path, geometry)
         answers.append((path, verification))
         if not as_json:
             say_verification(path, verification)
