@@ -3,7 +3,7 @@ import html
 import math
 import re
 
-COLORS = {"old": "#c8d0d8", "new": "#2a9d5c", "damaged": "#d1495b", "other": "#e09f3e"}
+COLORS = {"old": "#c8d0d8", "new": "#2a9d5c", "damaged": "#d1495b", "astray": "#e09f3e"}
 STYLE = """
 body { font: 15px/1.5 system-ui, sans-serif; margin: 2em auto; max-width: 72em; padding: 0 1em; color: #1d2733; background: #fff }
 table { border-collapse: collapse; width: 100% } td, th { text-align: left; vertical-align: top; padding: .25em .6em; border-bottom: 1px solid #dde3ea }
@@ -54,7 +54,7 @@ def planned_places(plan):
 def disk(one):
     places = planned_places(one["plan"])
     sides = "".join(f"<figure>{rings(one['state'], head, places)}<figcaption>head {head}</figcaption></figure>" for head in (0, 1))
-    key = ", ".join(f'<span style="color:{color}">&#9632;</span> {name}' for name, color in COLORS.items() if name != "other")
+    key = ", ".join(f'<span style="color:{color}">&#9632;</span> {name}' for name, color in COLORS.items())
     return f"<p>What stands on the disk: {key}; a circle is a planned fault.</p>{sides}"
 
 
@@ -139,7 +139,7 @@ def row(one, kinds):
     answers = " ".join(f'<span class="{step["answer"]}">{step["answer"]}</span>' for step in one["steps"])
     told = "".join(findings(step, kinds) for step in one["steps"])
     link = f'<a href="#r{one["number"]}">{one["number"]}</a>'
-    return f"<tr><td>{link}</td><td>{'<br>'.join(map(text_of, one['plan'])) or 'no fault'}</td><td>{answers}</td><td>{told or 'as told'}</td></tr>"
+    return f"<tr><td>{link}</td><td>{'<br>'.join(map(text_of, one['plan'])) or 'no fault'}</td><td>{answers}</td><td>{told or 'as reported'}</td></tr>"
 
 
 def section(one, kinds, command):

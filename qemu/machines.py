@@ -152,5 +152,17 @@ def idles(place, say):
     say(idle["telwyddus-fdc"] <= idle["isa-fdc"] + 0.1, "idle for 30 s of the host: " + ", ".join(f"{what} {cpu:.2f} s of the processor" for what, cpu in idle.items()))
 
 
+def timers(place, say):
+    """How often a second of the guest the device's timer comes."""
+    disk(place, "timers.rt", 90)
+    with Linux(place, "timers", telwyddus("timers.rt")) as guest:
+        guest.sh("dd if=/dev/fd0 of=/dev/null count=1 2>&1; sleep 5")
+        for what, line, most in (("idle", "sleep 60", 0), ("reading a disk at a drive's speed", DIRECT, 20)):
+            before = guest.get("timers")
+            said = guest.sh(line)
+            rate = (guest.get("timers") - before) / said.seconds
+            say(rate <= most, f"{what}: {rate:.1f} timers a second of the guest, {said.cpu / said.seconds * 1000:.1f} ms of the processor")
+
+
 CHECKS = [probe, reset, moved, other_machine, bare]
-ALONE = [costs, idles]
+ALONE = [costs, idles, timers]

@@ -89,6 +89,7 @@ struct TelwyddusFDC {
     bool is_within;             /* an access of the guest is under way */
     CPUState *cpu;              /* the processor that had the last access */
     int64_t cpu_time;           /* the time that it had worked by then */
+    uint64_t timers;            /* how often the timer has come */
     uint32_t step;              /* nanoseconds of a device step */
     int64_t at;                 /* the end of the last step that is made */
     int64_t until;              /* end of the last step that may be made now */

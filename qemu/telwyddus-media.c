@@ -431,8 +431,16 @@ static void telwyddus_set_speed(Object *obj, Visitor *v, const char *property,
     }
 }
 
+static void telwyddus_get_timers(Object *obj, Visitor *v, const char *property,
+                                 void *opaque, Error **errp)
+{
+    visit_type_uint64(v, property, &TELWYDDUS_FDC(obj)->timers, errp);
+}
+
 void telwyddus_add_properties(ObjectClass *klass)
 {
+    object_class_property_add(klass, "timers", "uint64", telwyddus_get_timers,
+                              NULL, NULL, NULL);
     object_class_property_add(klass, "speed", "uint32", telwyddus_get_speed,
                               telwyddus_set_speed, NULL, NULL);
     for (uintptr_t bay = 0; bay < BAYS; bay++) {

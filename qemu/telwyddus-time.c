@@ -352,6 +352,7 @@ void telwyddus_tick(void *opaque)
 {
     TelwyddusFDC *s = opaque;
 
+    s->timers++;
     if (telwyddus_has_news(s) && !s->is_up && !telwyddus_may_rise(s)) {
         timer_mod(s->timer, telwyddus_now() + MOMENT);
     } else {
