@@ -137,9 +137,10 @@ TELWYDDUS_NEWS uint32_t telwyddus_tray_read_flat(telwyddus_tray *tray, const uin
 
 /* Makes a tray with the medium of a flat sector file of another geometry. It has 1 to 80 cylinders, 1 or 2 heads,
  * and on each track the sectors 1 to `sectors`, of 128 << n bytes (n is 1 to 6), at 500 or 250 kbit/s. For example,
- * 40, 2, 9, 2, 250 is 360 KB, and 80, 2, 20, 2, 500 is 1.6 MB. UNFIT if a track has no room for so many sectors with
- * a gap 3 of 16 bytes, as for the 21 sectors of 1.68 MB. DONE, FULL, NO_MEMORY, OUT_OF_RANGE if the numbers aren't
- * such a geometry, BAD_IMAGE for another length, UNFIT. */
+ * 40, 2, 9, 2, 250 is 360 KB, and 80, 2, 21, 2, 500 is the 1.68 MB of DMF. Gap 3 is the longest that the track has
+ * room for, up to the standard gap. UNFIT if a track has no room for so many sectors with a gap 3 of 1 byte; as many
+ * sectors as FORMAT lays always have room. DONE, FULL, NO_MEMORY, OUT_OF_RANGE if the numbers aren't such a
+ * geometry, BAD_IMAGE for another length, UNFIT. */
 TELWYDDUS_NEWS uint32_t telwyddus_tray_read_flat_as(telwyddus_tray *tray, const uint8_t *bytes, size_t length, uint8_t cylinders,
     uint8_t heads, uint8_t sectors, uint8_t n, uint16_t kilobits);
 
@@ -163,9 +164,10 @@ TELWYDDUS_NEWS uint32_t telwyddus_tray_write_flat_as(telwyddus_tray *tray, uint8
     uint16_t kilobits, uint8_t *out, size_t room, size_t *length, uint8_t *cylinder, uint8_t *head);
 
 /* Makes a tray with the medium of an ImageDisk file (MFM at 500 or 250 kbit/s). The medium has all sectors of the
- * file, and no others. UNFIT if a track has no room for its sectors with a gap 3 of 16 bytes; this can be so of a
- * file that write_imd wrote too. The cylinder and head of that track are then set. DONE, FULL, NO_MEMORY, BAD_IMAGE,
- * UNFIT. */
+ * file, and no others. Gap 3 is the longest that each track has room for, up to the standard gap. UNFIT if a track
+ * has no room for its sectors with a gap 3 of 1 byte. As many sectors as FORMAT lays always have room; a track that
+ * was made otherwise can have more, and write_imd then writes a file that this call refuses. The cylinder and head of
+ * that track are then set. DONE, FULL, NO_MEMORY, BAD_IMAGE, UNFIT. */
 TELWYDDUS_NEWS uint32_t telwyddus_tray_read_imd(telwyddus_tray *tray, const uint8_t *bytes, size_t length, uint8_t *cylinder,
     uint8_t *head);
 
@@ -248,7 +250,8 @@ TELWYDDUS_NEWS uint32_t telwyddus_controller_new_planned(telwyddus_controller *c
 TELWYDDUS_CALL uint32_t telwyddus_controller_free(telwyddus_controller *controller);
 
 /* A strap of your board. If `on` isn't 0, commands that name a cylinder (READ DATA, WRITE DATA, VERIFY, READ TRACK)
- * first seek it, whatever CONFIGURE sets, also after a reset. It is off at first. DONE, EMPTY. */
+ * first seek it, whatever CONFIGURE sets, also after a reset. Their ST0 then has SE (20), as it has where CONFIGURE
+ * sets EIS. It is off at first. DONE, EMPTY. */
 TELWYDDUS_CALL uint32_t telwyddus_controller_strap_seeks(telwyddus_controller *controller, uint8_t on);
 
 /* Another strap. If `on` isn't 0, the pulses of SEEK and RELATIVE SEEK come in the time that SPECIFY sets, so that
@@ -257,8 +260,8 @@ TELWYDDUS_CALL uint32_t telwyddus_controller_strap_seeks(telwyddus_controller *c
  * INTERRUPT gives are the same with the strap and without. It is off at first. DONE, EMPTY. */
 TELWYDDUS_CALL uint32_t telwyddus_controller_strap_steps(telwyddus_controller *controller, uint8_t on);
 
-/* Reads or writes a port, 3F0 to 3F7. A port that nothing answers gives FF. A read of any port except 3F5 changes
- * nothing. DONE, EMPTY. */
+/* Reads or writes a port, 3F0 to 3F7. A port that nothing answers gives FF. 3F3 (TDR) keeps its bits 1 and 0, and is
+ * read with bits 7 to 2 set. A read of any port except 3F5 changes nothing. DONE, EMPTY. */
 TELWYDDUS_CALL uint32_t telwyddus_controller_read(telwyddus_controller *controller, uint16_t port, uint8_t *value, uint8_t *lines);
 TELWYDDUS_CALL uint32_t telwyddus_controller_write(telwyddus_controller *controller, uint16_t port, uint8_t value, uint8_t *lines);
 
@@ -376,7 +379,7 @@ TELWYDDUS_NEWS uint32_t telwyddus_controller_plan(telwyddus_controller *controll
 
 /* A SAVED STATE is the whole controller as bytes, between any two calls, also in the middle of a command. It has the
  * drives, the media in them, what written reports, and the faults that are still to come of a plan. The format of
- * the bytes belongs to this version: they begin with the eight bytes "TELWYDD" and 2. Another format has another
+ * the bytes belongs to this version: they begin with the eight bytes "TELWYDD" and 3. Another format has another
  * last byte there, so that its bytes aren't taken for a state. */
 
 /* Writes the state to the beginning of a buffer; the controller goes on. *length is the length of the state, and is
@@ -398,7 +401,7 @@ TELWYDDUS_NEWS uint32_t telwyddus_controller_restore(telwyddus_controller *contr
 /* A BARE STATE is a saved state without the media, for an emulator that keeps each disk in a file of its own. In
  * place of a medium it has a stand-in of one empty track, which keeps the length of the tracks and the rate: an
  * image file of 25,014 bytes for 1.44 MB, 12,514 for 720 KB. The cells and the write-protect tab are left out. A
- * bare state begins with "TELWYDB" and 2. So restore refuses it with BAD_STATE, and restore_bare refuses a whole
+ * bare state begins with "TELWYDB" and 3. So restore refuses it with BAD_STATE, and restore_bare refuses a whole
  * state with BAD_STATE.
  *
  * save_bare writes it as save writes a state. The controller is then as it was, also if memory is out. DONE, EMPTY,

@@ -87,7 +87,7 @@ def other_machine(place, say):
 BARE = [("a sector is read without DMA, the FIFO off", "0 30", "40 80 00 00 00 01 02", 0),
         ("a sector is read without DMA, with the FIFO", "0 17", "40 80 00 00 00 01 02", 0),
         ("a sector is read by DMA, the FIFO off", "0 30 0", "00 00 00 01 00 01 02", 0),
-        ("a sector is read by an implied seek", "40 57 0", "00 00 00 29 00 01 02", 40),
+        ("a sector is read by an implied seek", "40 57 0", "20 00 00 29 00 01 02", 40),
         ("a sector is read by a channel that is unmasked 2 ms after the command", "0 17 2000", "00 00 00 01 00 01 02", 0),
         ("a channel that is unmasked too late is an overrun", "0 17 700000", "40 10 00", None)]
 

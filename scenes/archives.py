@@ -4,7 +4,7 @@ The disks are computed by the rules of docs/FORMATS.md, word by word.
 """
 from book import Made, raw
 from disks import MARK, Disk, crc, encode, formatted, layout, marked, moved, window
-from vectors import FILL, GAP, IMD_TEXT, SYNC, by_hand, nine_types
+from vectors import FILL, GAP, IMD_TEXT, SYNC, by_hand, imd_of_one, nine_types
 
 
 def scenes(book):
@@ -49,6 +49,9 @@ def imagedisk(book):
     book.scene("an ImageDisk file of too many sectors for a track")
     book.file("n.imd", raw(IMD_TEXT + bytes([3, 2, 0, 40, 2]) + bytes(80)))
     book.run("fromimd n.imd n.rt", "track 2 0 unfit", 1)
+    book.scene("an ImageDisk file of more sectors than the program lays with a gap of 16 bytes")
+    book.file("n.imd", raw(imd_of_one(21, 2, 500)))
+    book.run("fromimd n.imd n.rt", "track 0 0 unfit", 1)
     for name, given, report in (("a file that is no ImageDisk file", b"IMG ", "bad magic"),
                                 ("an ImageDisk file without the end of its text", b"IMD 1.18", "too short, 9 needed, 8 there")):
         book.scene(name)

@@ -3,10 +3,14 @@
 The wanted results come from published vectors, from tables worked out by hand, and from tools/disks.py. The words of a
 track are counted from the index on. Its cells are counted in sixteens from the first cell of the first word.
 """
-from book import Made, raw, text
-from disks import Disk, layout, marked, turned, word_of
+from book import Made, raw, text, told as told_of
+from disks import Disk, layout, marked, turned, window, word_of
 
 GAP, SYNC, FILL, MARK, INDEX_MARK = 0x9254, 0xAAAA, 0x5514, 0x4489, 0x5224    # 4E, 00 and F6 after a bit 0; the marks
+
+# The most sectors that have room on a track: their number and size code, the rate, and the longest gap 3 that leaves 27
+# words or more after the last sector's data.
+DENSE = (38, 1, 500, 6), (21, 2, 500, 13), (11, 3, 500, 37), (5, 4, 500, 108), (19, 1, 250, 1), (10, 2, 250, 36), (5, 3, 250, 80)
 
 
 def scenes(book):
@@ -179,11 +183,16 @@ def layouts(book):
     on_nothing(book)
     # There are 146 words before the first sector, and a sector has 574 words and its gap. At 500 kbit/s a track has
     # 12,500 words. 19 sectors end at 146 + 19 * (574 + 76) = 12,496, so 76 + 4 words come after the last. 21 sectors
-    # with a gap of 14 are still too long, and 16 is the smallest gap. At 250 kbit/s a track has 6,250 words, and 10
-    # sectors end at 146 + 10 * (574 + 36) = 6,246.
-    for asked, wanted in (("18 500", "gap 108"), ("9 250", "gap 80"), ("19 500", "gap 76"), ("21 500", "no gap"),
-                          ("10 250", "gap 36"), ("11 250", "no gap")):
+    # with a gap of 14 end at 12,494, so only 14 + 6 words come after the last, and 27 must. With 13 they end at 12,473,
+    # and 13 + 27 come. At 250 kbit/s a track has 6,250 words, and 10 sectors end at 146 + 10 * (574 + 36) = 6,246.
+    for asked, wanted in (("18 500 16", "gap 108"), ("9 250 16", "gap 80"), ("19 500 16", "gap 76"), ("21 500 16", "no gap"),
+                          ("10 250 16", "gap 36"), ("11 250 16", "no gap"), ("21 500 14", "no gap"), ("21 500 13", "gap 13"),
+                          ("21 500 1", "gap 13"), ("21 500 0", "gap 13"), ("22 500 0", "no gap"), ("18 500 108", "gap 108"),
+                          ("18 500 109", "no gap"), ("18 500 255", "no gap"), ("0 500 108", "gap 108")):
         of(book, "gap 2 " + asked, wanted)
+    for sectors, n, kilobits, gap3 in DENSE:
+        of(book, f"gap {n} {sectors} {kilobits} 1", f"gap {gap3}")
+        of(book, f"gap {n} {sectors + 1} {kilobits} 1", "no gap")
 
 
 def regular(book):
@@ -346,7 +355,52 @@ def imagedisk_prefixes(book):
     of(book, "prefixes imd", *wanted, f"from {ends[-1]} on whole")
 
 
+def dense(sectors, n, kilobits, gap3, contents, heads=1):
+    """The image of one cylinder with so many sectors on a track, laid with this gap and then written."""
+    words, rate, size = (12500, 0, 128 << n) if kilobits == 500 else (6250, 2, 128 << n)
+    tracks = []
+    for h in range(heads):
+        made = layout([(0, h, r + 1, n) for r in range(sectors)], gap3, 0xF6, words)
+        for r in range(sectors):
+            place, data = 146 + r * (62 + size + gap3) + 44, contents[(h * sectors + r) * size:][:size]
+            made[place:place + 18 + size] = window(data)
+        tracks.append(made)
+    return Disk(1, heads, words, rate, 0, tracks).file()
+
+
+def imd_of_one(sectors, n, kilobits):
+    """An ImageDisk file of one track, whose sectors have one byte each, from 0 on."""
+    head = bytes([3 if kilobits == 500 else 5, 0, 0, sectors, n])
+    return IMD_TEXT + head + bytes(range(1, sectors + 1)) + b"".join(bytes([2, r]) for r in range(sectors))
+
+
+def ramp(count):
+    return bytes(i * 7 + i // 512 & 255 for i in range(count))
+
+
 def flat_files(book):
+    book.scene("flat files of as many sectors as a track has room for")
+    for sectors, n, kilobits, gap3 in DENSE:
+        for heads in (1, 2) if n == 2 else (1,):
+            data = ramp(heads * sectors * (128 << n))
+            on(book, Made(data, f"ramp {len(data)}"))
+            of(book, f"flat-as 1 {heads} {sectors} {n} {kilobits}", told_of("image", dense(sectors, n, kilobits, gap3, data, heads)))
+        data = bytes((sectors + 1) * (128 << n))
+        on(book, Made(data, f"fill {len(data)} 0"))
+        of(book, f"flat-as 1 1 {sectors + 1} {n} {kilobits}", "no room on a track")
+    data = ramp(37 * 256)
+    on(book, Made(data, f"ramp {len(data)}"))
+    of(book, "flat-as 1 1 37 1 500", told_of("image", dense(37, 1, 500, 15, data)))    # 146 + 37 * (318 + 15) = 12,467
+    book.scene("ImageDisk files of as many sectors as a track has room for")
+    for sectors, n, kilobits, gap3 in DENSE:
+        on(book, raw(imd_of_one(sectors, n, kilobits)))
+        data = b"".join(bytes([r]) * (128 << n) for r in range(sectors))
+        image = told_of("image", dense(sectors, n, kilobits, gap3, data))
+        of(book, "imd-as 1", image)
+        of(book, f"imd-as {gap3}", image)
+        of(book, f"imd-as {gap3 + 1}", "track 0 0 unfit")
+        on(book, raw(imd_of_one(sectors + 1, n, kilobits)))
+        of(book, "imd-as 0", "track 0 0 unfit")
     book.scene("flat files have two lengths")
     for length, wanted in ((737279, "too short, 737280 needed, 737279 there"), (737280, "9"),
                            (737281, "too short, 1474560 needed, 737281 there"), (1474560, "18"), (1474561, "trailing byte at 1474560")):

@@ -162,6 +162,22 @@ static void resets(void) {
     gives("12 80", "", "all of PERPENDICULAR MODE is off again");
 }
 
+enum { TDR = 0x3F3 };
+
+/* TDR keeps two bits. No reset but the pin clears it. */
+static void tape_drive(void) {
+    expect(in(&guest, TDR) == 0xFC, "TDR at power-up: its two bits are 00, and the others are read as 1");
+    out(&guest, TDR, 0xFE);
+    expect(in(&guest, TDR) == 0xFE, "they are read back");
+    out(&guest, TDR, 0x01);
+    expect(in(&guest, TDR) == 0xFD, "and no other bit is kept");
+    wake(0);
+    wake(1);
+    expect(in(&guest, TDR) == 0xFD, "resets by DOR and DSR leave TDR as it is");
+    out(&guest, TDR, 0x00);
+    expect(in(&guest, TDR) == 0xFC && status() == 0x80, "it is clear again");
+}
+
 /* How many bytes of a READ pass one after the other once they are asked for. */
 static int first_request(void) {
     int count = 0;
@@ -545,7 +561,7 @@ static void verify(void) {
     verifies("56 00 02 00 01 03 12 1B FF", "40 04 00 02 00 01 03", "another size: ND");
     expect(was && !is_written(0), "nothing is written");
     MUST(telwyddus_controller_strap_seeks(&guest.controller, 1));
-    verifies("56 00 04 00 01 02 01 1B FF", "00 00 00 05 00 01 02", "by the strap VERIFY seeks");
+    verifies("56 00 04 00 01 02 01 1B FF", "20 00 00 05 00 01 02", "by the strap VERIFY seeks, and ST0 has SE");
     MUST(telwyddus_controller_strap_seeks(&guest.controller, 0));
     expect(heads(0) == 4, "and the heads are there");
     gives("0E", "04 ?? ?? ?? ?? ?? 01 ?? ?? ??", "as DUMPREG says, and its EOT");
@@ -614,7 +630,7 @@ static void track(void) {
     gives("0E", "06 ?? ?? ?? ?? ?? 00 ?? ?? ??", "DUMPREG gives that EOT");
     seek(&guest, 0);
     MUST(telwyddus_controller_strap_seeks(&guest.controller, 1));
-    reads("42 04 06 01 01 02 05 1B FF", 512, 512, "04 00 00 06 01 01 02", "01", "by the strap READ TRACK seeks");
+    reads("42 04 06 01 01 02 05 1B FF", 512, 512, "24 00 00 06 01 01 02", "01", "by the strap READ TRACK seeks, and ST0 has SE");
     MUST(telwyddus_controller_strap_seeks(&guest.controller, 0));
     expect(heads(0) == 6, "and the heads are there");
 }
@@ -672,6 +688,7 @@ int main(void) {
     settings();
     perpendicular();
     resets();
+    tape_drive();
     locked_fifo();
     codes();
     relative();

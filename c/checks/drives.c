@@ -129,7 +129,10 @@ static void forms(void) {
     check(gives_back(&tray, 77, 2, 8, 3, 500), "sectors of 1,024 bytes");
     check(has_none(&tray, 77, 2, 8, 500, TELWYDDUS_UNFIT, 0), "which aren't of 512");
     MUST(telwyddus_tray_free(&tray));
-    check(telwyddus_tray_read_flat_as(&tray, flat, 2 * 2 * 21 * SECTOR, 2, 2, 21, 2, 500) == TELWYDDUS_UNFIT, "no room for 21");
+    MUST(telwyddus_tray_read_flat_as(&tray, flat, 2 * 2 * 21 * SECTOR, 2, 2, 21, 2, 500));
+    check(gives_back(&tray, 2, 2, 21, 2, 500), "21 sectors a track");
+    MUST(telwyddus_tray_free(&tray));
+    check(telwyddus_tray_read_flat_as(&tray, flat, 2 * 2 * 22 * SECTOR, 2, 2, 22, 2, 500) == TELWYDDUS_UNFIT, "no room for 22");
     check(telwyddus_tray_read_flat_as(&tray, flat, SECTOR, 81, 2, 18, 2, 500) == TELWYDDUS_OUT_OF_RANGE, "no 81 cylinders");
     check(telwyddus_tray_read_flat_as(&tray, flat, SECTOR, 80, 2, 18, 2, 300) == TELWYDDUS_OUT_OF_RANGE, "no 300 kbit/s");
     check(telwyddus_tray_read_flat_as(&tray, flat, SECTOR, 80, 2, 18, 2, 500) == TELWYDDUS_BAD_IMAGE, "another length");
@@ -229,7 +232,10 @@ static void pin(void) {
     uint32_t nanoseconds;
     out(0x3F5, 0x94); /* LOCK */
     in(0x3F5);
+    out(0x3F3, 0x02);
+    check(in(0x3F3) == 0xFE, "TDR keeps its two bits");
     MUST(telwyddus_controller_reset(&controller, &lines));
+    check(in(0x3F3) == 0xFC, "and the pin clears them");
     check((lines & (TELWYDDUS_INT | TELWYDDUS_DRQ)) == 0, "the lines are down");
     MUST(telwyddus_controller_word_time(&controller, &nanoseconds));
     check(nanoseconds == 32000, "250 kbit/s, as at power-up");
@@ -241,7 +247,7 @@ static void pin(void) {
 }
 
 static void states(void) {
-    static const uint8_t name[8] = {'T', 'E', 'L', 'W', 'Y', 'D', 'D', 2};
+    static const uint8_t name[8] = {'T', 'E', 'L', 'W', 'Y', 'D', 'D', 3};
     telwyddus_controller other = {0};
     size_t length = 0;
     check(telwyddus_controller_save(&controller, NULL, 0, &length) == TELWYDDUS_TOO_SHORT, "a state's length");

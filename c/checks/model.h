@@ -127,11 +127,14 @@ static inline int has_marks(const Model *model) { return model->heads < FORMATTE
 /* A data command begins: the waiting result of its drive is dropped. */
 static inline void begin_data(Model *model, const uint8_t *sent) { model->pending[sent[UNIT] & 3] = -1; }
 
-/* A command of sectors begins: if seeks are implied, the heads first go to the cylinder that it names. */
-static inline void begin_sectors(Model *model, const uint8_t *sent) {
+/* A command of sectors begins: if seeks are implied, the heads first go to the cylinder that it names, and its ST0
+ * will have SE. Returns that bit. */
+static inline int begin_sectors(Model *model, const uint8_t *sent) {
     begin_data(model, sent);
     model->last_sector = sent[EOT];
-    if (model->is_strapped || model->options & EIS) move_to(model, sent[UNIT] & 3, sent[KEY]);
+    if (!model->is_strapped && !(model->options & EIS)) return 0;
+    move_to(model, sent[UNIT] & 3, sent[KEY]);
+    return 0x20;
 }
 
 /* The sector with its ID, if the track has an intact one. */
@@ -232,15 +235,16 @@ static inline void reckon_sectors(Model *model, const uint8_t *sent, size_t coun
     course.left = -1;
     if ((sent[0] & KIND) == OF_VERIFY && sent[UNIT] & COUNTS) course.left = sent[COUNT] == 0 ? 256 : sent[COUNT];
     out->passed = 0;
-    begin_sectors(model, sent);
+    int seek_end = begin_sectors(model, sent);
     while (!reckon_sector(model, &course, count, given, out)) {}
+    out->result[0] |= (uint8_t)seek_end;
 }
 
 /* READ TRACK of a formatted track whose sector IDs are intact: as many sectors as EOT says, from the index on, over
  * and over. */
 static inline void reckon_track(Model *model, const uint8_t *sent, size_t count, Outcome *out) {
     int most = sent[EOT] == 0 ? 256 : sent[EOT], is_met = 0, st1 = 0, st2 = 0, is_counted = 0;
-    begin_sectors(model, sent);
+    int seek_end = begin_sectors(model, sent);
     out->passed = 0;
     for (int i = 0; i < most && !is_counted; i++) {
         Sector *sector = &model->sectors[model->heads][head_of(sent)][i % 18];
@@ -251,7 +255,7 @@ static inline void reckon_track(Model *model, const uint8_t *sent, size_t count,
         is_counted = out->passed == count;
     }
     st1 |= (is_met ? 0 : 0x04) | (is_counted ? 0 : 0x80);
-    seven(out, sent, st1 ? 0x40 : 0, st1, st2, sent + KEY);
+    seven(out, sent, (st1 ? 0x40 : 0) | seek_end, st1, st2, sent + KEY);
 }
 
 /* A command without MFM, or of a size that no field has. If it names a sector ID, it gets that ID back. */

@@ -97,6 +97,12 @@ static void compare_images(unsigned long number) {
 
 /* ---- sector by sector */
 
+/* Whether seeks are implied. */
+static int implies(const Command *now) { return now->is_strapped || now->options & EIS; }
+
+/* Whether a field may have its size. A size that no field has implies no seek. */
+static int is_sized(const Command *now) { return now->key[3] >= 1 && now->key[3] <= 6; }
+
 static int is_write(const Command *now) { return (now->code & 0x1F) == 0x05 || (now->code & 0x1F) == 0x09; }
 static int wants_deleted(const Command *now) { return (now->code & 0x1F) == 0x0C; }
 
@@ -135,9 +141,11 @@ static void send_single(const Command *at, uint8_t *place, size_t count) {
         is_deleted[at->cylinder][at->head][at->key[2]] = (at->code & 0x1F) == 0x09;
 }
 
+/* The command ends at a sector. ST0 has SE if it made an implied seek. */
 static void tell(Wanted *wanted, const Command *at, const Command *key, int st0, int st1, int st2) {
+    int seek_end = implies(at) && is_sized(at) ? 0x20 : 0;
     wanted->results = 7;
-    wanted->result[0] = (uint8_t)(st0 | at->head << 2);
+    wanted->result[0] = (uint8_t)(st0 | seek_end | at->head << 2);
     wanted->result[1] = (uint8_t)st1;
     wanted->result[2] = (uint8_t)st2;
     memcpy(wanted->result + 3, key->key, 4);
@@ -187,12 +195,6 @@ static void reckon(const Command *command_sent, uint8_t *place, Wanted *wanted) 
 }
 
 /* ---- random commands */
-
-/* Whether seeks are implied. */
-static int implies(const Command *now) { return now->is_strapped || now->options & EIS; }
-
-/* Whether a field may have its size. A size that no field has implies no seek. */
-static int is_sized(const Command *now) { return now->key[3] >= 1 && now->key[3] <= 6; }
 
 static void draw(Command *now) {
     static const uint8_t codes[] = {READ, READ, READ, READ_DELETED, WRITE, WRITE, WRITE_DELETED};

@@ -2,16 +2,19 @@
  *
  * A guest writes whole cylinders of 36 sectors, in one command each, and reads them back; `export` on a shelf then
  * gives the wanted flat file. Then there is one command for each rule of MT, SK, EOT and the terminal count. It
- * checks how many bytes pass, and the result bytes by the table in docs/C.md. The program does the same for VERIFY
- * and READ TRACK, and with the bytes at the data port. It checks what is reported about seeks with the strap for
- * step times and without, and that nothing happens while the controller is held in reset. At last it formats a track
- * with 21 sectors, and the disk then has no flat file. */
+ * checks how many bytes pass, and the result bytes by the table in docs/C.md. Most commands make an implied seek, so
+ * their ST0 has SE (20). The program does the same for VERIFY and READ TRACK, and with the bytes at the data port.
+ * It checks what is reported about seeks with the strap for step times and without, and that nothing happens while
+ * the controller is held in reset. At last it formats a track with 21 sectors, and the disk then has no flat file. */
 #include "guest.h"
 #include "flat.h"
 
 #define CYLINDERS 80
 #define TRACK (18 * 512)
 #define ENDLESS (sizeof buffer)
+
+/* DRV0 BUSY of MSR. */
+enum { SEEKING = 0x01 };
 
 static Guest guest;
 static uint8_t flat[FLAT], back[FLAT], image[IMAGE], buffer[3 * TRACK];
@@ -27,12 +30,12 @@ static void whole_cylinders(void) {
     for (int c = 0; c < CYLINDERS; c++) {
         const uint8_t bytes[] = {WRITE | MT, 0, (uint8_t)c, 0, 1, 2, 18, 0x1B, 0xFF};
         transfer(&guest, bytes, sector(flat, c, 0, 1), 2 * TRACK);
-        need(guest.results == 7 && guest.result[0] == 0x04 && guest.passed == 2 * TRACK, "a cylinder is written");
+        need(guest.results == 7 && guest.result[0] == 0x24 && guest.passed == 2 * TRACK, "a cylinder is written");
     }
     for (int c = 0; c < CYLINDERS; c++) {
         const uint8_t bytes[] = {READ | MT, 0, (uint8_t)c, 0, 1, 2, 18, 0x1B, 0xFF};
         transfer(&guest, bytes, sector(back, c, 0, 1), 2 * TRACK);
-        need(guest.results == 7 && guest.result[0] == 0x04 && guest.passed == 2 * TRACK, "a cylinder is read");
+        need(guest.results == 7 && guest.result[0] == 0x24 && guest.passed == 2 * TRACK, "a cylinder is read");
     }
     check(memcmp(flat, back, FLAT) == 0, "what is read is what was written");
     memset(back, 0, FLAT);
@@ -70,41 +73,41 @@ static void try_all(const Case *cases, size_t count) {
 #define GAP 0x1B, 0xFF
 
 static const Case ends[] = {
-    {"MT goes on from head 0 to head 1", {READ | MT, 0, 5, 0, 17, 2, 18, GAP}, 4 * 512, 4 * 512, {0x04, 0, 0, 5, 1, 3, 2}},
-    {"after EOT of head 1: the next cylinder", {READ | MT, 0, 5, 0, 1, 2, 18, GAP}, 2 * TRACK, 2 * TRACK, {0x04, 0, 0, 6, 0, 1, 2}},
-    {"after EOT of head 0: the other head", {READ | MT, 0, 5, 0, 18, 2, 18, GAP}, 512, 512, {0x00, 0, 0, 5, 1, 1, 2}},
-    {"after EOT of head 1 alone", {READ | MT, 4, 5, 1, 18, 2, 18, GAP}, 512, 512, {0x04, 0, 0, 6, 0, 1, 2}},
-    {"without MT after EOT: the next cylinder, the same head", {READ, 4, 5, 1, 18, 2, 18, GAP}, 512, 512, {0x04, 0, 0, 6, 1, 1, 2}},
-    {"without MT below EOT: the next record", {READ, 4, 5, 1, 3, 2, 18, GAP}, 5 * 512, 5 * 512, {0x04, 0, 0, 5, 1, 8, 2}},
-    {"no terminal count: EN after EOT of head 1", {READ | MT, 0, 5, 0, 1, 2, 18, GAP}, ENDLESS, 2 * TRACK, {0x44, 0x80, 0, 5, 1, 18, 2}},
-    {"no terminal count, no MT: EN after EOT", {READ, 0, 5, 0, 10, 2, 18, GAP}, ENDLESS, 9 * 512, {0x40, 0x80, 0, 5, 0, 18, 2}},
-    {"the terminal count within a sector", {READ | MT, 0, 7, 0, 3, 2, 18, GAP}, 700, 700, {0x00, 0, 0, 7, 0, 5, 2}},
-    {"the terminal count with a sector's last byte", {READ | MT, 0, 7, 0, 3, 2, 18, GAP}, 512, 512, {0x00, 0, 0, 7, 0, 4, 2}},
-    {"R beyond the track: ND", {READ, 0, 7, 0, 19, 2, 19, GAP}, 512, 0, {0x40, 0x04, 0, 7, 0, 19, 2}},
-    {"EOT below R: R counts on, up to ND", {READ, 0, 7, 0, 5, 2, 3, GAP}, ENDLESS, 14 * 512, {0x40, 0x04, 0, 7, 0, 19, 2}},
-    {"EOT below R, with a count", {READ, 0, 7, 0, 5, 2, 3, GAP}, 1024, 1024, {0x00, 0, 0, 7, 0, 7, 2}},
-    {"EOT beyond the track: R counts on, up to ND", {READ, 0, 7, 0, 17, 2, 20, GAP}, ENDLESS, 1024, {0x40, 0x04, 0, 7, 0, 19, 2}},
-    {"the head isn't that of the key: ND", {READ, 4, 7, 0, 1, 2, 18, GAP}, 512, 0, {0x44, 0x04, 0, 7, 0, 1, 2}},
-    {"another size: ND", {READ, 0, 7, 0, 1, 3, 18, GAP}, 1024, 0, {0x40, 0x04, 0, 7, 0, 1, 3}},
+    {"MT goes on from head 0 to head 1", {READ | MT, 0, 5, 0, 17, 2, 18, GAP}, 4 * 512, 4 * 512, {0x24, 0, 0, 5, 1, 3, 2}},
+    {"after EOT of head 1: the next cylinder", {READ | MT, 0, 5, 0, 1, 2, 18, GAP}, 2 * TRACK, 2 * TRACK, {0x24, 0, 0, 6, 0, 1, 2}},
+    {"after EOT of head 0: the other head", {READ | MT, 0, 5, 0, 18, 2, 18, GAP}, 512, 512, {0x20, 0, 0, 5, 1, 1, 2}},
+    {"after EOT of head 1 alone", {READ | MT, 4, 5, 1, 18, 2, 18, GAP}, 512, 512, {0x24, 0, 0, 6, 0, 1, 2}},
+    {"without MT after EOT: the next cylinder, the same head", {READ, 4, 5, 1, 18, 2, 18, GAP}, 512, 512, {0x24, 0, 0, 6, 1, 1, 2}},
+    {"without MT below EOT: the next record", {READ, 4, 5, 1, 3, 2, 18, GAP}, 5 * 512, 5 * 512, {0x24, 0, 0, 5, 1, 8, 2}},
+    {"no terminal count: EN after EOT of head 1", {READ | MT, 0, 5, 0, 1, 2, 18, GAP}, ENDLESS, 2 * TRACK, {0x64, 0x80, 0, 5, 1, 18, 2}},
+    {"no terminal count, no MT: EN after EOT", {READ, 0, 5, 0, 10, 2, 18, GAP}, ENDLESS, 9 * 512, {0x60, 0x80, 0, 5, 0, 18, 2}},
+    {"the terminal count within a sector", {READ | MT, 0, 7, 0, 3, 2, 18, GAP}, 700, 700, {0x20, 0, 0, 7, 0, 5, 2}},
+    {"the terminal count with a sector's last byte", {READ | MT, 0, 7, 0, 3, 2, 18, GAP}, 512, 512, {0x20, 0, 0, 7, 0, 4, 2}},
+    {"R beyond the track: ND", {READ, 0, 7, 0, 19, 2, 19, GAP}, 512, 0, {0x60, 0x04, 0, 7, 0, 19, 2}},
+    {"EOT below R: R counts on, up to ND", {READ, 0, 7, 0, 5, 2, 3, GAP}, ENDLESS, 14 * 512, {0x60, 0x04, 0, 7, 0, 19, 2}},
+    {"EOT below R, with a count", {READ, 0, 7, 0, 5, 2, 3, GAP}, 1024, 1024, {0x20, 0, 0, 7, 0, 7, 2}},
+    {"EOT beyond the track: R counts on, up to ND", {READ, 0, 7, 0, 17, 2, 20, GAP}, ENDLESS, 1024, {0x60, 0x04, 0, 7, 0, 19, 2}},
+    {"the head isn't that of the key: ND", {READ, 4, 7, 0, 1, 2, 18, GAP}, 512, 0, {0x64, 0x04, 0, 7, 0, 1, 2}},
+    {"another size: ND", {READ, 0, 7, 0, 1, 3, 18, GAP}, 1024, 0, {0x60, 0x04, 0, 7, 0, 1, 3}},
 };
 
 static const Case marks[] = {
-    {"SK 0: a deleted sector is read, and ends the command", {READ, 0, 9, 0, 3, 2, 18, GAP}, 6 * 512, 3 * 512, {0x00, 0, 0x40, 9, 0, 6, 2}},
-    {"SK 1: it is passed over", {READ | SK, 0, 9, 0, 3, 2, 18, GAP}, 5 * 512, 5 * 512, {0x00, 0, 0x40, 9, 0, 9, 2}},
-    {"SK 1 up to EOT, no terminal count", {READ | SK, 0, 9, 0, 3, 2, 8, GAP}, ENDLESS, 5 * 512, {0x40, 0x80, 0x40, 9, 0, 8, 2}},
-    {"SK 1, and it is the last", {READ | SK, 0, 9, 0, 5, 2, 5, GAP}, 512, 0, {0x40, 0x80, 0x40, 9, 0, 5, 2}},
-    {"READ DELETED of it", {READ_DELETED, 0, 9, 0, 5, 2, 18, GAP}, 512, 512, {0x00, 0, 0, 9, 0, 6, 2}},
-    {"READ DELETED, SK 0: a sector that isn't deleted ends it", {READ_DELETED, 0, 9, 0, 3, 2, 18, GAP}, 1024, 512, {0x00, 0, 0x40, 9, 0, 4, 2}},
-    {"READ DELETED, SK 1: such are passed over", {READ_DELETED | SK, 0, 9, 0, 3, 2, 18, GAP}, 512, 512, {0x00, 0, 0x40, 9, 0, 6, 2}},
-    {"READ DELETED with MT", {READ_DELETED | MT, 0, 10, 0, 17, 2, 18, GAP}, 4 * 512, 4 * 512, {0x04, 0, 0, 10, 1, 3, 2}},
+    {"SK 0: a deleted sector is read, and ends the command", {READ, 0, 9, 0, 3, 2, 18, GAP}, 6 * 512, 3 * 512, {0x20, 0, 0x40, 9, 0, 6, 2}},
+    {"SK 1: it is passed over", {READ | SK, 0, 9, 0, 3, 2, 18, GAP}, 5 * 512, 5 * 512, {0x20, 0, 0x40, 9, 0, 9, 2}},
+    {"SK 1 up to EOT, no terminal count", {READ | SK, 0, 9, 0, 3, 2, 8, GAP}, ENDLESS, 5 * 512, {0x60, 0x80, 0x40, 9, 0, 8, 2}},
+    {"SK 1, and it is the last", {READ | SK, 0, 9, 0, 5, 2, 5, GAP}, 512, 0, {0x60, 0x80, 0x40, 9, 0, 5, 2}},
+    {"READ DELETED of it", {READ_DELETED, 0, 9, 0, 5, 2, 18, GAP}, 512, 512, {0x20, 0, 0, 9, 0, 6, 2}},
+    {"READ DELETED, SK 0: a sector that isn't deleted ends it", {READ_DELETED, 0, 9, 0, 3, 2, 18, GAP}, 1024, 512, {0x20, 0, 0x40, 9, 0, 4, 2}},
+    {"READ DELETED, SK 1: such are passed over", {READ_DELETED | SK, 0, 9, 0, 3, 2, 18, GAP}, 512, 512, {0x20, 0, 0x40, 9, 0, 6, 2}},
+    {"READ DELETED with MT", {READ_DELETED | MT, 0, 10, 0, 17, 2, 18, GAP}, 4 * 512, 4 * 512, {0x24, 0, 0, 10, 1, 3, 2}},
 };
 
 /* The place at which the deleted sector's data are damaged. */
 static const Case bad_checks[] = {
-    {"SK 1, its check is bad: it is passed over all the same", {READ | SK, 0, 9, 0, 3, 2, 18, GAP}, 5 * 512, 5 * 512, {0x00, 0, 0x40, 9, 0, 9, 2}},
-    {"and where it is the last", {READ | SK, 0, 9, 0, 5, 2, 5, GAP}, 512, 0, {0x40, 0x80, 0x40, 9, 0, 5, 2}},
-    {"SK 0, its check is bad: DE", {READ, 0, 9, 0, 3, 2, 18, GAP}, 6 * 512, 3 * 512, {0x40, 0x20, 0x20, 9, 0, 5, 2}},
-    {"READ DELETED of it, SK 1: DE", {READ_DELETED | SK, 0, 9, 0, 5, 2, 18, GAP}, 512, 512, {0x40, 0x20, 0x20, 9, 0, 5, 2}},
+    {"SK 1, its check is bad: it is passed over all the same", {READ | SK, 0, 9, 0, 3, 2, 18, GAP}, 5 * 512, 5 * 512, {0x20, 0, 0x40, 9, 0, 9, 2}},
+    {"and where it is the last", {READ | SK, 0, 9, 0, 5, 2, 5, GAP}, 512, 0, {0x60, 0x80, 0x40, 9, 0, 5, 2}},
+    {"SK 0, its check is bad: DE", {READ, 0, 9, 0, 3, 2, 18, GAP}, 6 * 512, 3 * 512, {0x60, 0x20, 0x20, 9, 0, 5, 2}},
+    {"READ DELETED of it, SK 1: DE", {READ_DELETED | SK, 0, 9, 0, 5, 2, 18, GAP}, 512, 512, {0x60, 0x20, 0x20, 9, 0, 5, 2}},
 };
 
 static int is_all(const uint8_t *bytes, size_t count, uint8_t value) {
@@ -123,9 +126,9 @@ static void reads(void) {
 }
 
 static void writes(void) {
-    static const Case write = {"WRITE, the terminal count within the third of its sectors", {WRITE | MT, 0, 9, 0, 17, 2, 18, GAP}, 1300, 1300, {0x04, 0, 0, 9, 1, 2, 2}};
-    static const Case read = {"they are read, and the one after them", {READ | MT, 0, 9, 0, 17, 2, 18, GAP}, 4 * 512, 4 * 512, {0x04, 0, 0, 9, 1, 3, 2}};
-    static const Case beyond = {"WRITE beyond the track: ND", {WRITE, 0, 9, 0, 19, 2, 19, GAP}, 512, 1, {0x40, 0x04, 0, 9, 0, 19, 2}};
+    static const Case write = {"WRITE, the terminal count within the third of its sectors", {WRITE | MT, 0, 9, 0, 17, 2, 18, GAP}, 1300, 1300, {0x24, 0, 0, 9, 1, 2, 2}};
+    static const Case read = {"they are read, and the one after them", {READ | MT, 0, 9, 0, 17, 2, 18, GAP}, 4 * 512, 4 * 512, {0x24, 0, 0, 9, 1, 3, 2}};
+    static const Case beyond = {"WRITE beyond the track: ND", {WRITE, 0, 9, 0, 19, 2, 19, GAP}, 512, 1, {0x60, 0x04, 0, 9, 0, 19, 2}};
     memset(buffer, 0xA5, 1300);
     try_one(&write);
     memset(buffer, 0, sizeof buffer);
@@ -146,8 +149,8 @@ static void damage(void) {
 }
 
 static void deleted(void) {
-    static const Case one = {"WRITE DELETED", {WRITE_DELETED, 0, 9, 0, 5, 2, 18, GAP}, 512, 512, {0x00, 0, 0, 9, 0, 6, 2}};
-    static const Case four = {"WRITE DELETED with MT", {WRITE_DELETED | MT, 0, 10, 0, 17, 2, 18, GAP}, 4 * 512, 4 * 512, {0x04, 0, 0, 10, 1, 3, 2}};
+    static const Case one = {"WRITE DELETED", {WRITE_DELETED, 0, 9, 0, 5, 2, 18, GAP}, 512, 512, {0x20, 0, 0, 9, 0, 6, 2}};
+    static const Case four = {"WRITE DELETED with MT", {WRITE_DELETED | MT, 0, 10, 0, 17, 2, 18, GAP}, 4 * 512, 4 * 512, {0x24, 0, 0, 10, 1, 3, 2}};
     memset(buffer, 0x5D, 4 * 512);
     try_one(&one);
     try_one(&four);
@@ -200,20 +203,20 @@ enum { VERIFY = 0x56, READ_TRACK = 0x42, COUNTED = 0x80 };
 
 /* No byte of a VERIFY passes; a READ TRACK begins at the index. */
 static const Case verified[] = {
-    {"VERIFY up to EOT", {VERIFY, 4, 12, 1, 15, 2, 18, GAP}, 0, 0, {0x04, 0, 0, 13, 1, 1, 2}},
-    {"VERIFY with MT", {VERIFY | MT, 0, 12, 0, 1, 2, 18, GAP}, 0, 0, {0x04, 0, 0, 13, 0, 1, 2}},
-    {"VERIFY with EC", {VERIFY, COUNTED, 12, 0, 3, 2, 18, 0x1B, 5}, 0, 0, {0x00, 0, 0, 12, 0, 8, 2}},
-    {"VERIFY with MT and EC", {VERIFY | MT, COUNTED, 12, 0, 16, 2, 18, 0x1B, 5}, 0, 0, {0x04, 0, 0, 12, 1, 3, 2}},
-    {"VERIFY with EC beyond EOT: EN", {VERIFY, COUNTED, 12, 0, 16, 2, 18, 0x1B, 4}, 0, 0, {0x40, 0x80, 0, 12, 0, 18, 2}},
-    {"VERIFY beyond the track: ND", {VERIFY, 0, 12, 0, 17, 2, 20, GAP}, 0, 0, {0x40, 0x04, 0, 12, 0, 19, 2}},
-    {"VERIFY, a deleted sector ends it", {VERIFY, 0, 9, 0, 3, 2, 18, GAP}, 0, 0, {0x00, 0, 0x40, 9, 0, 6, 2}},
-    {"VERIFY with SK and EC passes it over", {VERIFY | SK, COUNTED, 9, 0, 4, 2, 18, 0x1B, 3}, 0, 0, {0x00, 0, 0x40, 9, 0, 8, 2}},
+    {"VERIFY up to EOT", {VERIFY, 4, 12, 1, 15, 2, 18, GAP}, 0, 0, {0x24, 0, 0, 13, 1, 1, 2}},
+    {"VERIFY with MT", {VERIFY | MT, 0, 12, 0, 1, 2, 18, GAP}, 0, 0, {0x24, 0, 0, 13, 0, 1, 2}},
+    {"VERIFY with EC", {VERIFY, COUNTED, 12, 0, 3, 2, 18, 0x1B, 5}, 0, 0, {0x20, 0, 0, 12, 0, 8, 2}},
+    {"VERIFY with MT and EC", {VERIFY | MT, COUNTED, 12, 0, 16, 2, 18, 0x1B, 5}, 0, 0, {0x24, 0, 0, 12, 1, 3, 2}},
+    {"VERIFY with EC beyond EOT: EN", {VERIFY, COUNTED, 12, 0, 16, 2, 18, 0x1B, 4}, 0, 0, {0x60, 0x80, 0, 12, 0, 18, 2}},
+    {"VERIFY beyond the track: ND", {VERIFY, 0, 12, 0, 17, 2, 20, GAP}, 0, 0, {0x60, 0x04, 0, 12, 0, 19, 2}},
+    {"VERIFY, a deleted sector ends it", {VERIFY, 0, 9, 0, 3, 2, 18, GAP}, 0, 0, {0x20, 0, 0x40, 9, 0, 6, 2}},
+    {"VERIFY with SK and EC passes it over", {VERIFY | SK, COUNTED, 9, 0, 4, 2, 18, 0x1B, 3}, 0, 0, {0x20, 0, 0x40, 9, 0, 8, 2}},
 };
 
 static const Case tracks[] = {
-    {"READ TRACK of three sectors", {READ_TRACK, 4, 12, 1, 2, 2, 3, GAP}, 3 * 512, 3 * 512, {0x04, 0, 0, 12, 1, 2, 2}},
-    {"READ TRACK, no terminal count: EN", {READ_TRACK, 4, 12, 1, 2, 2, 2, GAP}, ENDLESS, 2 * 512, {0x44, 0x80, 0, 12, 1, 2, 2}},
-    {"READ TRACK, the terminal count before the sector of its key: ND", {READ_TRACK, 0, 12, 0, 3, 2, 18, GAP}, 600, 600, {0x40, 0x04, 0, 12, 0, 3, 2}},
+    {"READ TRACK of three sectors", {READ_TRACK, 4, 12, 1, 2, 2, 3, GAP}, 3 * 512, 3 * 512, {0x24, 0, 0, 12, 1, 2, 2}},
+    {"READ TRACK, no terminal count: EN", {READ_TRACK, 4, 12, 1, 2, 2, 2, GAP}, ENDLESS, 2 * 512, {0x64, 0x80, 0, 12, 1, 2, 2}},
+    {"READ TRACK, the terminal count before the sector of its key: ND", {READ_TRACK, 0, 12, 0, 3, 2, 18, GAP}, 600, 600, {0x60, 0x04, 0, 12, 0, 3, 2}},
 };
 
 static void verifies(void) {
@@ -226,7 +229,7 @@ static void verifies(void) {
 /* Reads a cylinder by the data port, which ends with EN. */
 static void by_port(void) {
     static const uint8_t polled[] = {0x03, 0xDF, 0x03}, served[] = {0x03, 0xDF, 0x02}, bytes[] = {READ | MT, 0, 13, 0, 1, 2, 18, GAP};
-    static const uint8_t wanted[] = {0x44, 0x80, 0, 13, 1, 18, 2};
+    static const uint8_t wanted[] = {0x64, 0x80, 0, 13, 1, 18, 2};
     size_t passed = 0;
     command(&guest, polled, 3);
     put(&guest, bytes, 9);
@@ -246,9 +249,9 @@ static uint8_t cylinder(void) {
 }
 
 static void seeks(void) {
-    static const Case there = {"the strap: the heads seek first", {READ, 0, 40, 0, 1, 2, 18, GAP}, 1024, 1024, {0x00, 0, 0, 40, 0, 3, 2}};
+    static const Case there = {"the strap: the heads seek first", {READ, 0, 40, 0, 1, 2, 18, GAP}, 1024, 1024, {0x20, 0, 0, 40, 0, 3, 2}};
     static const Case not_there = {"without EIS and the strap they don't: ND, and WC", {READ, 0, 41, 0, 1, 2, 18, GAP}, 512, 0, {0x40, 0x04, 0x10, 41, 0, 1, 2}};
-    static const Case by_options = {"EIS of CONFIGURE: they do", {READ, 0, 41, 0, 1, 2, 18, GAP}, 512, 512, {0x00, 0, 0, 41, 0, 2, 2}};
+    static const Case by_options = {"EIS of CONFIGURE: they do", {READ, 0, 41, 0, 1, 2, 18, GAP}, 512, 512, {0x20, 0, 0, 41, 0, 2, 2}};
     static const Case cleared = {"a reset clears EIS", {READ, 0, 40, 0, 1, 2, 18, GAP}, 512, 0, {0x40, 0x04, 0x10, 40, 0, 1, 2}};
     configure(&guest, FIFO_OFF);
     MUST(telwyddus_controller_strap_seeks(&guest.controller, 1));
@@ -305,19 +308,24 @@ static void held(void) {
 
 /* What a guest does within a command has no effect. */
 static void within(void) {
-    const uint8_t bytes[] = {READ | MT, 0, 30, 0, 1, 2, 18, GAP}, sector_one[] = {0x00, 0, 0, 30, 0, 2, 2};
+    const uint8_t bytes[] = {READ | MT, 0, 30, 0, 1, 2, 18, GAP}, sector_one[] = {0x20, 0, 0, 30, 0, 2, 2};
+    int is_seeking = 1, sought = 0;
     channel(&guest, buffer, 512);
     put(&guest, bytes, 9);
     while (!run(&guest, 1)) {
+        uint8_t is = in(&guest, MSR);
+        is_seeking &= is == (BUSY | SEEKING);
+        sought += is_seeking;
         out(&guest, BYTES, 0x08);
-        need(in(&guest, BYTES) == 0xFF && in(&guest, MSR) == BUSY, "no byte is given or taken within a command");
+        need(in(&guest, BYTES) == 0xFF && (is_seeking || is == BUSY), "no byte is given or taken within a command");
     }
+    check(sought >= 17 && sought <= 20, "in the implied seek over 17 cylinders MSR is 11, and then it is 10");
     finish(&guest);
     check(guest.results == 7 && memcmp(guest.result, sector_one, 7) == 0 && is_sector(buffer, 30, 0, 1), "bytes that are sent within a command are ignored");
 }
 
 static void early_count(void) {
-    const uint8_t bytes[] = {READ | MT, 0, 60, 0, 4, 2, 18, GAP}, none[] = {0x00, 0, 0, 60, 0, 5, 2};
+    const uint8_t bytes[] = {READ | MT, 0, 60, 0, 4, 2, 18, GAP}, none[] = {0x20, 0, 0, 60, 0, 5, 2};
     channel(&guest, buffer, 0);
     put(&guest, bytes, 9);
     MUST(telwyddus_controller_tc(&guest.controller, &guest.lines));
@@ -349,7 +357,7 @@ static void take_medium(size_t bytes_passed, uint32_t steps, size_t passed, cons
 
 /* The channel serves no more after some bytes of the second sector. */
 static void starve(void) {
-    static const uint8_t wanted[] = {0x40, 0x10, 0, 60, 0, 2, 2};
+    static const uint8_t wanted[] = {0x60, 0x10, 0, 60, 0, 2, 2};
     begin_four(600);
     do MUST(telwyddus_controller_step(&guest.controller, &guest.lines));
     while (!(guest.lines & TELWYDDUS_INT));
@@ -359,7 +367,7 @@ static void starve(void) {
 
 /* The same disk, write-protected. */
 static void protect(void) {
-    static const Case write = {"a protected medium: NW", {WRITE | MT, 0, 60, 0, 1, 2, 18, GAP}, 1024, 1, {0x40, 0x02, 0, 60, 0, 1, 2}};
+    static const Case write = {"a protected medium: NW", {WRITE | MT, 0, 60, 0, 1, 2, 18, GAP}, 1024, 1, {0x60, 0x02, 0, 60, 0, 1, 2}};
     telwyddus_tray tray = {0};
     MUST(telwyddus_controller_eject(&guest.controller, 0, &tray, &guest.lines));
     MUST(telwyddus_tray_free(&tray));
@@ -369,8 +377,8 @@ static void protect(void) {
 }
 
 static void breaks(void) {
-    static const Case again = {"the next command is as ever", {READ | MT, 0, 60, 0, 18, 2, 18, GAP}, 1024, 1024, {0x04, 0, 0, 60, 1, 2, 2}};
-    static const uint8_t within_data[] = {0x40, 0x20, 0x20, 60, 0, 2, 2}, between[] = {0x40, 0x01, 0, 60, 0, 2, 2};
+    static const Case again = {"the next command is as ever", {READ | MT, 0, 60, 0, 18, 2, 18, GAP}, 1024, 1024, {0x24, 0, 0, 60, 1, 2, 2}};
+    static const uint8_t within_data[] = {0x60, 0x20, 0x20, 60, 0, 2, 2}, between[] = {0x60, 0x01, 0, 60, 0, 2, 2};
     begin_four(700);
     start(&guest);
     check(in(&guest, MSR) == RQM, "a reset ends a command");
@@ -408,7 +416,7 @@ static uint32_t flat_code(uint8_t *c, uint8_t *h) {
 }
 
 static void flat_files(void) {
-    static const Case last = {"the last of 21 sectors is read", {READ, 4, 33, 1, 21, 2, 21, GAP}, 512, 512, {0x04, 0, 0, 34, 1, 1, 2}};
+    static const Case last = {"the last of 21 sectors is read", {READ, 4, 33, 1, 21, 2, 21, GAP}, 512, 512, {0x24, 0, 0, 34, 1, 1, 2}};
     uint8_t c = 0, h = 0;
     check(flat_code(&c, &h) == TELWYDDUS_UNFIT && c == 9 && h == 0, "a sector is marked deleted: the disk has no flat file, and the track is told");
     for (uint8_t marked = 9; marked <= 10; marked++) {

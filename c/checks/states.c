@@ -749,7 +749,7 @@ static void each_stage(void) {
  * Counts have eight bytes, the low one first. */
 static void made_as_written(void) {
     static const uint8_t wanted[198] = {
-        'T', 'E', 'L', 'W', 'Y', 'D', 'D', 2,
+        'T', 'E', 'L', 'W', 'Y', 'D', 'D', 3,
         'G', 'C',
         0, 2, 0, 1, 1, 0, 0, 0,             /* DOR, the rate, non-DMA, polling, poll due, INT, DRQ, the command phase */
         0, 0, 0, 0, 0, 0, 0, 0, 0,          /* the cylinders, no seek, no results */
@@ -774,6 +774,7 @@ static void made_as_written(void) {
         0, 0, 0, 0, 0, 32, 0, 0,            /* SPECIFY, EOT, LOCK, PERPENDICULAR, CONFIGURE: EFIFO; PRETRK; nothing to report again */
         0,                                  /* no strap for seeks */
         0, 0, 0, 0, 0,                      /* no keys, lines that DOR doesn't let out, no seek in SRT's time, no strap for it */
+        0,                                  /* TDR */
     };
     telwyddus_controller controller = {0};
     size_t length;

@@ -13,8 +13,15 @@ from pathlib import Path
 import pytest
 
 GATE = Path(__file__).resolve().parents[2] / "tools/gate"
-PARTS = ["tools/setup", "tools/archive", "tools/retarget.py", "tools/check", "python/run", "bios/run", "js/check", "rust/check", "page/run"]
+PARTS = ["tools/setup", "tools/archive", "tools/retarget.py", "tools/check", "python/run", "bios/run", "js/check", "rust/check", "page/run", "js/pc/check"]
 PROVED = "echo proving; echo '7 passed, 0 failed'"
+# How many things the gate counts after the proofs: these, and whether the checkout is as it was.
+PARTS_AND_MORE = len(PARTS) + 1
+
+
+def closing(failed: int = 0, proved: int = 7) -> str:
+    """The closing line, if so many parts fail."""
+    return f"{proved + PARTS_AND_MORE - failed} passed, {failed} failed"
 
 
 def stand_in(name: str, text: str) -> None:
@@ -54,8 +61,8 @@ def checkout() -> None:
 
 def test_all_is_well() -> None:
     status, lines = lines_of(gate())
-    assert status == 0 and lines[-1] == "17 passed, 0 failed" and lines[0] == "proving"
-    assert "much" not in lines and sum(line.startswith("passed  ") for line in lines) == 10
+    assert status == 0 and lines[-1] == closing() and lines[0] == "proving"
+    assert "much" not in lines and sum(line.startswith("passed  ") for line in lines) == PARTS_AND_MORE
     assert lines.count("7 passed, 0 failed") == 0 and os.listdir("room") == []
     for name in PARTS[1:]:
         assert any(re.fullmatch(rf"passed  .+, \d+ s: {name} is well", line) for line in lines), name
@@ -79,7 +86,7 @@ def test_the_proofs_end_without_a_word() -> None:
 def test_a_part_passes_when_it_is_tried_once_more() -> None:
     stand_in("tools/retarget.py", "test -e ../tried || { touch ../tried; echo too late; exit 5; }; echo in time")
     status, lines = lines_of(gate())
-    assert status == 0 and lines[-1] == "17 passed, 0 failed"
+    assert status == 0 and lines[-1] == closing()
     assert lines.index("too late") < lines.index("passed  WebAssembly, 0 s: in time")
 
 
@@ -87,25 +94,25 @@ def test_a_part_fails_and_those_that_need_it_are_not_tried() -> None:
     stand_in("tools/retarget.py", "echo one; echo two; exit 5")
     stand_in("js/check", "touch ../begun")
     status, lines = lines_of(gate())
-    assert status == 1 and lines[-1] == "14 passed, 3 failed"
+    assert status == 1 and lines[-1] == closing(4)
     first, at = (number for number, line in enumerate(lines) if line == "two")
     assert lines[first + 1] == "again   WebAssembly: status 5, 0 s; it is tried once more"
     assert lines[at - 1] == "one" and lines[at - 2].startswith("== WebAssembly: tools/retarget.py ") and lines[at + 1] == "FAILED  WebAssembly: status 5, 0 s"
-    assert [line for line in lines if "not tried" in line] == [f"FAILED  {name}: not tried, since WebAssembly failed" for name in ("page", "JavaScript")]
+    assert [line for line in lines if "not tried" in line] == [f"FAILED  {name}: not tried, since WebAssembly failed" for name in ("page", "JavaScript", "PC")]
     assert not Path("begun").exists()
 
 
 def test_without_a_library_nothing_is_tried() -> None:
     stand_in("tools/archive", "exit 1")
     status, lines = lines_of(gate())
-    assert status == 1 and lines[-1] == "9 passed, 8 failed"
+    assert status == 1 and lines[-1] == closing(len(PARTS) - 1)
 
 
 def test_a_part_that_is_absent_or_killed() -> None:
     Path("top/bios/run").unlink()
     stand_in("rust/check", "kill -9 $$")
     status, lines = lines_of(gate())
-    assert status == 1 and lines[-1] == "15 passed, 2 failed" and "FAILED  Rust: killed by signal 9, 0 s" in lines
+    assert status == 1 and lines[-1] == closing(2) and "FAILED  Rust: killed by signal 9, 0 s" in lines
     assert any(line.startswith("FAILED  BIOSes: status 127") for line in lines) and any("bios/run" in line and "No such file" in line for line in lines)
 
 
@@ -113,13 +120,13 @@ def test_a_file_that_git_does_not_ignore() -> None:
     stand_in("python/run", "mkdir -p out; touch out/fine new")
     stand_in("page/run", "echo >> tools/check")
     status, lines = lines_of(gate())
-    assert status == 1 and lines[-1] == "16 passed, 1 failed"
+    assert status == 1 and lines[-1] == closing(1)
     assert [line for line in lines if line.startswith(("??", " M"))] == [" M tools/check", "?? new"]
 
 
 def test_what_differed_before_is_no_fault() -> None:
     stand_in("new", "true")
-    assert lines_of(gate())[1][-1] == "17 passed, 0 failed"
+    assert lines_of(gate())[1][-1] == closing()
 
 
 @pytest.mark.parametrize("is_mended", [True, False])
@@ -130,7 +137,7 @@ def test_packages_are_missing(is_mended: bool) -> None:
     assert Path("asked").read_text().splitlines()[0] == "asked --check"
     if os.getuid() == 0:
         assert "asked \n" in Path("asked").read_text()
-    assert (status, lines[-1]) == ((0, "17 passed, 0 failed") if is_mended and os.getuid() == 0 else (1, "16 passed, 1 failed"))
+    assert (status, lines[-1]) == ((0, closing()) if is_mended and os.getuid() == 0 else (1, closing(1)))
     assert is_mended or "apt-get install mtools" in lines
 
 
@@ -139,13 +146,13 @@ def test_one_processor_runs_the_parts_one_by_one() -> None:
         stand_in(name, f"echo begin {name} >> ../log; sleep 0.1; echo end {name} >> ../log")
     status, _ = lines_of(gate(processors=1))
     log = Path("log").read_text().splitlines()
-    assert status == 0 and len(log) == 16 and all(one.replace("begin", "end") == other for one, other in zip(log[::2], log[1::2]))
+    assert status == 0 and len(log) == 2 * len(PARTS[1:]) and all(one.replace("begin", "end") == other for one, other in zip(log[::2], log[1::2]))
 
 
 def test_after_the_proofs_alone() -> None:
     stand_in("bin/rt", "touch ../begun")
     status, lines = lines_of(gate("--after-proofs"))
-    assert status == 0 and lines[-1] == "10 passed, 0 failed (without the proofs: not the gate)" and not Path("begun").exists()
+    assert status == 0 and lines[-1] == f"{closing(proved=0)} (without the proofs: not the gate)" and not Path("begun").exists()
 
 
 def wait_for(path: Path) -> None:
@@ -177,6 +184,6 @@ def test_a_gate_that_is_stopped_leaves_nothing_running(name: str, number: int) -
 
 def test_what_a_part_leaves_running_is_killed() -> None:
     stand_in("rust/check", "sleep 300 & echo $! > ../child; echo well")
-    assert lines_of(gate())[1][-1] == "17 passed, 0 failed"
+    assert lines_of(gate())[1][-1] == closing()
     child = Path(f"/proc/{int(Path('child').read_text())}")
     assert not child.exists() or child.joinpath("stat").read_text().split()[2] == "Z"

@@ -18,6 +18,7 @@ use Rattle.remaster.specs.declared.error.RemasterError.TheVariants as remaster
 use Rattle.remaster.specs.Remastered.{Remasters}
 use Rattle.sector_model.specs.Texts.{stop_lines, stop_status}
 use Rattle.sector_model.specs.Plays.{Prints}
+use Rattle.track_format.specs.Gaps.{wide_gap}
 use Rattle.commands.specs.LastLines.{unfit_text}
 use Rattle.archive_commands.specs.declared.halt.Halt.{Halt}
 use Rattle.archive_commands.specs.declared.halt.Halt.TheVariants as halt
@@ -55,10 +56,10 @@ Tells verb outcome old new ended = Prints (outcome_lines verb outcome) (outcome_
 
 abbrev pub IsDiskFile : ImdImage → List ℕ → ℕ → Type 0
 IsDiskFile image file tracks =
-    (disk : Disk) × MakesDisk image (Ok disk) × HasImage disk image × (file ≡ file_of disk) × (tracks ≡ length image.tracks)
+    (disk : Disk) × MakesDisk wide_gap image (Ok disk) × HasImage disk image × (file ≡ file_of disk) × (tracks ≡ length image.tracks)
 
 abbrev pub HasNoDisk : ImdImage → ℕ → ℕ → Type 0
-HasNoDisk image c h = MakesDisk image (Err (imd.Unfit c h))
+HasNoDisk image c h = MakesDisk wide_gap image (Err (imd.Unfit c h))
 
 abbrev pub MakesFromImd : List ℕ → List ℕ → Option Files → Result ℕ Halt → Option Files → Type 0
 MakesFromImd imd name told outcome after = Makes imd_of IsDiskFile HasNoDisk imd name told outcome after

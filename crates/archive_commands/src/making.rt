@@ -14,6 +14,7 @@ use raw_image::write_image;
 use remaster::remaster;
 use sector_model::Stop;
 use std::alloc::Global;
+use track_format::WIDE_GAP;
 
 /// Stores the diskette of an ImageDisk file, and counts the file's tracks.
 fn make_disk<S: Shelf>(alloc: Global, shelf: &mut S, imd: &Name, name: &Name) -> Result<usize, Halt>
@@ -21,7 +22,7 @@ fn make_disk<S: Shelf>(alloc: Global, shelf: &mut S, imd: &Name, name: &Name) ->
     ensures faults { Blames (IsErrOf result (Halt.Stopped Stop.FileFault)) (S.fault_count shelf.old) (S.fault_count shelf.new) }
 {
     let image = load_imd(alloc, shelf, imd)?;
-    let medium = to_medium(alloc, &image)?;
+    let medium = to_medium(alloc, &image, WIDE_GAP)?;
     let file = write_image(alloc, &medium)?;
     store(shelf, name, &file)?;
     Ok(image.tracks.as_slice().len())

@@ -8,7 +8,7 @@ use Rattle.fdc_adapter.specs.Adapters.{drive_at, selected_at}
 use Rattle.fdc_registers.specs.Dor.{gate}
 use Rattle.fdc_registers.specs.Msr.{rqm, dio, non_dma, busy}
 use Rattle.fdc_core.specs.Dma.{to_memory_of}
-use Rattle.fdc_sequencer.specs.Fronts.{Front, front_state, front_with_drive, IsNewFront, KeepsFront, interrupts_outside, asks_outside, value_outside}
+use Rattle.fdc_sequencer.specs.Fronts.{Front, drive_bit, front_state, front_with_drive, IsNewFront, KeepsFront, interrupts_outside, asks_outside, value_outside}
 use Rattle.fdc_sequencer.specs.declared.sequencer.Sequencer.{Sequencer}
 use Rattle.fdc_chip.specs.Interrupts.{Interrupting, at_rest, seek_bits}
 use Rattle.fdc_chip.specs.Orders.{blank, is_format}
@@ -26,8 +26,8 @@ use Rattle.fdc_chip.specs.declared.stage.Task.TheVariants.{Sent, Track}
 
 -- the inner controller (`front`), what is under way, the command that came last, and how many bytes came of a command
 -- that isn't whole. Then come results and interrupt line, what commands set, and the strap for implied seeks. The other
--- fields are how many bytes of sector IDs a FORMAT TRACK still takes, and whether DOR lets INT and DRQ out. The last
--- two are a seek whose pulses come in the time that SPECIFY sets, and the strap for such seeks
+-- fields are how many bytes of sector IDs a FORMAT TRACK still takes, and whether DOR lets INT and DRQ out. Then come a
+-- seek whose pulses come in the time that SPECIFY sets, and the strap for such seeks. The last one is what TDR keeps
 pub record ChipState : Type 0 where
   pub front : Front
   pub stage : Stage
@@ -40,6 +40,7 @@ pub record ChipState : Type 0 where
   pub gated : Bool
   pub pace : Option Pace
   pub paced : Bool
+  pub tape : ℕ
 
 abbrev pub chip_state : {D : Type 0} → (D → DriveState) → Chip D → ChipState
 chip_state state chip = record {
@@ -54,6 +55,7 @@ chip_state state chip = record {
   gated = chip.gated;
   pace = chip.pace;
   paced = chip.paced;
+  tape = chip.tape;
 }
 
 -- the inner controller
@@ -84,6 +86,7 @@ pub record IsNewChip (bay0 bay1 : DriveState) (new : ChipState) : Type 0 where
   pub gated : new.gated ≡ false
   pub pace : new.pace ≡ None
   pub paced : new.paced ≡ false
+  pub tape : new.tape ≡ 0
 
 -- all but the drives stays as it was
 pub record KeepsChip (old new : ChipState) : Type 0 where
@@ -168,17 +171,14 @@ execution_bits false asked to_memory = busy
 abbrev pub stage_bits : Stage → ChipState → ℕ
 stage_bits Ready chip = bit_or (value_outside 0x3F4 chip.front) (if chip.count == 0 then 0 else busy)
 stage_bits Held chip = bit_or (bit_and (value_outside 0x3F4 chip.front) 0x0F) busy
-stage_bits (Busy task) chip =
-    execution_bits (is_by_port chip.settings) (passes chip && asks_outside chip.front) (to_memory_of chip.front.adapter.controller)
+stage_bits (Busy task) chip = bit_or (bit_and (value_outside 0x3F4 chip.front) 0x0F)
+    (execution_bits (is_by_port chip.settings) (passes chip && asks_outside chip.front) (to_memory_of chip.front.adapter.controller))
 stage_bits (Telling answer read) chip = bit_or (bit_and (value_outside 0x3F4 chip.front) 0x0F) (bit_or (bit_or rqm dio) busy)
 
 -- the seek bit of a drive whose pulses come in the time that SPECIFY sets
-abbrev pub unit_bit : ℕ → ℕ
-unit_bit unit = if unit % 4 == 0 then 1 else (if unit % 4 == 1 then 2 else (if unit % 4 == 2 then 4 else 8))
-
 abbrev pub pace_bit : Option Pace → ℕ
 pace_bit None = 0
-pace_bit (Some pace) = unit_bit pace.unit
+pace_bit (Some pace) = drive_bit pace.unit
 
 -- MSR: the bits of what is under way, and the seek bits of drives whose results wait or whose pulses come
 abbrev pub status_of : ChipState → ℕ
@@ -190,6 +190,13 @@ status_of chip = bit_or (bit_or (stage_bits chip.stage chip) (seek_bits chip.int
 abbrev pub output_of : ChipState → ℕ
 output_of chip = bit_or (bit_and (value_outside 0x3F2 chip.front) 0xF7) (if chip.gated then gate else 0)
 
+-- ---- TDR
+
+-- TDR: the two bits that were written. Nothing drives the other bits, which are read as 1
+abbrev pub tape_of : ChipState → ℕ
+tape_of chip = bit_or 0xFC chip.tape
+
 -- what a port gives, for ports other than MSR and the data port
 abbrev pub value_of : ℕ → ChipState → ℕ
-value_of port chip = if port == 0x3F2 then output_of chip else value_outside port chip.front
+value_of port chip =
+    if port == 0x3F2 then output_of chip else (if port == 0x3F3 then tape_of chip else value_outside port chip.front)

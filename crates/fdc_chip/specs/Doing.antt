@@ -2,7 +2,7 @@
 use Rattle.std.specs.Prelude.{◌≡◌, ℕ, zero, suc, ◌+◌, ◌-◌, ◌*◌, ◌%◌, Bool, true, false, not, ◌==◌, ◌&&◌, ◌||◌, List, [], ◌∷◌, Option, Some, None, is_none, is_some, if◌then◌else◌, nat_le, bit_and, min}
 use Rattle.std.specs.Int.RustNames.{bit_or}
 use Rattle.flop_base.specs.declared.key.Chrn.{Chrn}
-use Rattle.fdc_sequencer.specs.Fronts.{Front, WritesFront, after_reading, value_outside}
+use Rattle.fdc_sequencer.specs.Fronts.{Front, WritesFront, after_reading, value_outside, with_seeks}
 use Rattle.fdc_sequencer.specs.Senses.{pending_outside, sensed_outside}
 use Rattle.fdc_registers.specs.St0.{seek_end}
 use Rattle.fdc_sequencer.specs.Transfers.{size_of}
@@ -166,11 +166,9 @@ abbrev pub sought_if : Bool → ChipState → ChipState
 sought_if true old = record old { interrupts = with_cylinder old.order.unit old.order.key.c old.interrupts }
 sought_if false old = old
 
--- a command of this task begins: INT falls, the pending result of its drive is dropped, and a seek is implied for it or
--- not
-abbrev pub begun : Task → Bool → ChipState → ChipState
-begun task seeks old = record old {
-  front = record old.front { strapped = seeks };
+-- a command of this task begins: INT falls, and the pending result of its drive is dropped
+abbrev pub begun : Task → ChipState → ChipState
+begun task old = record old {
   stage = Busy task;
   interrupts = without_results_of old.order.unit old.interrupts;
 }
@@ -184,11 +182,15 @@ RemembersIf false old new = new ≡ old
 abbrev pub Remembers : ChipState → ChipState → Type 0
 Remembers old new = RemembersIf old.settings.forgotten old new
 
--- a command of this task begins, and the inner controller is given these bytes
+-- for the next command of the inner controller a seek is implied, or none is
+abbrev pub implying : Bool → ChipState → ChipState
+implying seeks old = with_front (with_seeks seeks old.front) old
+
+-- a command of this task begins, and the inner controller is given these bytes. A seek is implied for it, or none is
 pub record Begins (task : Task) (seeks : Bool) (bytes : List ℕ) (old new : ChipState) : Type 0 where
   pub set : ChipState
-  pub remembers : Remembers (begun task seeks old) set
-  pub sends : SendsOn bytes set new
+  pub remembers : Remembers (begun task old) set
+  pub sends : SendsOn bytes (implying seeks set) new
 
 -- the bytes of a READ ID of a unit
 abbrev pub identifying : ℕ → List ℕ
@@ -260,15 +262,20 @@ Verifies mfm old new =
 
 -- ---- READ TRACK
 
--- a READ TRACK begins. All its sectors are left, where 0 is 256
-abbrev pub track_begun : Order → Track
-track_begun order = record {
+-- how many sectors a READ TRACK reads, where 0 is 256
+abbrev pub sectors_of_track : Order → ℕ
+sectors_of_track order = if order.last_sector == 0 then 256 else order.last_sector
+
+-- a READ TRACK begins. All its sectors are left. The Bool says whether the heads go to its cylinder first
+abbrev pub track_begun : Bool → Order → Track
+track_begun seeks order = record {
   unit = order.unit;
   key = order.key;
-  left = if order.last_sector == 0 then 256 else order.last_sector;
+  left = sectors_of_track order;
   place = Index;
   counted = false;
   met = false;
+  seeks = seeks;
   st1 = record { 0 = 0 };
   st2 = record { 0 = 0 };
 }
@@ -283,7 +290,7 @@ absent_key c = record { c = c; h = 0xFF; r = 0xFF; n = 6 }
 
 abbrev pub ReadsTrack : Bool → ChipState → ChipState → Type 0
 ReadsTrack mfm old new = let order = old.order in
-    Transfers mfm (task.Track (track_begun order)) (reading_one order.unit (absent_key order.key.c) order.gap order.length) old new
+    Transfers mfm (task.Track (track_begun (implies old) order)) (reading_one order.unit (absent_key order.key.c) order.gap order.length) old new
 
 -- ---- all commands
 

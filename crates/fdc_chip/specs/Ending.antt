@@ -3,11 +3,11 @@ use Rattle.std.specs.Prelude.{◌≡◌, ℕ, ◌+◌, ◌-◌, ◌%◌, Bool, t
 use Rattle.std.specs.Int.Bits.{bit_xor}
 use Rattle.std.specs.Int.RustNames.{bit_or}
 use Rattle.flop_base.specs.declared.key.Chrn.{Chrn}
-use Rattle.fdc_registers.specs.St0.{abnormal}
+use Rattle.fdc_registers.specs.St0.{abnormal, seek_end}
 use Rattle.fdc_registers.specs.St1.{end_of_cylinder, overrun, no_data, missing_mark}
 use Rattle.fdc_registers.specs.St2.{wrong_cylinder, bad_cylinder}
 use Rattle.fdc_commands.specs.declared.results.Results.{Results}
-use Rattle.fdc_sequencer.specs.Fronts.{Front, after_reading, value_outside}
+use Rattle.fdc_sequencer.specs.Fronts.{Front, after_reading, value_outside, with_seeks}
 use Rattle.fdc_chip.specs.Chips.{ChipState, with_front}
 use Rattle.fdc_chip.specs.Codes.{has_bit, has_multitrack}
 use Rattle.fdc_chip.specs.Doing.{SendsOn, told, identifying, is_size, reading_one}
@@ -121,7 +121,7 @@ is_done order results = not (has_bit order.unit 0x80) && results.st1.0 == end_of
 
 abbrev pub verified : Order → Results → Results
 verified order results = if is_done order results then record results {
-  st0 = record { 0 = unit_of results };
+  st0 = record { 0 = bit_and results.st0.0 0x27 };
   st1 = record { 0 = 0 };
   key = behind_last (has_multitrack order.code) results.key;
 } else results
@@ -152,9 +152,13 @@ abbrev pub track_faults : Track → ℕ
 track_faults track =
     bit_or (bit_or track.st1.0 (if is_missed track then no_data else 0)) (if (track.left == 0) && not track.counted then end_of_cylinder else 0)
 
+-- SE, if the heads went to the cylinder first
+abbrev pub sought_bit : Track → ℕ
+sought_bit track = if track.seeks then seek_end else 0
+
 abbrev pub results_of_track : Track → Results
 results_of_track track = record {
-  st0 = record { 0 = bit_or (bit_and track.unit 7) (if track_faults track == 0 then 0 else abnormal) };
+  st0 = record { 0 = bit_or (bit_or (bit_and track.unit 7) (if track_faults track == 0 then 0 else abnormal)) (sought_bit track) };
   st1 = record { 0 = track_faults track };
   st2 = track.st2;
   key = track.key;
@@ -167,13 +171,9 @@ with_fault fault track = record track { st1 = record { 0 = bit_or track.st1.0 fa
 abbrev pub track_told : Track → ChipState → ChipState
 track_told track old = told_results (results_of_track track) old
 
--- no seek is implied for the next commands
-abbrev pub without_seeks : Front → Front
-without_seeks front = record front { strapped = false; configured = false }
-
--- this READ TRACK is then under way
+-- this READ TRACK is then under way, and no seek is implied for its next commands
 abbrev pub track_at : Track → ChipState → ChipState
-track_at track old = record old { front = without_seeks old.front; stage = Busy (task.Track track) }
+track_at track old = record old { front = with_seeks false old.front; stage = Busy (task.Track track) }
 
 -- the READ TRACK looks for the next address field
 abbrev pub LooksOn : Track → ChipState → ChipState → Type 0

@@ -1,5 +1,5 @@
 -- Port accesses, and the side of the channel.
-use Rattle.std.specs.Prelude.{◌≡◌, ℕ, ◌+◌, ◌-◌, ◌%◌, Bool, true, false, not, ◌==◌, ◌&&◌, ◌||◌, Option, Some, None, if◌then◌else◌, nat_le, get_or, length, unwrap_or}
+use Rattle.std.specs.Prelude.{◌≡◌, ℕ, ◌+◌, ◌-◌, ◌%◌, Bool, true, false, not, ◌==◌, ◌&&◌, ◌||◌, Option, Some, None, if◌then◌else◌, nat_le, get_or, length, unwrap_or, bit_and}
 use Rattle.std.specs.Int.RustNames.{bit_or}
 use Rattle.fdc_registers.specs.Dor.{gate}
 use Rattle.fdc_core.specs.Ports.{resets}
@@ -99,14 +99,18 @@ abbrev pub TakesByte : Stage → ℕ → ChipState → ChipState → Type 0
 TakesByte Ready byte old new = ComesIf (may_come old) byte old new
 TakesByte _ byte old new = GivesIf (passes_by_port old) byte old new
 
--- a reset ends what is under way. It forgets results, cylinders, and what CONFIGURE set and LOCK doesn't keep
+-- a reset ends what is under way. It forgets results, cylinders, and what CONFIGURE set and LOCK doesn't keep. TDR stays
 abbrev pub reset_if : Bool → ChipState → ChipState
 reset_if true old = record old { stage = Ready; count = 0; interrupts = at_rest; settings = reset old.settings; pace = None }
 reset_if false old = old
 
--- DOR lets INT and DRQ out of the chip or keeps them in. The inner controller always lets them out
-abbrev pub gated_by : ℕ → ℕ → ChipState → ChipState
-gated_by port value old = record old { gated = if port == 0x3F2 then has_bit value gate else old.gated }
+-- DOR lets INT and DRQ out of the chip or keeps them in. The inner controller always lets them out. TDR keeps its two
+-- low bits
+abbrev pub latched_by : ℕ → ℕ → ChipState → ChipState
+latched_by port value old = record old {
+  gated = if port == 0x3F2 then has_bit value gate else old.gated;
+  tape = if port == 0x3F3 then bit_and value 0x03 else old.tape;
+}
 
 abbrev pub value_behind : ℕ → ℕ → ℕ
 value_behind port value = if port == 0x3F2 then bit_or value gate else value
@@ -115,7 +119,7 @@ value_behind port value = if port == 0x3F2 then bit_or value gate else value
 pub record WritesChip (port value : ℕ) (old new : ChipState) : Type 0 where
   pub bytes : port ≡ 0x3F5 → TakesByte old.stage value old new
   pub others : (port == 0x3F5) ≡ false → WritesFront port (value_behind port value) old.front new.front
-      × KeepsRest (reset_if (resets port (value_behind port value)) (gated_by port value old)) new
+      × KeepsRest (reset_if (resets port (value_behind port value)) (latched_by port value old)) new
 
 -- ---- the channel
 

@@ -57,7 +57,7 @@ spelled_place place.Data rest = 2 ∷ rest
 unfoldable pub spelled_track : Track → List ℕ → List ℕ
 spelled_track track rest =
     spelled_byte track.unit (spelled_key track.key (spelled_word track.left (spelled_place track.place (spelled_flag track.counted
-    (spelled_flag track.met (spelled_byte track.st1.0 (spelled_byte track.st2.0 rest)))))))
+    (spelled_flag track.met (spelled_flag track.seeks (spelled_byte track.st1.0 (spelled_byte track.st2.0 rest))))))))
 
 -- what the inner controller executes
 unfoldable pub spelled_task : Task → List ℕ → List ℕ
@@ -88,4 +88,5 @@ unfoldable pub spelled_chip : {D : Type 0} → (D → List ℕ → List ℕ) →
 spelled_chip spelled chip rest =
     71 ∷ spelled_sequencer spelled chip.behind (spelled_stage chip.stage (spelled_order chip.order (spelled_byte chip.count
     (spelled_interrupts chip.interrupts (spelled_settings chip.settings (spelled_flag chip.strapped (spelled_word chip.keys
-    (spelled_flag chip.gated (spelled_option spelled_pace chip.pace (spelled_flag chip.paced rest))))))))))
+    (spelled_flag chip.gated (spelled_option spelled_pace chip.pace (spelled_flag chip.paced
+    (spelled_byte chip.tape rest)))))))))))

@@ -37,6 +37,8 @@ pub struct Chip<D> {
     pub(crate) pace: Option<Pace>,
     /// Whether a strap of the adapter lets the pulses of seeks come in that time.
     pub(crate) paced: bool,
+    /// What TDR, the tape drive register, keeps: two bits that say which drive is a tape drive.
+    pub(crate) tape: u8,
 }
 
 impl Task {
@@ -69,6 +71,7 @@ impl<D: Inspect> Chip<D> {
             gated: false,
             pace: None,
             paced: false,
+            tape: 0,
         })
     }
 

@@ -19,6 +19,9 @@ use flop_base::Chrn;
 /// The head and the drive in ST0.
 const UNIT: u8 = 0x07;
 
+/// What a VERIFY that is done leaves of ST0: the head, the drive and SE.
+const WITHOUT_CODE: u8 = 0x27;
+
 /// READ ID with MFM.
 const READ_ID: u8 = 0x4A;
 
@@ -115,7 +118,7 @@ impl Order {
             return results;
         }
         Results {
-            st0: St0(results.st0.bits() & UNIT),
+            st0: St0(results.st0.bits() & WITHOUT_CODE),
             st1: St1(0),
             key: behind_last(has_bit(self.code, MULTITRACK), results.key),
             ..results

@@ -8,7 +8,8 @@ ghost use Rattle.fdc_chip.specs.Paces.{target_of, stepped, is_over, is_due, Ends
 
 use crate::chip::Chip;
 use drive_model::Inspect;
-use fdc_registers::{Flags, Msr};
+use fdc_registers::Flags;
+use fdc_sequencer::drive_bit;
 
 /// RECALIBRATE.
 const RECALIBRATE: u8 = 0x07;
@@ -38,14 +39,9 @@ pub struct Pace {
 pub(crate) fn pace_bit(pace: Option<Pace>) -> u8
     ensures { result ≡ pace_bit pace }
 {
-    let Some(pace) = pace else {
-        return 0;
-    };
-    match pace.unit % 4 {
-        0 => Msr::SEEKING_0.bits(),
-        1 => Msr::SEEKING_1.bits(),
-        2 => Msr::SEEKING_2.bits(),
-        _ => Msr::SEEKING_3.bits(),
+    match pace {
+        None => 0,
+        Some(pace) => drive_bit(pace.unit).bits(),
     }
 }
 

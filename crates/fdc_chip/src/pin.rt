@@ -38,5 +38,6 @@ impl<D: Inspect> Chip<D> {
         self.write(DOR, 0);
         self.write(CCR, RATE_AT_POWER_UP);
         self.settings = settings;
+        self.tape = 0;
     }
 }

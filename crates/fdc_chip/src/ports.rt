@@ -3,7 +3,7 @@ ghost use Rattle.std.specs.Prelude.{◌≡◌, ◌==◌, ◌&&◌};
 ghost use Rattle.fdc_adapter.specs.Adapters.{SameDrives};
 ghost use Rattle.fdc_sequencer.specs.Fronts.{adapter_of};
 ghost use Rattle.fdc_chip.specs.Chips.{chip_state, behind_of, status_of, stage_bits, execution_bits, port_bits, output_of};
-ghost use Rattle.fdc_chip.specs.Ports.{ReadsChip, ReadsAt, PassesOut, byte_told, WritesChip, TakesByte, Collects, may_come, with_next, PassesIn, is_whole, gated_by, value_behind};
+ghost use Rattle.fdc_chip.specs.Ports.{ReadsChip, ReadsAt, PassesOut, byte_told, WritesChip, TakesByte, Collects, may_come, with_next, PassesIn, is_whole, latched_by, value_behind};
 
 use crate::answer::{Answer, NOTHING};
 use crate::chip::Chip;
@@ -18,6 +18,15 @@ use fdc_registers::{Dor, Flags, Msr};
 
 /// DOR.
 const OUTPUT: u16 = 0x3F2;
+
+/// TDR, the tape drive register.
+const TAPE: u16 = 0x3F3;
+
+/// The bits of TDR that are kept.
+const TAPE_DRIVE: u8 = 0x03;
+
+/// The bits of TDR that nothing drives. They are read as 1.
+const UNDRIVEN: u8 = 0xFC;
 
 /// All of DOR but the bit that lets INT and DRQ out.
 const WITHOUT_GATE: u8 = 0xF7;
@@ -69,6 +78,7 @@ impl<D: Inspect> Chip<D> {
             STATUS => self.status(),
             DATA => self.give_byte(),
             OUTPUT => self.output(),
+            TAPE => UNDRIVEN | self.tape,
             _ => self.behind.read(port),
         }
     }
@@ -108,7 +118,9 @@ impl<D: Inspect> Chip<D> {
             Stage::Held => Msr(self.behind.read(STATUS) & SEEKING).union(Msr::BUSY),
             Stage::Busy { .. } => {
                 let asked = self.passes() && self.behind.drq();
-                execution_bits(self.settings.is_by_port(), asked, self.behind.to_memory())
+                let bits =
+                    execution_bits(self.settings.is_by_port(), asked, self.behind.to_memory());
+                Msr(self.behind.read(STATUS) & SEEKING).union(bits)
             }
             Stage::Telling { .. } => {
                 let told = Msr::RQM.union(Msr::DIO).union(Msr::BUSY);
@@ -174,7 +186,7 @@ impl<D: Inspect> Chip<D> {
             self.take_byte(value);
             return;
         }
-        let given = self.gate(port, value);
+        let given = self.latch(port, value);
         if Fdc::is_reset_by(port, given) {
             self.stage = Stage::Ready;
             self.count = 0;
@@ -185,12 +197,15 @@ impl<D: Inspect> Chip<D> {
         self.behind.write(port, given);
     }
 
-    /// If the port is DOR, lets INT and DRQ out or keeps them in. Gives the byte for the inner controller, which always
-    /// lets them out, so that its MSR asks for bytes all the same.
-    fn gate(&mut self, port: u16, value: u8) -> u8
+    /// If the port is DOR, lets INT and DRQ out or keeps them in. If it is TDR, keeps its two low bits. Gives the byte
+    /// for the inner controller, which always lets INT and DRQ out, so that its MSR asks for bytes all the same.
+    fn latch(&mut self, port: u16, value: u8) -> u8
         ensures given { result ≡ value_behind port value }
-        ensures gated { chip_state D.state self.new ≡ gated_by port value (chip_state D.state self.old) }
+        ensures latched { chip_state D.state self.new ≡ latched_by port value (chip_state D.state self.old) }
     {
+        if port == TAPE {
+            self.tape = value & TAPE_DRIVE;
+        }
         if port != OUTPUT {
             return value;
         }

@@ -228,6 +228,7 @@ impl Saved for Track {
         self.place.save(to);
         self.counted.save(to);
         self.met.save(to);
+        self.seeks.save(to);
         self.st1.0.save(to);
         self.st2.0.save(to);
     }
@@ -240,6 +241,7 @@ impl Saved for Track {
         let place = Place::load(from);
         let counted = bool::load(from);
         let met = bool::load(from);
+        let seeks = bool::load(from);
         let st1 = St1(u8::load(from));
         let st2 = St2(u8::load(from));
         Track {
@@ -249,6 +251,7 @@ impl Saved for Track {
             place,
             counted,
             met,
+            seeks,
             st1,
             st2,
         }
@@ -412,6 +415,7 @@ impl<D: SavedWhole + Drop> SavedWhole for Chip<D> {
         self.gated.save(to);
         self.pace.save(to);
         self.paced.save(to);
+        self.tape.save(to);
     }
 
     #[tactic(auto, unfolding(crate::specs::Saving::spelled_chip))]
@@ -428,6 +432,7 @@ impl<D: SavedWhole + Drop> SavedWhole for Chip<D> {
         let gated = bool::load(from);
         let pace = Option::<Pace>::load(from);
         let paced = bool::load(from);
+        let tape = u8::load(from);
         Ok(Chip {
             behind,
             stage,
@@ -440,6 +445,7 @@ impl<D: SavedWhole + Drop> SavedWhole for Chip<D> {
             gated,
             pace,
             paced,
+            tape,
         })
     }
 }

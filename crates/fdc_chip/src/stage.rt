@@ -46,6 +46,8 @@ pub struct Track {
     pub counted: bool,
     /// Whether an address field had the sector ID.
     pub met: bool,
+    /// Whether the heads went to the cylinder first, by an implied seek.
+    pub seeks: bool,
     /// What was wrong with any field.
     pub st1: St1,
     pub st2: St2,

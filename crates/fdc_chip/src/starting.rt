@@ -2,7 +2,7 @@
 ghost use Rattle.std.specs.Prelude.{◌≡◌, ◌≤◌, ◌*◌};
 ghost use Rattle.fdc_sequencer.specs.Transfers.{size_of};
 ghost use Rattle.fdc_chip.specs.Chips.{chip_state};
-ghost use Rattle.fdc_chip.specs.Doing.{SendsOn, Begins, Remembers, Refuses, BeginsReadId, Formats, FormatsIf, Transfers, TransfersIf, Verifies, ReadsTrack, with_last, with_keys, implies, sought_if, is_size, no_key, sectors_to, sectors_verified, verifying, track_begun, absent_key, reading_one};
+ghost use Rattle.fdc_chip.specs.Doing.{SendsOn, Begins, Remembers, Refuses, BeginsReadId, Formats, FormatsIf, Transfers, TransfersIf, Verifies, ReadsTrack, with_last, with_keys, implies, sectors_of_track, sought_if, is_size, no_key, sectors_to, sectors_verified, verifying, track_begun, absent_key, reading_one};
 ghost use Rattle.fdc_chip.specs.Orders.{order_bytes};
 
 use crate::chip::Chip;
@@ -99,6 +99,17 @@ impl Order {
         }
     }
 
+    /// How many sectors a READ TRACK reads.
+    fn sectors_of_track(self) -> u16
+        ensures { result ≡ sectors_of_track self }
+    {
+        if self.last_sector == 0 {
+            256
+        } else {
+            u16::from(self.last_sector)
+        }
+    }
+
     /// The READ DATA that is executed for a VERIFY.
     fn verifying(self) -> Order
         ensures { result ≡ verifying self }
@@ -124,21 +135,18 @@ impl Order {
 }
 
 impl Track {
-    /// A READ TRACK that begins.
-    fn of(order: Order) -> Track
-        ensures { result ≡ track_begun order }
+    /// A READ TRACK that begins. `seeks` says whether the heads go to its cylinder first.
+    fn of(seeks: bool, order: Order) -> Track
+        ensures { result ≡ track_begun seeks order }
     {
         Track {
             unit: order.unit,
             key: order.key,
-            left: if order.last_sector == 0 {
-                256
-            } else {
-                u16::from(order.last_sector)
-            },
+            left: order.sectors_of_track(),
             place: Place::Index,
             counted: false,
             met: false,
+            seeks,
             st1: St1(0),
             st2: St2(0),
         }
@@ -147,15 +155,15 @@ impl Track {
 
 impl<D: Inspect> Chip<D> {
     /// Begins a command of this task: INT falls, the pending result of its drive is dropped, and the inner controller
-    /// is given these bytes.
+    /// is given these bytes. `seeks` says whether a seek is implied for it.
     fn begin(&mut self, task: Task, seeks: bool, bytes: &[u8])
         ensures { Begins task seeks bytes.now (chip_state D.state self.old) (chip_state D.state self.new) }
     {
-        self.behind.strap_seeks(seeks);
         self.stage = Stage::Busy { task };
         let unit = self.order.unit;
         self.interrupts.forget(unit);
         self.remember();
+        self.behind.imply_seeks(seeks);
         self.send(bytes);
     }
 
@@ -276,7 +284,7 @@ impl<D: Inspect> Chip<D> {
             r: 0xFF,
             n: 6,
         };
-        let track = Track::of(order);
+        let track = Track::of(self.implies_seeks(), order);
         self.transfer(mfm, Task::Track { track }, order.reading_one(absent));
     }
 }

@@ -101,8 +101,9 @@ impl Track {
         } else {
             St0::ABNORMAL
         };
+        let sought = if self.seeks { St0::SEEK_END } else { St0(0) };
         Results {
-            st0: St0(self.unit & UNIT).union(code),
+            st0: St0(self.unit & UNIT).union(code).union(sought),
             st1,
             st2: self.st2,
             key: self.key,
@@ -129,7 +130,7 @@ impl<D: Inspect> Chip<D> {
     fn go_on(&mut self, track: Track)
         ensures { chip_state D.state self.new ≡ track_at track (chip_state D.state self.old) }
     {
-        self.behind.drop_seeks();
+        self.behind.imply_seeks(false);
         self.stage = Stage::Busy {
             task: Task::Track { track },
         };

@@ -1,6 +1,6 @@
 -- A controller with its drives and what stands in front of it, as contracts see them: their state, their lines, port
 -- accesses, and their side of the channel.
-use Rattle.std.specs.Prelude.{◌≡◌, ℕ, ◌+◌, ◌-◌, Bool, true, false, not, ◌==◌, ◌&&◌, ◌||◌, List, [], ◌∷◌, ◌++◌, Option, Some, None, if◌then◌else◌, nat_le, nat_lt, get_or, bit_and}
+use Rattle.std.specs.Prelude.{◌≡◌, ℕ, ◌+◌, ◌-◌, ◌%◌, Bool, true, false, not, ◌==◌, ◌&&◌, ◌||◌, List, [], ◌∷◌, ◌++◌, Option, Some, None, if◌then◌else◌, nat_le, nat_lt, get_or, bit_and}
 use Rattle.std.specs.Int.RustNames.{bit_or}
 use Rattle.drive_model.specs.Drive.{DriveState}
 use Rattle.fdc_registers.specs.Msr.{rqm, dio, busy}
@@ -60,6 +60,14 @@ pub record IsNewFront (bay0 bay1 : DriveState) (new : Front) : Type 0 where
   pub strapped : new.strapped ≡ false
   pub configured : new.configured ≡ false
 
+-- seeks are implied, by the strap or by CONFIGURE
+abbrev pub implies_seeks : Front → Bool
+implies_seeks front = front.strapped || front.configured
+
+-- the front with seeks implied for each command, or for none, whatever the strap or CONFIGURE has set
+abbrev pub with_seeks : Bool → Front → Front
+with_seeks on front = record front { strapped = on; configured = false }
+
 -- all but the drives stays as it was
 pub record KeepsFront (old new : Front) : Type 0 where
   pub controller : new.adapter.controller ≡ old.adapter.controller
@@ -97,11 +105,22 @@ asks_outside front = asks_at front.stage front.adapter.controller
 
 -- ---- reads of a port
 
--- MSR: busy during a command of several sectors. No seek bit shows meanwhile
+-- the seek bit of a command's drive
+abbrev pub drive_bit : ℕ → ℕ
+drive_bit head_drive =
+    if head_drive % 4 == 0 then 1 else (if head_drive % 4 == 1 then 2 else (if head_drive % 4 == 2 then 4 else 8))
+
+-- the seek bit of the drive whose heads an implied seek moves. No other seek bit shows during a command of several
+-- sectors
+abbrev pub seeking_bit : Stage → ℕ
+seeking_bit (Seeking transfer _) = drive_bit transfer.head_drive
+seeking_bit _ = 0
+
+-- MSR: busy during a command of several sectors
 abbrev pub status_at : Stage → Fdc → ℕ
 status_at Through fdc = main_status fdc
 status_at (Collecting _) fdc = bit_or (main_status fdc) busy
-status_at (Seeking _ _) fdc = busy
+status_at (Seeking transfer _) fdc = bit_or busy (drive_bit transfer.head_drive)
 status_at (Moving _) fdc = busy
 status_at (Telling _ _) fdc = bit_or (bit_or rqm dio) busy
 
@@ -169,7 +188,7 @@ StartsIf false transfer old new = BeginsSector transfer false false old new
 -- a command starts, with a seek if seeks are implied
 abbrev pub Starts : Option Transfer → Front → Front → Type 0
 Starts None old new = new ≡ record old { stage = Through }
-Starts (Some transfer) old new = StartsIf (old.strapped || old.configured) transfer old new
+Starts (Some transfer) old new = StartsIf transfer.seeks transfer old new
 
 -- the controller answers a command whose size code isn't 1 to 6
 pub record Refuses (old new : Front) : Type 0 where
@@ -182,7 +201,7 @@ pub record Refuses (old new : Front) : Type 0 where
 -- what the front does when the bytes of a command come to this
 abbrev pub CollectsAs : Opcode → Accepted → Front → Front → Type 0
 CollectsAs opcode More old new = new ≡ old
-CollectsAs opcode (Ready command) old new = Starts (transfer_of opcode command) old new
+CollectsAs opcode (Ready command) old new = Starts (transfer_of (implies_seeks old) opcode command) old new
 CollectsAs opcode Invalid old new = Refuses old new
 
 abbrev pub Collects : Opcode → ℕ → Front → Front → Type 0

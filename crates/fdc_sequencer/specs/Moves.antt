@@ -34,12 +34,12 @@ goes_on moving deleted = would_go_on moving deleted && not (is_last moving.trans
 -- as it was sent. Otherwise they have the sector ID of the next sector
 abbrev pub results_behind : MovingSector → Bool → Results
 results_behind moving deleted = let at = moving.transfer in
-    if would_go_on moving deleted then results_told NoCount at.head_drive at.key (has_met_other moving deleted)
-    else results_told (Done false) at.head_drive (next_of at).key (has_met_other moving deleted)
+    if would_go_on moving deleted then results_told NoCount at at.key (has_met_other moving deleted)
+    else results_told (Done false) at (next_of at).key (has_met_other moving deleted)
 
 -- the results of a failure, with the sector ID as it was sent
 abbrev pub results_failed : MovingSector → Ending → Results
-results_failed moving ending = results_told ending moving.transfer.head_drive moving.transfer.key moving.passed_over
+results_failed moving ending = results_told ending moving.transfer moving.transfer.key moving.passed_over
 
 abbrev pub EndsIf : Bool → MovingSector → Bool → Front → Front → Type 0
 EndsIf true moving deleted old new = BeginsSector (next_of moving.transfer) false (has_met_other moving deleted) old new

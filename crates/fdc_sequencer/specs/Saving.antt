@@ -25,7 +25,7 @@ spelled_opcode opcode rest = spelled_operation opcode.operation (spelled_flag op
 unfoldable pub spelled_transfer : Transfer → List ℕ → List ℕ
 spelled_transfer transfer rest =
     spelled_opcode transfer.opcode (spelled_byte transfer.head_drive (spelled_key transfer.key
-    (spelled_byte transfer.last_sector (spelled_byte transfer.gap (spelled_byte transfer.length rest)))))
+    (spelled_byte transfer.last_sector (spelled_byte transfer.gap (spelled_byte transfer.length (spelled_flag transfer.seeks rest))))))
 
 -- a sector that is moved
 unfoldable pub spelled_moving : Moving → List ℕ → List ℕ

@@ -3,6 +3,7 @@ use Rattle.std.specs.Prelude.{ℕ, ◌+◌, ◌%◌, Bool, true, false, not, ◌
 use Rattle.std.specs.Int.Bits.{bit_xor}
 use Rattle.std.specs.Int.RustNames.{bit_or}
 use Rattle.flop_base.specs.declared.key.Chrn.{Chrn}
+use Rattle.fdc_registers.specs.St0.{seek_end}
 use Rattle.fdc_registers.specs.St2.{control_mark}
 use Rattle.fdc_commands.specs.declared.command.Command.{Command}
 use Rattle.fdc_commands.specs.declared.command.Command.TheVariants.{ReadData, WriteData, WriteDeleted}
@@ -16,22 +17,23 @@ use Rattle.fdc_sequencer.specs.declared.transfer.Transfer.{Transfer}
 
 -- ---- the controller's own commands
 
--- a command with this code, at its first sector
-abbrev pub transfer_with : Opcode → ℕ → Chrn → ℕ → ℕ → ℕ → Transfer
-transfer_with opcode head_drive key last_sector gap length = record {
+-- a command with this code, at its first sector. The Bool says whether the heads go to its cylinder first
+abbrev pub transfer_with : Bool → Opcode → ℕ → Chrn → ℕ → ℕ → ℕ → Transfer
+transfer_with seeks opcode head_drive key last_sector gap length = record {
   opcode = opcode;
   head_drive = head_drive;
   key = key;
   last_sector = last_sector;
   gap = gap;
   length = length;
+  seeks = seeks;
 }
 
-abbrev pub transfer_of : Opcode → Command → Option Transfer
-transfer_of opcode (ReadData head_drive key last_sector gap length) = Some (transfer_with opcode head_drive key last_sector gap length)
-transfer_of opcode (WriteData head_drive key last_sector gap length) = Some (transfer_with opcode head_drive key last_sector gap length)
-transfer_of opcode (WriteDeleted head_drive key last_sector gap length) = Some (transfer_with opcode head_drive key last_sector gap length)
-transfer_of opcode _ = None
+abbrev pub transfer_of : Bool → Opcode → Command → Option Transfer
+transfer_of seeks opcode (ReadData head_drive key last_sector gap length) = Some (transfer_with seeks opcode head_drive key last_sector gap length)
+transfer_of seeks opcode (WriteData head_drive key last_sector gap length) = Some (transfer_with seeks opcode head_drive key last_sector gap length)
+transfer_of seeks opcode (WriteDeleted head_drive key last_sector gap length) = Some (transfer_with seeks opcode head_drive key last_sector gap length)
+transfer_of seeks opcode _ = None
 
 -- the controller's own command for one sector
 abbrev pub command_for : Operation → ℕ → Chrn → ℕ → ℕ → ℕ → Command
@@ -103,8 +105,14 @@ is_skipping (Write _) = false
 
 -- ---- results
 
--- the results of this ending, with CM if a field was passed over
-abbrev pub results_told : Ending → ℕ → Chrn → Bool → Results
-results_told ending head_drive key passed_over =
-    let told = results_of ending head_drive key in
+-- the results of this ending, with SE if the heads went to the cylinder first
+abbrev pub results_sought : Ending → Transfer → Chrn → Results
+results_sought ending at key =
+    let told = results_of ending at.head_drive key in
+    if at.seeks then record told { st0 = record { 0 = bit_or told.st0.0 seek_end } } else told
+
+-- these results, with CM if a field was passed over
+abbrev pub results_told : Ending → Transfer → Chrn → Bool → Results
+results_told ending at key passed_over =
+    let told = results_sought ending at key in
     if passed_over then record told { st2 = record { 0 = bit_or told.st2.0 control_mark } } else told

@@ -21,4 +21,4 @@ mod transfer;
 pub use opcode::{Opcode, Operation};
 pub use sequencer::Sequencer;
 pub use stage::{Moving, Stage};
-pub use transfer::Transfer;
+pub use transfer::{Transfer, drive_bit};

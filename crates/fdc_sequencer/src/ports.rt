@@ -7,7 +7,7 @@ ghost use Rattle.fdc_sequencer.specs.Opcodes.{plain_code};
 use crate::opcode::Opcode;
 use crate::sequencer::Sequencer;
 use crate::stage::Stage;
-use crate::transfer::Transfer;
+use crate::transfer::{Transfer, drive_bit};
 use drive_model::Inspect;
 use fdc_commands::{Accepted, Command, CommandBytes, Results};
 use fdc_core::Fdc;
@@ -28,8 +28,8 @@ const LAST_RESULT: u8 = 6;
 const IMPLIED_SEEK: u8 = 0x40;
 
 impl<D: Inspect> Sequencer<D> {
-    /// Reads a port, 3F0 to 3F7. While a command of several sectors is executed, MSR is 10. While its results are read,
-    /// MSR is D0.
+    /// Reads a port, 3F0 to 3F7. While a command of several sectors is executed, MSR is 10. In an implied seek it has
+    /// the seek bit of the drive too (data sheet: DRV BUSY). While its results are read, MSR is D0.
     pub fn read(&mut self, port: u16) -> u8
         ensures value { result ≡ value_outside port (front_state D.state self.old) }
         ensures after { front_state D.state self.new ≡ after_reading port (front_state D.state self.old) }
@@ -51,7 +51,8 @@ impl<D: Inspect> Sequencer<D> {
         match self.stage {
             Stage::Through => self.adapter.read(STATUS),
             Stage::Collecting { .. } => Msr(self.adapter.read(STATUS)).union(Msr::BUSY).bits(),
-            Stage::Seeking { .. } | Stage::Moving { .. } => Msr::BUSY.bits(),
+            Stage::Seeking { transfer, .. } => Msr::BUSY.union(drive_bit(transfer.head_drive)).bits(),
+            Stage::Moving { .. } => Msr::BUSY.bits(),
             Stage::Telling { .. } => Msr::RQM.union(Msr::DIO).union(Msr::BUSY).bits(),
         }
     }
@@ -150,7 +151,10 @@ impl<D: Inspect> Sequencer<D> {
     {
         match accepted {
             Accepted::More => {}
-            Accepted::Ready(command) => self.start(Transfer::of(opcode, command)),
+            Accepted::Ready(command) => {
+                let seeks = self.strapped || self.configured;
+                self.start(Transfer::of(seeks, opcode, command));
+            }
             Accepted::Invalid => self.refuse(),
         }
     }
@@ -168,7 +172,7 @@ impl<D: Inspect> Sequencer<D> {
         ensures { Starts transfer (front_state D.state self.old) (front_state D.state self.new) }
     {
         match transfer {
-            Some(transfer) if self.strapped || self.configured => self.seek_first(transfer),
+            Some(transfer) if transfer.seeks => self.seek_first(transfer),
             Some(transfer) => self.begin_sector(transfer, false, false),
             None => self.stage = Stage::Through,
         }

@@ -92,6 +92,7 @@ impl Saved for Transfer {
         self.last_sector.save(to);
         self.gap.save(to);
         self.length.save(to);
+        self.seeks.save(to);
     }
 
     #[tactic(auto, unfolding(crate::specs::Saving::spelled_transfer))]
@@ -102,6 +103,7 @@ impl Saved for Transfer {
         let last_sector = u8::load(from);
         let gap = u8::load(from);
         let length = u8::load(from);
+        let seeks = bool::load(from);
         Transfer {
             opcode,
             head_drive,
@@ -109,6 +111,7 @@ impl Saved for Transfer {
             last_sector,
             gap,
             length,
+            seeks,
         }
     }
 }

@@ -3,7 +3,7 @@ ghost use Rattle.std.specs.Prelude.{◌≡◌, ◌≤◌, IfOk, IsTrue, IsFalse,
 ghost use Rattle.fdc_adapter.specs.Adapters.{controller_of, SameDrives};
 ghost use Rattle.fdc_core.specs.Dma.{to_memory_of};
 ghost use Rattle.fdc_core.specs.Whole.{ending_told, mark_of};
-ghost use Rattle.fdc_sequencer.specs.Fronts.{front_state, adapter_of, IsNewFront, interrupts_outside, asks_outside};
+ghost use Rattle.fdc_sequencer.specs.Fronts.{front_state, adapter_of, with_seeks, IsNewFront, interrupts_outside, asks_outside};
 ghost use Rattle.fdc_sequencer.specs.Moves.{HasLinesOutside, IsUnderWay, LeapsFront, RunsFront, RunsFrontWith, is_unwanted};
 
 use crate::stage::{Moving, Stage};
@@ -49,12 +49,12 @@ impl<D: Inspect> Sequencer<D> {
         self.strapped = on;
     }
 
-    /// Lets no command seek its cylinder first, whatever a strap or CONFIGURE has set.
-    pub fn drop_seeks(&mut self)
-        ensures state { front_state D.state self.new ≡ record (front_state D.state self.old) { strapped = false; configured = false } }
+    /// Lets each command of several sectors seek its cylinder first, or none, whatever a strap or CONFIGURE has set.
+    pub fn imply_seeks(&mut self, on: bool)
+        ensures state { front_state D.state self.new ≡ with_seeks on (front_state D.state self.old) }
         ensures drives { SameDrives (adapter_of self.old) (adapter_of self.new) }
     {
-        self.strapped = false;
+        self.strapped = on;
         self.configured = false;
     }
 

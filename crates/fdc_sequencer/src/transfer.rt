@@ -1,16 +1,32 @@
 // A command of several sectors, as it stands at one of them.
 ghost use Rattle.std.specs.Prelude.{◌≡◌};
-ghost use Rattle.fdc_sequencer.specs.Transfers.{transfer_of, command_of, next_of, is_last, is_other, other_mark, is_skipping, results_told, size_of};
+ghost use Rattle.fdc_sequencer.specs.Fronts.{drive_bit};
+ghost use Rattle.fdc_sequencer.specs.Transfers.{transfer_of, command_of, next_of, is_last, is_other, other_mark, is_skipping, results_sought, results_told, size_of};
 
 use crate::opcode::{Opcode, Operation};
 use fdc_commands::{Command, Results};
 use fdc_phases::results;
-use fdc_registers::{Flags, St2};
+use fdc_registers::{Flags, Msr, St0, St2};
 use fdc_stages::Ending;
 use flop_base::Chrn;
 
 /// The bit of the head in the second byte of a command.
 const HEAD: u8 = 0x04;
+
+/// How many drives the second byte of a command can name.
+const DRIVES: u8 = 4;
+
+/// The seek bit of a command's drive, as MSR has it.
+pub fn drive_bit(head_drive: u8) -> Msr
+    ensures { result.0 ≡ drive_bit head_drive }
+{
+    match head_drive % DRIVES {
+        0 => Msr::SEEKING_0,
+        1 => Msr::SEEKING_1,
+        2 => Msr::SEEKING_2,
+        _ => Msr::SEEKING_3,
+    }
+}
 
 /// A command of several sectors, as it stands at one of them.
 #[derive(Clone, Copy, PartialEq, Eq, Debug)]
@@ -24,12 +40,15 @@ pub struct Transfer {
     pub last_sector: u8,
     pub gap: u8,
     pub length: u8,
+    /// Whether the heads went to the cylinder of the first sector before it, by an implied seek.
+    pub seeks: bool,
 }
 
 impl Transfer {
-    /// The command of several sectors that the controller's own command for its first sector spells.
-    pub(crate) fn of(opcode: Opcode, command: Command) -> Option<Transfer>
-        ensures { result ≡ transfer_of opcode command }
+    /// The command of several sectors that the controller's own command for its first sector spells. `seeks` says
+    /// whether the heads go to its cylinder first.
+    pub(crate) fn of(seeks: bool, opcode: Opcode, command: Command) -> Option<Transfer>
+        ensures { result ≡ transfer_of seeks opcode command }
     {
         match command {
             Command::ReadData {
@@ -59,6 +78,7 @@ impl Transfer {
                 last_sector: eot,
                 gap: gpl,
                 length: dtl,
+                seeks,
             }),
             _ => None,
         }
@@ -75,6 +95,7 @@ impl Transfer {
             last_sector,
             gap,
             length,
+            ..
         } = self;
         match opcode.operation {
             Operation::Read { .. } => Command::ReadData {
@@ -196,14 +217,29 @@ impl Transfer {
     /// The results if the command ends at this sector with this ending. `passed_over` says that a field with the other
     /// mark was passed over.
     pub(crate) fn results(self, ending: Ending, key: Chrn, passed_over: bool) -> Results
-        ensures { result ≡ results_told ending self.head_drive key passed_over }
+        ensures { result ≡ results_told ending self key passed_over }
     {
-        let told = results(ending, self.head_drive, key);
+        let told = self.results_sought(ending, key);
         if !passed_over {
             return told;
         }
         Results {
             st2: told.st2.union(St2::CONTROL_MARK),
+            ..told
+        }
+    }
+
+    /// The results without CM. They have SE if the heads went to the cylinder first (data sheet: SE is set too where a
+    /// read or write made an implied seek).
+    fn results_sought(self, ending: Ending, key: Chrn) -> Results
+        ensures { result ≡ results_sought ending self key }
+    {
+        let told = results(ending, self.head_drive, key);
+        if !self.seeks {
+            return told;
+        }
+        Results {
+            st0: told.st0.union(St0::SEEK_END),
             ..told
         }
     }

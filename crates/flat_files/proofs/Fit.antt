@@ -9,6 +9,7 @@ use Rattle.flop_base.specs.declared.answers.Rate.{Rate}
 use Rattle.flop_base.specs.declared.answers.Rate.TheVariants.{R500, R250}
 use Rattle.flop_base.specs.declared.key.Chrn.{Chrn}
 use Rattle.raw_image.specs.Disk.{Disk, HasTrack, track_of}
+use Rattle.track_format.specs.Gaps.{narrow_gap}
 use Rattle.track_model.specs.Fields.{AreAddresses, IsAddressAt}
 use Rattle.track_model.specs.declared.Field.{Field}
 use Rattle.track_model.proofs.Unique.{one_key}
@@ -77,8 +78,8 @@ most_words R250 = omega arith
 small : (sectors content gap words : ℕ) → 146 + sectors * (62 + content + gap) ≤ words → words ≤ 12500 → sectors ≤ 255
 small sectors content gap words fits most = omega (arith, fits, most)
 
-few : (rate : Rate) (track : ImdTrack) (words : List ℕ) → IsMadeTrack rate track words → 1 ≤ length track.sectors → length track.sectors ≤ 255
-few rate track words made some =
+few : (least : ℕ) (rate : Rate) (track : ImdTrack) (words : List ℕ) → IsMadeTrack least rate track words → 1 ≤ length track.sectors → length track.sectors ≤ 255
+few least rate track words made some =
     ⊎_elim (λ empty. let none = ap length empty.0 in absurd (omega (arith, none, some)))
     (λ laid. small (length track.sectors) _ laid.1 (words_at rate) laid.2.suits.fits (most_words rate)) made
 
@@ -90,10 +91,10 @@ few_sectors form bytes disk has =
     let below = number.below in
     let many = length-map-range_with_len f 0 (tracks_of form) in
     let made = has.made.made track (f track) (omega (arith, many, below)) in
-    let laid : IsMadeTrack form.rate (f track) (track_of disk (f track).c (f track).h) =
-    subst (λ (it : ImdTrack). IsMadeTrack form.rate it (track_of disk it.c it.h)) (track_is form bytes track (f track) below) made in
+    let laid : IsMadeTrack narrow_gap form.rate (f track) (track_of disk (f track).c (f track).h) =
+    subst (λ (it : ImdTrack). IsMadeTrack narrow_gap form.rate it (track_of disk it.c it.h)) (track_is form bytes track (f track) below) made in
     let count = length-map-range_with_len (form_sector form bytes track) 0 form.sectors in
-    let most = few form.rate (f track) (track_of disk (f track).c (f track).h) laid (omega (arith, count, has.form_is.some_sectors)) in
+    let most = few narrow_gap form.rate (f track) (track_of disk (f track).c (f track).h) laid (omega (arith, count, has.form_is.some_sectors)) in
     omega (arith, count, most)
 
 -- ---- the address fields of a track

@@ -8,6 +8,7 @@ use Rattle.flop_base.specs.declared.answers.Rate.{Rate}
 use Rattle.raw_image.specs.Disk.{Disk}
 use Rattle.raw_image.specs.declared.error.ImageError.{ImageError}
 use Rattle.raw_image.specs.declared.error.ImageError.TheVariants.{TooShort, Trailing}
+use Rattle.track_format.specs.Gaps.{narrow_gap}
 use Rattle.imagedisk.specs.Found.{HasImage}
 use Rattle.imagedisk.specs.Made.{IsMediumOf}
 use Rattle.imagedisk.specs.declared.image.ImdImage.{ImdImage}
@@ -80,7 +81,7 @@ told_of false false false true have sectors is = absurd cc
 told_of false false false false have sectors is = absurd cc
 
 form_from : (bytes : List ℕ) (sectors : ℕ) (rate : Rate) (disk : Disk) → 1 ≤ sectors → length bytes ≡ 160 * sectors * 512
-    → IsMediumOf (flat_image bytes sectors rate) disk → HasImage disk (flat_image bytes sectors rate) → HasForm (form_with sectors rate) bytes disk
+    → IsMediumOf narrow_gap (flat_image bytes sectors rate) disk → HasImage disk (flat_image bytes sectors rate) → HasForm (form_with sectors rate) bytes disk
 form_from bytes sectors rate disk some whole made found = record {
   form_is = record {
     some_cylinders = omega arith;
@@ -92,7 +93,7 @@ form_from bytes sectors rate disk some whole made found = record {
     most_size = omega arith;
   };
   whole = whole;
-  made = subst (λ (image : ImdImage). IsMediumOf image disk) (image_same bytes sectors rate) made;
+  made = subst (λ (image : ImdImage). IsMediumOf narrow_gap image disk) (image_same bytes sectors rate) made;
   found = subst (λ (image : ImdImage). HasImage disk image) (image_same bytes sectors rate) found;
 }
 

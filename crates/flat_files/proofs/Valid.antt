@@ -11,7 +11,7 @@ use Rattle.sector_map.specs.Flat.{IsDensity}
 use Rattle.imagedisk.specs.Images.{AreApart, IsImdImage, IsImdTrack}
 use Rattle.imagedisk.specs.Made.{IsCrowded, IsFirstCrowded}
 use Rattle.imagedisk.specs.declared.track.ImdTrack.{ImdTrack}
-use Rattle.track_format.specs.Gaps.{Suits}
+use Rattle.track_format.specs.Gaps.{Suits, narrow_gap}
 use Rattle.flat_files.specs.Flats.{flat_image, flat_sector, flat_track, rate_of}
 
 -- one more item of a list made from the indices
@@ -48,17 +48,17 @@ roomy sectors density =
     ⊎_elim (λ (nine : sectors ≡ 9). subst (λ (n : ℕ). Suits 2 n (words_at (rate_of n)) (gap_at (rate_of n))) (sym nine) (record { fits = omega arith; room = omega arith }))
     (λ (eighteen : sectors ≡ 18). subst (λ (n : ℕ). Suits 2 n (words_at (rate_of n)) (gap_at (rate_of n))) (sym eighteen) (record { fits = omega arith; room = omega arith })) density
 
-wide : (rate : Rate) → 16 ≤ gap_at rate
+wide : (rate : Rate) → narrow_gap ≤ gap_at rate
 wide R500 = omega arith
 wide R250 = omega arith
 
 -- no track is therefore crowded
-pub not_crowded : (bytes : List ℕ) (sectors c h i : ℕ) → IsDensity sectors → IsFirstCrowded (flat_image bytes sectors (rate_of sectors)) c h i → ⊥
+pub not_crowded : (bytes : List ℕ) (sectors c h i : ℕ) → IsDensity sectors → IsFirstCrowded narrow_gap (flat_image bytes sectors (rate_of sectors)) c h i → ⊥
 not_crowded bytes sectors c h i density first =
     let many : length (map (flat_track bytes sectors) (range_with_len 0 160)) ≡ 160 = length-map-range_with_len (flat_track bytes sectors) 0 160 in
     let below : i < 160 = subst (λ (n : ℕ). i < n) many first.there in
-    let crowded : IsCrowded (rate_of sectors) (flat_track bytes sectors i) =
-    subst (λ (one : ImdTrack). IsCrowded (rate_of sectors) one) (track_is bytes sectors i (flat_track bytes sectors i) below) (first.crowded (flat_track bytes sectors i)) in
+    let crowded : IsCrowded narrow_gap (rate_of sectors) (flat_track bytes sectors i) =
+    subst (λ (one : ImdTrack). IsCrowded narrow_gap (rate_of sectors) one) (track_is bytes sectors i (flat_track bytes sectors i) below) (first.crowded (flat_track bytes sectors i)) in
     let count : length (map (flat_sector bytes sectors (i / 2) (i % 2)) (range_with_len 0 sectors)) ≡ sectors = length-map-range_with_len (flat_sector bytes sectors (i / 2) (i % 2)) 0 sectors in
     crowded (gap_at (rate_of sectors)) (wide (rate_of sectors)) (omega arith)
     (subst (λ (n : ℕ). Suits 2 n (words_at (rate_of sectors)) (gap_at (rate_of sectors))) (sym count) (roomy sectors density))

@@ -7,6 +7,7 @@ use Rattle.raw_image.specs.Disk.{Disk}
 use Rattle.raw_image.specs.Image.{OrNoMemory}
 use Rattle.raw_image.specs.declared.error.ImageError.{ImageError}
 use Rattle.sector_map.specs.Flat.{sector_place, sectors_told}
+use Rattle.track_format.specs.Gaps.{narrow_gap}
 use Rattle.imagedisk.specs.Found.{HasImage}
 use Rattle.imagedisk.specs.Made.{IsMediumOf}
 use Rattle.imagedisk.specs.declared.image.ImdImage.{ImdImage}
@@ -42,7 +43,7 @@ rate_of sectors = if sectors == 18 then R500 else R250
 -- a disk has the sectors of a file, this many on each track, and no others
 pub record HasFlat (bytes : List ℕ) (sectors : ℕ) (disk : Disk) : Type 0 where
   pub told : sectors_told (length bytes) ≡ Ok sectors
-  pub made : IsMediumOf (flat_image bytes sectors (rate_of sectors)) disk
+  pub made : IsMediumOf narrow_gap (flat_image bytes sectors (rate_of sectors)) disk
   pub found : HasImage disk (flat_image bytes sectors (rate_of sectors))
 
 -- the medium of a flat file, or what is wrong with the file's length, unless memory ran out

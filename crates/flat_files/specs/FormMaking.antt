@@ -8,6 +8,7 @@ use Rattle.imagedisk.specs.declared.sector.ImdKind.TheVariants.{Good}
 use Rattle.imagedisk.specs.declared.sector.ImdSector.{ImdSector}
 use Rattle.imagedisk.specs.declared.track.ImdTrack.{ImdTrack}
 use Rattle.raw_image.specs.Disk.{Disk}
+use Rattle.track_format.specs.Gaps.{narrow_gap}
 use Rattle.flat_files.specs.Forms.{IsForm, cylinder_of, file_length, head_of, sector_bytes, sector_place, tracks_of}
 use Rattle.flat_files.specs.declared.form_fault.FormFault.{FormFault}
 use Rattle.flat_files.specs.declared.form_fault.FormFault.TheVariants as fault
@@ -38,14 +39,14 @@ form_image form bytes = record { rate = form.rate; tracks = map (form_track form
 pub record HasForm (form : FlatForm) (bytes : List ℕ) (disk : Disk) : Type 0 where
   pub form_is : IsForm form
   pub whole : length bytes ≡ file_length form
-  pub made : IsMediumOf (form_image form bytes) disk
+  pub made : IsMediumOf narrow_gap (form_image form bytes) disk
   pub found : HasImage disk (form_image form bytes)
 
 -- The medium of a flat file, or why there is none, unless memory ran out. There is no such geometry, the file has
--- another length, or a track has no room.
+-- another length, or a track has no room, however narrow the gaps between its sectors.
 abbrev pub MakesForm : FlatForm → List ℕ → Result Disk FormFault → Type 0
 MakesForm form bytes (Ok disk) = HasForm form bytes disk
 MakesForm form bytes (Err fault.NoForm) = IsForm form → ⊥
 MakesForm form bytes (Err fault.Length) = length bytes ≡ file_length form → ⊥
-MakesForm form bytes (Err fault.Crowded) = (c : ℕ) × (h : ℕ) × (i : ℕ) × IsFirstCrowded (form_image form bytes) c h i
+MakesForm form bytes (Err fault.Crowded) = (c : ℕ) × (h : ℕ) × (i : ℕ) × IsFirstCrowded narrow_gap (form_image form bytes) c h i
 MakesForm form bytes (Err fault.NoMemory) = Unit {0}

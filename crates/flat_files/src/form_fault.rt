@@ -14,7 +14,7 @@ pub enum FormFault {
     /// The file has another length.
     #[error("another length")]
     Length,
-    /// A track has no room for its sectors.
+    /// A track has no room for its sectors, however narrow the gaps between them.
     #[error("no room on a track")]
     Crowded,
     /// Memory ran out. This says nothing of the file.

@@ -8,6 +8,7 @@ use imagedisk::{ImdError, to_medium};
 use raw_image::{ImageError, Medium};
 use sector_map::flat::check;
 use std::alloc::Global;
+use track_format::NARROW_GAP;
 
 /// The rate at which a diskette has this many sectors per track, 18 or 9.
 fn rate_of(sectors: u8) -> Rate
@@ -38,7 +39,7 @@ pub fn flat_medium(alloc: Global, bytes: &[u8]) -> Result<Medium, ImageError>
 {
     let sectors = check(bytes)?;
     let image = flat_image(alloc, bytes, sectors, rate_of(sectors))?;
-    match to_medium(alloc, &image) {
+    match to_medium(alloc, &image, NARROW_GAP) {
         Ok(medium) => Ok(medium),
         Err(error) => Err(fault(error)),
     }

@@ -9,15 +9,15 @@ use Rattle.track_model.specs.declared.Look.TheVariants.{Found, NoData, BadCrc}
 use Rattle.track_model.specs.Fields.{IsAddressAt, content_at, content_size}
 use Rattle.track_model.specs.Looks.{LookAt}
 use Rattle.track_model.specs.Writing.{window}
-use Rattle.track_model.specs.Windows.{window_place, window_words, damaged_window, cut_of, IsFieldFor}
-use Rattle.track_model.specs.Regular.{IsSpaced}
-use Rattle.track_model.specs.Kept.{KeepsOthers}
+use Rattle.track_model.specs.Windows.{window_place, window_words, damaged_window, empty_window, cut_of, IsFieldFor}
 use Rattle.track_model.specs.Layouts.{lay, laid_words, Fits}
 use Rattle.track_model.specs.LaidFields.{sector_place, IsKey}
 use Rattle.track_model.proofs.Written.{length-window}
-use Rattle.track_model.proofs.Kept.{cut_kept, cut_found, cut_content, damaged_all, damaged_kept, damaged_bad, empty_kept, empty_none}
-use Rattle.track_format.specs.Gaps.{IsLargestGap}
-use Rattle.track_format.proofs.Read.{read_fields, read_spaced}
+use Rattle.track_model.proofs.Parted.{IsParted}
+use Rattle.track_model.proofs.EmptyWindow.{empty_overlay, length-empty_window, own_none}
+use Rattle.track_model.proofs.Kept.{KeepsFields, whole_fields, window_overlay, damaged_overlay, whole_found, whole_content, whole_bad, damaged_all}
+use Rattle.track_format.specs.Gaps.{Suits}
+use Rattle.track_format.proofs.Read.{read_fields, read_parted}
 use Rattle.imagedisk.specs.declared.sector.ImdKind.{ImdKind}
 use Rattle.imagedisk.specs.declared.sector.ImdKind.TheVariants.{Absent, Good, Deleted, Bad, BadDeleted}
 use Rattle.imagedisk.specs.declared.sector.ImdSector.{ImdSector}
@@ -33,42 +33,47 @@ abbrev put_at : List ℕ → ℕ → ℕ → ImdKind → List ℕ → List ℕ
 put_at track p n kind content = cut_of track p (window_words n) (window_of n kind content)
 
 abbrev IsPutWell : List ℕ → ℕ → ℕ → ImdKind → List ℕ → Type 0
-IsPutWell track p n kind content = KeepsOthers track (put_at track p n kind content) p × IsFoundAs (put_at track p n kind content) p n kind content
+IsPutWell track p n kind content = KeepsFields track (put_at track p n kind content) p × IsFoundAs (put_at track p n kind content) p n kind content
 
-intact_put : (track : List ℕ) (p : ℕ) (key : Chrn) (deleted : Bool) (content : List ℕ) → IsSpaced track → IsAddressAt track p key → length content ≡ content_size key.n → ((j : ℕ) → get_or content j 0 < 2 ^ 8)
-    → KeepsOthers track (cut_of track p (window_words key.n) (window deleted content)) p
+intact_put : (track : List ℕ) (p : ℕ) (key : Chrn) (deleted : Bool) (content : List ℕ) → IsParted track → IsAddressAt track p key → length content ≡ content_size key.n → ((j : ℕ) → get_or content j 0 < 2 ^ 8)
+    → KeepsFields track (cut_of track p (window_words key.n) (window deleted content)) p
     × LookAt (cut_of track p (window_words key.n) (window deleted content)) p key.n (Found deleted (window_place p + 256))
     × (content ≡ content_at (cut_of track p (window_words key.n) (window deleted content)) (window_place p + 256) key.n)
-intact_put track p key deleted content spaced here size bytes =
+intact_put track p key deleted content parted here size bytes =
     let field : IsFieldFor track p key content = record { address = here; size = size } in
     let k = window_words key.n in
     let long = length-window deleted content in
     let all : k ≡ length (window deleted content) = omega (arith, long, size) in (
-      cut_kept track p key deleted content k spaced field (omega arith) (inr all),
-      cut_found track p key deleted content k spaced field bytes all,
-      cut_content track p key deleted content k spaced field bytes all,
+      whole_fields track p key (window deleted content) k here (window_overlay track p key deleted content k field) all parted,
+      whole_found track p key deleted content k field parted bytes all,
+      whole_content track p key deleted content k field parted bytes all,
     )
 
-damaged_put : (track : List ℕ) (p : ℕ) (key : Chrn) (deleted : Bool) (content : List ℕ) → IsSpaced track → IsAddressAt track p key → length content ≡ content_size key.n → ((j : ℕ) → get_or content j 0 < 2 ^ 8)
-    → KeepsOthers track (cut_of track p (window_words key.n) (damaged_window deleted content)) p
+damaged_put : (track : List ℕ) (p : ℕ) (key : Chrn) (deleted : Bool) (content : List ℕ) → IsParted track → IsAddressAt track p key → length content ≡ content_size key.n → ((j : ℕ) → get_or content j 0 < 2 ^ 8)
+    → KeepsFields track (cut_of track p (window_words key.n) (damaged_window deleted content)) p
     × LookAt (cut_of track p (window_words key.n) (damaged_window deleted content)) p key.n BadCrc
-damaged_put track p key deleted content spaced here size bytes =
+damaged_put track p key deleted content parted here size bytes =
     let field : IsFieldFor track p key content = record { address = here; size = size } in
     let k = window_words key.n in
     let long = damaged_all deleted content in
-    let all : k ≡ length (damaged_window deleted content) = omega (arith, long, size) in
-    (damaged_kept track p key deleted content k spaced field all, damaged_bad track p key deleted content k spaced field bytes all)
+    let all : k ≡ length (damaged_window deleted content) = omega (arith, long, size) in (
+      whole_fields track p key (damaged_window deleted content) k here (damaged_overlay track p key deleted content k field) all parted,
+      whole_bad track p key deleted content k field parted bytes all,
+    )
 
-put_well : (track : List ℕ) (p : ℕ) (key : Chrn) (kind : ImdKind) (content : List ℕ) → IsSpaced track → IsAddressAt track p key → length content ≡ kept_size kind key.n → ((j : ℕ) → get_or content j 0 < 2 ^ 8)
+put_well : (track : List ℕ) (p : ℕ) (key : Chrn) (kind : ImdKind) (content : List ℕ) → IsParted track → IsAddressAt track p key → length content ≡ kept_size kind key.n → ((j : ℕ) → get_or content j 0 < 2 ^ 8)
     → IsPutWell track p key.n kind content
-put_well track p key Absent content spaced here size bytes = (empty_kept track p key (window_words key.n) spaced here refl, empty_none track p key (window_words key.n) spaced here refl)
-put_well track p key Good content spaced here size bytes = let put = intact_put track p key false content spaced here size bytes in (put.0, (window_place p + 256, put.1, put.2))
-put_well track p key Deleted content spaced here size bytes = let put = intact_put track p key true content spaced here size bytes in (put.0, (window_place p + 256, put.1, put.2))
-put_well track p key Bad content spaced here size bytes = damaged_put track p key false content spaced here size bytes
-put_well track p key BadDeleted content spaced here size bytes = damaged_put track p key true content spaced here size bytes
+put_well track p key Absent content parted here size bytes = (
+  whole_fields track p key (empty_window key.n) (window_words key.n) here (empty_overlay key.n) (sym (length-empty_window key.n)) parted,
+  own_none track p key (window_words key.n) parted here refl,
+)
+put_well track p key Good content parted here size bytes = let put = intact_put track p key false content parted here size bytes in (put.0, (window_place p + 256, put.1, put.2))
+put_well track p key Deleted content parted here size bytes = let put = intact_put track p key true content parted here size bytes in (put.0, (window_place p + 256, put.1, put.2))
+put_well track p key Bad content parted here size bytes = damaged_put track p key false content parted here size bytes
+put_well track p key BadDeleted content parted here size bytes = damaged_put track p key true content parted here size bytes
 
 -- what is found of another sector stays
-kept_found : (track after : List ℕ) (p q : ℕ) (key : Chrn) (kind : ImdKind) (content : List ℕ) → KeepsOthers track after p → q ≢ p → IsAddressAt track q key
+kept_found : (track after : List ℕ) (p q : ℕ) (key : Chrn) (kind : ImdKind) (content : List ℕ) → KeepsFields track after p → q ≢ p → IsAddressAt track q key
     → IsFoundAs track q key.n kind content → IsFoundAs after q key.n kind content
 kept_found track after p q key Absent content kept other here found = (kept.looks q key NoData other here).0 found
 kept_found track after p q key Good content kept other here found =
@@ -91,25 +96,25 @@ record IsPutOver (before after : List ℕ) (n gap3 first : ℕ) (sectors : List 
   others : (q : ℕ) (key : Chrn) (kind : ImdKind) (content : List ℕ) → ((i : ℕ) → i < length sectors → q ≢ sector_place n gap3 (first + i))
       → IsAddressAt before q key → IsFoundAs before q key.n kind content → IsFoundAs after q key.n kind content
 
-put_over : (n gap3 first : ℕ) (sectors : List ImdSector) (track : List ℕ) → IsSpaced track → All (IsImdSector n) sectors
+put_over : (n gap3 first : ℕ) (sectors : List ImdSector) (track : List ℕ) → IsParted track → All (IsImdSector n) sectors
     → ((i : ℕ) (d : ImdSector) → i < length sectors → IsAddressAt track (sector_place n gap3 (first + i)) (get_or sectors i d).key)
     → IsPutOver track (with_sectors n gap3 first sectors track) n gap3 first sectors
 unfolding with_sectors
-put_over n gap3 first [] track spaced valid here = record {
+put_over n gap3 first [] track parted valid here = record {
   addresses = λ q key. (λ x. x, λ x. x);
   found = λ i d lt. absurd (omega arith);
   others = λ q key kind content apart address found. found;
 }
-put_over n gap3 first (sector ∷ sectors) track spaced valid here =
+put_over n gap3 first (sector ∷ sectors) track parted valid here =
     let p = sector_place n gap3 first in
     let put = put_at track p n sector.kind sector.content in
     let coded = (valid 0 sector (omega arith)).coded in
     let at : IsAddressAt track p sector.key = subst (λ (k : ℕ). IsAddressAt track (sector_place n gap3 k) sector.key) (omega arith) (here 0 sector (omega arith)) in
     let well : IsPutWell track p n sector.kind sector.content =
     subst (λ (m : ℕ). IsPutWell track p m sector.kind sector.content) coded
-    (put_well track p sector.key sector.kind sector.content spaced at (subst (λ (m : ℕ). length sector.content ≡ kept_size sector.kind m) (sym coded) (valid 0 sector (omega arith)).size) (valid 0 sector (omega arith)).bytes) in
+    (put_well track p sector.key sector.kind sector.content parted at (subst (λ (m : ℕ). length sector.content ≡ kept_size sector.kind m) (sym coded) (valid 0 sector (omega arith)).size) (valid 0 sector (omega arith)).bytes) in
     let next : (i : ℕ) → first + suc i ≡ suc first + i = λ i. omega arith in
-    let ih = put_over n gap3 (suc first) sectors put well.0.spaced (λ i d lt. valid (suc i) d (omega arith))
+    let ih = put_over n gap3 (suc first) sectors put well.0.parted (λ i d lt. valid (suc i) d (omega arith))
     (λ i d lt. (well.0.addresses (sector_place n gap3 (suc first + i)) (get_or sectors i d).key).0
     (subst (λ (k : ℕ). IsAddressAt track (sector_place n gap3 k) (get_or sectors i d).key) (next i) (here (suc i) d (omega arith)))) in
     let own : IsFoundAs put p sector.key.n sector.kind sector.content = subst (λ (m : ℕ). IsFoundAs put p m sector.kind sector.content) (sym coded) well.1 in
@@ -140,22 +145,22 @@ key_count : (sectors : List ImdSector) → length (keys_of sectors) ≡ length s
 key_count [] = refl
 key_count (sector ∷ sectors) = ap suc (key_count sectors)
 
-laid_has : (rate : Rate) (track : ImdTrack) (gap3 : ℕ) → IsImdTrack track → IsLargestGap track.n (length track.sectors) rate gap3 → HasSectors (laid_track rate track gap3) track.sectors
-laid_has rate track gap3 valid largest =
+laid_has : (rate : Rate) (track : ImdTrack) (gap3 : ℕ) → IsImdTrack track → Suits track.n (length track.sectors) (words_at rate) gap3 → HasSectors (laid_track rate track gap3) track.sectors
+laid_has rate track gap3 valid suits =
     let sectors = track.sectors in
     let keys = keys_of sectors in
     let n = track.n in
     let words = words_at rate in
     let count = key_count sectors in
-    let fits : Fits keys n gap3 words = subst (λ (k : ℕ). laid_words k n gap3 ≤ words) (sym count) largest.suits.fits in
+    let fits : Fits keys n gap3 words = subst (λ (k : ℕ). laid_words k n gap3 ≤ words) (sym count) suits.fits in
     let are_keys : All IsKey keys = λ i e lt. subst IsKey (sym (key_of sectors i no_sector e (omega (arith, count)))) (valid.sectors i no_sector (omega (arith, count))).key in
     let asked : All (λ key. key.n ≡ n) keys = λ i e lt. subst (λ (key : Chrn). key.n ≡ n) (sym (key_of sectors i no_sector e (omega (arith, count)))) (valid.sectors i no_sector (omega (arith, count))).coded in
     let small : standard_fill < 256 = omega arith in
     let fields = read_fields keys n gap3 standard_fill words fits valid.coded small are_keys in
-    let spaced = read_spaced keys n gap3 standard_fill words fits valid.coded are_keys asked largest.least
-    (subst (λ (k : ℕ). 27 ≤ gap3 + (words - laid_words k n gap3)) (sym count) largest.suits.room) in
+    let parted = read_parted keys n gap3 standard_fill words fits valid.coded are_keys asked
+    (subst (λ (k : ℕ). 27 ≤ gap3 + (words - laid_words k n gap3)) (sym count) suits.room) in
     let laid = lay keys n gap3 standard_fill words in
-    let over = put_over n gap3 0 sectors laid spaced valid.sectors
+    let over = put_over n gap3 0 sectors laid parted valid.sectors
     (λ i d lt. subst (λ (k : ℕ). IsAddressAt laid (sector_place n gap3 k) (get_or sectors i d).key) (omega arith)
     (subst (λ (key : Chrn). IsAddressAt laid (sector_place n gap3 i) key) (key_of sectors i d d.key lt) (fields.each i d.key (omega (arith, count))))) in
     record {
@@ -189,6 +194,6 @@ empty_has rate = record {
   only = λ p key at. absurd (nothing_there (words_at rate) p key at);
 }
 
-pub made_has : (rate : Rate) (track : ImdTrack) (words : List ℕ) → IsImdTrack track → IsMadeTrack rate track words → HasSectors words track.sectors
-made_has rate track words valid (inl none) = subst (λ (sectors : List ImdSector). HasSectors words sectors) (sym none.0) (subst (λ (ws : List ℕ). HasSectors ws []) (sym none.1) (empty_has rate))
-made_has rate track words valid (inr some) = subst (λ (ws : List ℕ). HasSectors ws track.sectors) (sym some.3) (laid_has rate track some.1 valid some.2)
+pub made_has : (least : ℕ) (rate : Rate) (track : ImdTrack) (words : List ℕ) → IsImdTrack track → IsMadeTrack least rate track words → HasSectors words track.sectors
+made_has least rate track words valid (inl none) = subst (λ (sectors : List ImdSector). HasSectors words sectors) (sym none.0) (subst (λ (ws : List ℕ). HasSectors ws []) (sym none.1) (empty_has rate))
+made_has least rate track words valid (inr some) = subst (λ (ws : List ℕ). HasSectors ws track.sectors) (sym some.3) (laid_has rate track some.1 valid some.2.suits)

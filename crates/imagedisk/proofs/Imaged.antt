@@ -91,12 +91,12 @@ at_or_not (track ∷ tracks) c h =
       ]
     ]
 
-pub medium_has : (image : ImdImage) (disk : Disk) → IsImdImage image → IsMediumOf image disk → HasImage disk image
-medium_has image disk valid is = record {
+pub medium_has : (least : ℕ) (image : ImdImage) (disk : Disk) → IsImdImage image → IsMediumOf least image disk → HasImage disk image
+medium_has least image disk valid is = record {
   there = λ i d lt. has_track image disk i d valid is.shape lt;
   tracks = λ i d lt.
       let track = get_or image.tracks i d in
-      made_has image.rate track (track_of disk track.c track.h) (valid.tracks i d lt) (is.made i d lt);
+      made_has least image.rate track (track_of disk track.c track.h) (valid.tracks i d lt) (is.made i d lt);
   others = λ c h has. elim (at_or_not image.tracks c h) [
     | inl at ↦ inl at
     | inr none ↦ (

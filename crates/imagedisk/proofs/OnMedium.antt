@@ -55,8 +55,8 @@ one_track word start words count le =
     ap (λ (row : List ℕ). take words row) (drop-replicate start count word) ∙ take-replicate words (count - start) word (omega arith)
 
 blank_first : (image : ImdImage) → IsDisk (blank_disk (cylinder_count image.tracks) (head_count image.tracks) (words_at image.rate) image.rate)
-    → HasFirst image (blank_disk (cylinder_count image.tracks) (head_count image.tracks) (words_at image.rate) image.rate) 0
-blank_first image valid =
+    → (least : ℕ) → HasFirst least image (blank_disk (cylinder_count image.tracks) (head_count image.tracks) (words_at image.rate) image.rate) 0
+blank_first image valid least =
     let disk = blank_disk (cylinder_count image.tracks) (head_count image.tracks) (words_at image.rate) image.rate in
     record {
       shape = record { valid = valid; protected = refl; cylinders = refl; heads = refl; rate = refl; words_per_track = refl };
@@ -64,8 +64,8 @@ blank_first image valid =
       others = λ c h has none. one_track 0 (track_start disk c h) disk.words_per_track (disk.cylinders * disk.heads * disk.words_per_track) (track_inside disk c h valid.heads has);
     }
 
-pub begun : (image : ImdImage) (disk : Disk) → disk ≡ blank_disk (cylinder_count image.tracks) (head_count image.tracks) (words_at image.rate) image.rate → IsDisk disk → HasFirst image disk 0
-begun image disk is valid = subst (λ (d : Disk). IsDisk d → HasFirst image d 0) (sym is) (blank_first image) valid
+pub begun : (least : ℕ) (image : ImdImage) (disk : Disk) → disk ≡ blank_disk (cylinder_count image.tracks) (head_count image.tracks) (words_at image.rate) image.rate → IsDisk disk → HasFirst least image disk 0
+begun least image disk is valid = subst (λ (d : Disk). IsDisk d → HasFirst least image d 0) (sym is) (λ is_disk. blank_first image is_disk least) valid
 
 pub whole_track : (count : ℕ) (all words : List ℕ) → length words ≡ count → take 0 (take count all) ++ (words ++ drop (0 + length words) (take count all)) ≡ words
 whole_track count all words len =
@@ -81,13 +81,13 @@ has_track image disk i d valid shape lt =
     let heads = shape.heads in
     (omega (arith, c_in, cylinders), omega (arith, h_in, heads))
 
-is_roomy : (rate : Rate) (track : ImdTrack) (words : List ℕ) → IsMadeTrack rate track words → IsRoomy rate track
-is_roomy rate track words (inl none) = inl none.0
-is_roomy rate track words (inr some) = inr (some.1, some.2)
+is_roomy : (least : ℕ) (rate : Rate) (track : ImdTrack) (words : List ℕ) → IsMadeTrack least rate track words → IsRoomy least rate track
+is_roomy least rate track words (inl none) = inl none.0
+is_roomy least rate track words (inr some) = inr (some.1, some.2)
 
-pub next_first : (image : ImdImage) (disk after : Disk) (i : ℕ) (d : ImdTrack) (words : List ℕ) → IsImdImage image → i < length image.tracks → HasFirst image disk i
-    → IsWithTrack disk (get_or image.tracks i d).c (get_or image.tracks i d).h words after → IsMadeTrack image.rate (get_or image.tracks i d) words → HasFirst image after (i + 1)
-next_first image disk after i d words valid lt first with_it made =
+pub next_first : (least : ℕ) (image : ImdImage) (disk after : Disk) (i : ℕ) (d : ImdTrack) (words : List ℕ) → IsImdImage image → i < length image.tracks → HasFirst least image disk i
+    → IsWithTrack disk (get_or image.tracks i d).c (get_or image.tracks i d).h words after → IsMadeTrack least image.rate (get_or image.tracks i d) words → HasFirst least image after (i + 1)
+next_first least image disk after i d words valid lt first with_it made =
     let tracks = image.tracks in
     let this = get_or tracks i d in
     record {
@@ -106,12 +106,12 @@ next_first image disk after i d words valid lt first with_it made =
             let same_d : get_or tracks i e ≡ this = get_or_default tracks i e d lt in
             let apart = subst (λ (t : ImdTrack). (get_or tracks k e).c ≡ t.c → (get_or tracks k e).h ≡ t.h → ⊥) same_d (valid.apart k i e before lt) in
             let kept = with_it.others (get_or tracks k e).c (get_or tracks k e).h has apart in
-            subst (λ (ws : List ℕ). IsMadeTrack image.rate (get_or tracks k e) ws) (sym kept) (first.made k e before))
+            subst (λ (ws : List ℕ). IsMadeTrack least image.rate (get_or tracks k e) ws) (sym kept) (first.made k e before))
         | inr past ↦ (
             let at : i ≡ k = omega arith in
             let same : this ≡ get_or tracks k e = get_or_default tracks i d e lt ∙ ap (λ (n : ℕ). get_or tracks n e) at in
-            let here = subst (λ (ws : List ℕ). IsMadeTrack image.rate this ws) (sym with_it.has) made in
-            subst (λ (t : ImdTrack). IsMadeTrack image.rate t (track_of after t.c t.h)) same here)
+            let here = subst (λ (ws : List ℕ). IsMadeTrack least image.rate this ws) (sym with_it.has) made in
+            subst (λ (t : ImdTrack). IsMadeTrack least image.rate t (track_of after t.c t.h)) same here)
       ];
       others = λ c h has none.
           let cylinders = with_it.cylinders in
@@ -123,14 +123,14 @@ next_first image disk after i d words valid lt first with_it made =
           ∙ first.others c h had (λ k e less at. none k e (omega arith) at);
     }
 
-pub failed_track : (image : ImdImage) (disk new : Disk) (i : ℕ) (d : ImdTrack) (error : ImdError) → i < length image.tracks → HasFirst image disk i
-    → MakesTrack image.rate (get_or image.tracks i d) (Err error) → PutsTrack image i new (Err error)
-failed_track image disk new i d NoMemory lt first failed = tt
-failed_track image disk new i d (Unfit c h) lt first failed =
+pub failed_track : (least : ℕ) (image : ImdImage) (disk new : Disk) (i : ℕ) (d : ImdTrack) (error : ImdError) → i < length image.tracks → HasFirst least image disk i
+    → MakesTrack least image.rate (get_or image.tracks i d) (Err error) → PutsTrack least image i new (Err error)
+failed_track least image disk new i d NoMemory lt first failed = tt
+failed_track least image disk new i d (Unfit c h) lt first failed =
     let tracks = image.tracks in
     record {
       there = lt;
       place = λ e. let same : get_or tracks i d ≡ get_or tracks i e = get_or_default tracks i d e lt in subst (λ (t : ImdTrack). (t.c ≡ c) × (t.h ≡ h)) same (sym failed.0, sym failed.1);
-      crowded = λ e. let same : get_or tracks i d ≡ get_or tracks i e = get_or_default tracks i d e lt in subst (λ (t : ImdTrack). IsCrowded image.rate t) same failed.2;
-      roomy_before = λ k e less. is_roomy image.rate (get_or tracks k e) (track_of disk (get_or tracks k e).c (get_or tracks k e).h) (first.made k e less);
+      crowded = λ e. let same : get_or tracks i d ≡ get_or tracks i e = get_or_default tracks i d e lt in subst (λ (t : ImdTrack). IsCrowded least image.rate t) same failed.2;
+      roomy_before = λ k e less. is_roomy least image.rate (get_or tracks k e) (track_of disk (get_or tracks k e).c (get_or tracks k e).h) (first.made k e less);
     }

@@ -51,22 +51,22 @@ abbrev pub empty_words : Rate → List ℕ
 empty_words rate = replicate (words_at rate) 0
 
 -- The words of a track of an image. If the track has no sectors, nothing is recorded. Otherwise its sectors are laid
--- with the largest gap that suits them.
-abbrev pub IsMadeTrack : Rate → ImdTrack → List ℕ → Type 0
-IsMadeTrack rate track words =
+-- with the largest gap that suits them, from `least` on.
+abbrev pub IsMadeTrack : (least : ℕ) → Rate → ImdTrack → List ℕ → Type 0
+IsMadeTrack least rate track words =
     ((track.sectors ≡ []) × (words ≡ empty_words rate))
-    ⊎ ((1 ≤ length track.sectors) × (gap3 : ℕ) × IsLargestGap track.n (length track.sectors) rate gap3 × (words ≡ laid_track rate track gap3))
+    ⊎ ((1 ≤ length track.sectors) × (gap3 : ℕ) × IsLargestGap least track.n (length track.sectors) rate gap3 × (words ≡ laid_track rate track gap3))
 
--- no gap suits as many sectors as the track has
-abbrev pub IsCrowded : Rate → ImdTrack → Type 0
-IsCrowded rate track =
-    (gap3 : ℕ) → 16 ≤ gap3 → gap3 ≤ gap_at rate → Suits track.n (length track.sectors) (words_at rate) gap3 → ⊥
+-- no gap from `least` on suits as many sectors as the track has
+abbrev pub IsCrowded : (least : ℕ) → Rate → ImdTrack → Type 0
+IsCrowded least rate track =
+    (gap3 : ℕ) → least ≤ gap3 → gap3 ≤ gap_at rate → Suits track.n (length track.sectors) (words_at rate) gap3 → ⊥
 
 -- what is made of a track, or why nothing is
-abbrev pub MakesTrack : Rate → ImdTrack → Result (Vec ℕ) ImdError → Type 0
-MakesTrack rate track (Ok words) = IsMadeTrack rate track words.items
-MakesTrack rate track (Err (Unfit c h)) = (c ≡ track.c) × (h ≡ track.h) × IsCrowded rate track
-MakesTrack rate track (Err NoMemory) = Unit {0}
+abbrev pub MakesTrack : (least : ℕ) → Rate → ImdTrack → Result (Vec ℕ) ImdError → Type 0
+MakesTrack least rate track (Ok words) = IsMadeTrack least rate track words.items
+MakesTrack least rate track (Err (Unfit c h)) = (c ≡ track.c) × (h ≡ track.h) × IsCrowded least rate track
+MakesTrack least rate track (Err NoMemory) = Unit {0}
 
 -- one more than the greatest cylinder, or 1 if there is no track
 abbrev pub cylinder_count : List ImdTrack → ℕ
@@ -95,36 +95,36 @@ abbrev pub IsAtPlace : ImdImage → ℕ → ImdTrack → ℕ → ℕ → Type 0
 IsAtPlace image i d c h = ((slice_index_or image.tracks i d).c ≡ c) × ((slice_index_or image.tracks i d).h ≡ h)
 
 -- the first `count` tracks of the image are on the diskette, and nothing is recorded elsewhere
-pub record HasFirst (image : ImdImage) (disk : Disk) (count : ℕ) : Type 0 where
+pub record HasFirst (least : ℕ) (image : ImdImage) (disk : Disk) (count : ℕ) : Type 0 where
   pub shape : HasShape image disk
   pub made : (i : ℕ) (d : ImdTrack) → i < count
-      → IsMadeTrack image.rate (slice_index_or image.tracks i d) (track_of disk (slice_index_or image.tracks i d).c (slice_index_or image.tracks i d).h)
+      → IsMadeTrack least image.rate (slice_index_or image.tracks i d) (track_of disk (slice_index_or image.tracks i d).c (slice_index_or image.tracks i d).h)
   pub others : (c h : ℕ) → HasTrack disk c h → ((i : ℕ) (d : ImdTrack) → i < count → IsAtPlace image i d c h → ⊥)
       → track_of disk c h ≡ empty_words image.rate
 
 -- the diskette of an image has all the image's tracks, and nothing is recorded elsewhere
-abbrev pub IsMediumOf : ImdImage → Disk → Type 0
-IsMediumOf image disk = HasFirst image disk (length image.tracks)
+abbrev pub IsMediumOf : (least : ℕ) → ImdImage → Disk → Type 0
+IsMediumOf least image disk = HasFirst least image disk (length image.tracks)
 
 -- the track has room for its sectors
-abbrev pub IsRoomy : Rate → ImdTrack → Type 0
-IsRoomy rate track = (track.sectors ≡ []) ⊎ ((gap3 : ℕ) × IsLargestGap track.n (length track.sectors) rate gap3)
+abbrev pub IsRoomy : (least : ℕ) → Rate → ImdTrack → Type 0
+IsRoomy least rate track = (track.sectors ≡ []) ⊎ ((gap3 : ℕ) × IsLargestGap least track.n (length track.sectors) rate gap3)
 
 -- the first track of the image that has no room for its sectors
-pub record IsFirstCrowded (image : ImdImage) (c h i : ℕ) : Type 0 where
+pub record IsFirstCrowded (least : ℕ) (image : ImdImage) (c h i : ℕ) : Type 0 where
   pub there : i < length image.tracks
   pub place : (d : ImdTrack) → IsAtPlace image i d c h
-  pub crowded : (d : ImdTrack) → IsCrowded image.rate (slice_index_or image.tracks i d)
-  pub roomy_before : (k : ℕ) (d : ImdTrack) → k < i → IsRoomy image.rate (slice_index_or image.tracks k d)
+  pub crowded : (d : ImdTrack) → IsCrowded least image.rate (slice_index_or image.tracks i d)
+  pub roomy_before : (k : ℕ) (d : ImdTrack) → k < i → IsRoomy least image.rate (slice_index_or image.tracks k d)
 
 -- what putting a track on the diskette leads to, when the tracks before it are on the diskette
-abbrev pub PutsTrack : ImdImage → ℕ → Disk → Result (Unit {0}) ImdError → Type 0
-PutsTrack image i disk (Ok done) = HasFirst image disk (i + 1)
-PutsTrack image i disk (Err (Unfit c h)) = IsFirstCrowded image c h i
-PutsTrack image i disk (Err NoMemory) = Unit {0}
+abbrev pub PutsTrack : (least : ℕ) → ImdImage → ℕ → Disk → Result (Unit {0}) ImdError → Type 0
+PutsTrack least image i disk (Ok done) = HasFirst least image disk (i + 1)
+PutsTrack least image i disk (Err (Unfit c h)) = IsFirstCrowded least image c h i
+PutsTrack least image i disk (Err NoMemory) = Unit {0}
 
 -- what making the diskette of an image leads to
-abbrev pub MakesDisk : ImdImage → Result Disk ImdError → Type 0
-MakesDisk image (Ok disk) = IsMediumOf image disk
-MakesDisk image (Err (Unfit c h)) = (i : ℕ) × IsFirstCrowded image c h i
-MakesDisk image (Err NoMemory) = Unit {0}
+abbrev pub MakesDisk : (least : ℕ) → ImdImage → Result Disk ImdError → Type 0
+MakesDisk least image (Ok disk) = IsMediumOf least image disk
+MakesDisk least image (Err (Unfit c h)) = (i : ℕ) × IsFirstCrowded least image c h i
+MakesDisk least image (Err NoMemory) = Unit {0}

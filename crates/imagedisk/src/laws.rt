@@ -11,16 +11,16 @@ use raw_image::Medium;
 
 /// A law: a track that an image makes has the address fields of the image's sectors and no others, in their order. Good
 /// and deleted data are found, with their content. Bad data have a wrong CRC. Of absent data nothing is found.
-pub fn made_is_found(_rate: Rate, _track: &ImdTrack, _words: &[u16])
+pub fn made_is_found(_least: u8, _rate: Rate, _track: &ImdTrack, _words: &[u16])
     requires valid { IsImdTrack _track.now }
-    requires made { IsMadeTrack _rate _track.now _words.now }
+    requires made { IsMadeTrack _least _rate _track.now _words.now }
     ensures { HasSectors _words.now _track.now.sectors }
 {}
 
 /// A law: the diskette of an image has the image's tracks, each with its sectors, and has no other address field.
-pub fn medium_has_image(_image: &ImdImage, _medium: &Medium)
+pub fn medium_has_image(_least: u8, _image: &ImdImage, _medium: &Medium)
     requires valid { IsImdImage _image.now }
-    requires made { IsMediumOf _image.now _medium.now }
+    requires made { IsMediumOf _least _image.now _medium.now }
     ensures { HasImage _medium.now _image.now }
 {}
 
@@ -33,10 +33,10 @@ pub fn image_has_medium(_image: &ImdImage, _medium: &Medium)
 
 /// A law: an image is taken of a diskette, and a diskette is made of that image. The new diskette has the same sectors
 /// as the old one, track by track and in the same order, and no others.
-pub fn made_again_is_same(_old: &Medium, _image: &ImdImage, _new: &Medium)
+pub fn made_again_is_same(_least: u8, _old: &Medium, _image: &ImdImage, _new: &Medium)
     requires taken { IsImageOf _old.now _image.now }
     requires valid { IsImdImage _image.now }
-    requires made { IsMediumOf _image.now _new.now }
+    requires made { IsMediumOf _least _image.now _new.now }
     ensures kept { SharesSectors _old.now _new.now }
     ensures no_more { SharesSectors _new.now _old.now }
 {}

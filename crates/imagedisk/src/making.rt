@@ -1,5 +1,5 @@
 // The diskette of an image.
-ghost use Rattle.std.specs.Prelude.{◌≡◌, ◌<◌, ◌≤◌, All, IfOk, length};
+ghost use Rattle.std.specs.Prelude.{◌≡◌, ◌<◌, ◌≤◌, ℕ, All, IfOk, length};
 ghost use Rattle.raw_image.specs.Disk.{HasTrack, IsWithTrack};
 ghost use Rattle.imagedisk.specs.Images.{IsImdTrack, IsImdImage};
 ghost use Rattle.imagedisk.specs.Found.{HasImage};
@@ -45,7 +45,7 @@ fn head_count(tracks: &[ImdTrack]) -> u8
 /// A medium for the image, on which nothing is recorded yet.
 fn blank_medium(alloc: Global, image: &ImdImage) -> Result<Medium, NoMemory>
     requires { IsImdImage image.now }
-    ensures { IfOk result (λ medium. HasFirst image.now medium 0) }
+    ensures { IfOk result (λ medium. (least : ℕ) → HasFirst least image.now medium 0) }
 {
     let tracks = image.tracks.as_slice();
     let cylinders = cylinder_count(tracks);
@@ -66,29 +66,35 @@ fn store_track(medium: &mut Medium, c: u8, h: u8, words: &[u16])
 }
 
 /// Puts track `i` of the image on its medium.
-fn put_track(alloc: Global, medium: &mut Medium, image: &ImdImage, i: usize) -> Result<(), ImdError>
+fn put_track(
+    alloc: Global,
+    medium: &mut Medium,
+    image: &ImdImage,
+    i: usize,
+    least: u8,
+) -> Result<(), ImdError>
     requires valid { IsImdImage image.now }
     requires there { i < length image.now.tracks }
-    requires first { HasFirst image.now medium.old i }
-    ensures { PutsTrack image.now i medium.new result }
+    requires first { HasFirst least image.now medium.old i }
+    ensures { PutsTrack least image.now i medium.new result }
 {
     let track = &image.tracks.as_slice()[i];
-    let words = track_words(alloc, image.rate, track)?;
+    let words = track_words(alloc, image.rate, track, least)?;
     store_track(medium, track.c, track.h, &words);
     Ok(())
 }
 
 /// The diskette of an image. It isn't protected. Its tracks are formatted, and then each data field is written over
 /// with what the image has of the sector. A track is unfit if it has no room for its sectors, each so that it could be
-/// written over.
-pub fn to_medium(alloc: Global, image: &ImdImage) -> Result<Medium, ImdError>
+/// written over, with a gap 3 of `least` bytes or more.
+pub fn to_medium(alloc: Global, image: &ImdImage, least: u8) -> Result<Medium, ImdError>
     requires { IsImdImage image.now }
-    ensures made { MakesDisk image.now result }
+    ensures made { MakesDisk least image.now result }
     ensures found { IfOk result (λ medium. HasImage medium image.now) }
 {
     let mut medium = blank_medium(alloc, image)?;
     for i in 0..image.tracks.as_slice().len() {
-        put_track(alloc, &mut medium, image, i)?;
+        put_track(alloc, &mut medium, image, i, least)?;
     }
     Ok(medium)
 }

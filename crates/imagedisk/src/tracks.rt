@@ -6,7 +6,7 @@ ghost use Rattle.track_model.specs.Cells.{IsTrackSized};
 ghost use Rattle.track_model.specs.Layouts.{laid_words, lay, Fits};
 ghost use Rattle.track_model.specs.LaidFields.{sector_place};
 ghost use Rattle.track_model.specs.Windows.{window_word, window_words, cut_of};
-ghost use Rattle.track_format.specs.Gaps.{IsLargestGap};
+ghost use Rattle.track_format.specs.Gaps.{Suits};
 ghost use Rattle.imagedisk.specs.Images.{IsImdSector, IsImdTrack};
 ghost use Rattle.imagedisk.specs.Made.{keys_of, sector_window, laid_track, with_sectors, MakesTrack};
 
@@ -108,7 +108,7 @@ fn put_sectors(
 /// The track of an image, laid with this gap, which leaves room for its sectors.
 fn laid_track(alloc: Global, rate: Rate, track: &ImdTrack, gap3: u8) -> Result<Vec<u16>, NoMemory>
     requires valid { IsImdTrack track.now }
-    requires gap { IsLargestGap track.now.n (length track.now.sectors) rate gap3 }
+    requires gap { Suits track.now.n (length track.now.sectors) (words_at rate) gap3 }
     ensures value { IfOk result (λ words. words.items ≡ laid_track rate track.now gap3) }
     ensures length { IfOk result (λ words. length words.items ≡ words_at rate) }
 {
@@ -117,17 +117,23 @@ fn laid_track(alloc: Global, rate: Rate, track: &ImdTrack, gap3: u8) -> Result<V
     Ok(words)
 }
 
-/// The words of a track of an image. They hold no recording if the track has no sectors.
-pub(crate) fn track_words(alloc: Global, rate: Rate, track: &ImdTrack) -> Result<Vec<u16>, ImdError>
+/// The words of a track of an image, with a gap 3 of `least` bytes or more. They hold no recording if the track has no
+/// sectors.
+pub(crate) fn track_words(
+    alloc: Global,
+    rate: Rate,
+    track: &ImdTrack,
+    least: u8,
+) -> Result<Vec<u16>, ImdError>
     requires { IsImdTrack track.now }
-    ensures made { MakesTrack rate track.now result }
+    ensures made { MakesTrack least rate track.now result }
     ensures length { IfOk result (λ words. length words.items ≡ words_at rate) }
 {
     let sectors = track.sectors.as_slice();
     if sectors.is_empty() {
         return vec![in alloc; 0; usize::from(rate.words())].map_err(|_| ImdError::NoMemory);
     }
-    match choose_gap(track.n, sectors.len() as u8, rate) {
+    match choose_gap(track.n, sectors.len() as u8, rate, least) {
         None => Err(ImdError::Unfit {
             c: track.c,
             h: track.h,

@@ -158,8 +158,8 @@ configure_sound old new basis stands (sends, rest) =
 
 -- ---- ---- a command that the inner controller executes
 
-busy_sound : (what : Task) (bytes : List ℕ) (old new : ChipState) → IsBasis old → (sent : IsSent what bytes old new) → IsBusyWith what new.front → IsBase sent.set.adapter.controller new.front.adapter.controller → IsSound new
-busy_sound what bytes old new basis sent busy base =
+busy_sound : (what : Task) (seeks : Bool) (bytes : List ℕ) (old new : ChipState) → IsBasis old → (sent : IsSent what seeks bytes old new) → IsBusyWith what new.front → IsBase sent.set.adapter.controller new.front.adapter.controller → IsSound new
+busy_sound what seeks bytes old new basis sent busy base =
     basis_busy new what (basis_same old new basis (base_on old.front.adapter.controller sent.set.adapter.controller new.front.adapter.controller sent.base base) sent.count sent.order) busy sent.stage
 
 -- READ ID
@@ -168,7 +168,7 @@ id_sound what unit old new basis stands busy begins =
     let sent = begins_sent what false (identifying unit) old new stands begins in
     let obeyed = id_obeyed unit sent.set new.front sent.stands sent.sends in
     let (executes, base) = id_executes unit sent.set new.front sent.stands obeyed in
-    busy_sound what (identifying unit) old new basis sent (busy executes) base
+    busy_sound what false (identifying unit) old new basis sent (busy executes) base
 
 read_id_sound : (mfm : Bool) (old new : ChipState) → IsBasis old → Stands old.front → BeginsReadId mfm old new → IsSound new
 read_id_sound true old new basis stands begins = id_sound task.Sent old.order.unit old new basis stands (λ executes. inr executes) begins
@@ -189,7 +189,7 @@ formats_sound true mfm old new basis stands is begins =
     let (low, high) = and_parts (nat_le 1 order.key.c) (nat_le order.key.c 6) (and_parts mfm (is_size order.key.c) is).1 in
     let obeyed = format_obeyed order.unit order.key.c order.key.h order.key.r order.key.n sent.set new.front sent.stands (leb-true 1 order.key.c low) (leb-true order.key.c 6 high) sent.sends in
     let (executes, base) = format_executes order.unit order.key.c order.key.h order.key.r order.key.n sent.set new.front sent.stands obeyed in
-    busy_sound task.Sent (format_bytes order) old new basis sent (inr executes) base
+    busy_sound task.Sent false (format_bytes order) old new basis sent (inr executes) base
 formats_sound false mfm old new basis stands is begins = id_sound (task.Refused old.order.unit no_key mfm) old.order.unit old new basis stands (λ executes. executes) begins
 
 -- a command of sectors
@@ -198,7 +198,7 @@ transfers_sound : (b mfm : Bool) (what : Task) (opcode : Opcode) (order : Order)
 transfers_sound true mfm what opcode order old new basis stands served sized busy is begins =
     let sent = sought_sent (implies old) what (implies old) (order_bytes order) old new stands begins in
     let (serves, base) = order_serves opcode order sent.set new.front sent.stands served (sized (and_parts mfm (is_size old.order.key.n) is).1) sent.sends in
-    busy_sound what (order_bytes order) old new basis sent (busy serves) base
+    busy_sound what (implies old) (order_bytes order) old new basis sent (busy serves) base
 transfers_sound false mfm what opcode order old new basis stands served sized busy is begins =
     id_sound (task.Refused old.order.unit old.order.key mfm) old.order.unit old new basis stands (λ executes. executes) begins
 
@@ -235,7 +235,7 @@ read_track_sound mfm old new basis stands obeys =
     let noted = with_last old.order.last_sector old in
     let order = one_order old.order.unit (absent_key old.order.key.c) old.order.gap old.order.length in
     let (opcode, served) = some_of (opcode_of 0x46) refl in
-    transfers_sound (mfm && is_size old.order.key.n) mfm (task.Track (track_begun old.order)) opcode order noted new (noted_basis old.order.last_sector old basis) stands served (λ sized. refl) (λ serves. serves) refl obeys
+    transfers_sound (mfm && is_size old.order.key.n) mfm (task.Track (track_begun (implies old) old.order)) opcode order noted new (noted_basis old.order.last_sector old basis) stands served (λ sized. refl) (λ serves. serves) refl obeys
 
 -- ---- all commands
 

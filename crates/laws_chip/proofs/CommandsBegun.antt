@@ -8,7 +8,7 @@ use Rattle.fdc_commands.specs.Seeking.{seek_bits}
 use Rattle.fdc_core.specs.Commands.{configured}
 use Rattle.fdc_core.specs.State.{is_held}
 use Rattle.fdc_core.specs.declared.controller.Fdc.{Fdc}
-use Rattle.fdc_sequencer.specs.Fronts.{Front}
+use Rattle.fdc_sequencer.specs.Fronts.{Front, implies_seeks, with_seeks}
 use Rattle.fdc_sequencer.specs.Opcodes.{opcode_of}
 use Rattle.fdc_sequencer.specs.declared.opcode.Opcode.{Opcode}
 use Rattle.fdc_sequencer.specs.declared.stage.Stage.TheVariants as behind
@@ -19,7 +19,6 @@ use Rattle.laws_sequencer.proofs.Whole.{command_served}
 use Rattle.fdc_chip.specs.Chips.{ChipState}
 use Rattle.fdc_chip.specs.Codes.{code_of}
 use Rattle.fdc_chip.specs.Doing.{Begins, Obeys, RemembersIf, Sends, TransfersIf, begun, implies, is_size, sought_if, with_last}
-use Rattle.fdc_chip.specs.Ending.{without_seeks}
 use Rattle.fdc_chip.specs.Orders.{order_bytes}
 use Rattle.fdc_chip.specs.Steps.{StepsChip}
 use Rattle.fdc_chip.specs.declared.code.Code.{Code}
@@ -56,20 +55,17 @@ configured_stands options precompensation start new stands obeyed =
       record { dor = ap (λ (fdc : Fdc). fdc.dor) is; non_dma = ap (λ (fdc : Fdc). fdc.non_dma) is; command = ap (λ (fdc : Fdc). fdc.command) is },
     )
 
--- the strap for implied seeks may be on or off
-pub strapped_stands : (on : Bool) (front : Front) → Stands front → Stands (record front { strapped = on })
-strapped_stands on front stands =
-    record { through = stands.through; takes = stands.takes; none = stands.none; free = stands.free; rests = stands.rests; by_dma = stands.by_dma }
-
-pub unsought_stands : (front : Front) → Stands front → Stands (without_seeks front)
-unsought_stands front stands =
+-- seeks may be implied or not
+pub sought_stands : (on : Bool) (front : Front) → Stands front → Stands (with_seeks on front)
+sought_stands on front stands =
     record { through = stands.through; takes = stands.takes; none = stands.none; free = stands.free; rests = stands.rests; by_dma = stands.by_dma }
 
 -- ---- a command begins
 
--- the inner controller was given these bytes for this task
-pub record IsSent (task : Task) (bytes : List ℕ) (old new : ChipState) : Type 0 where
+-- the inner controller was given these bytes for this task. The Bool says whether a seek was implied for them
+pub record IsSent (task : Task) (seeks : Bool) (bytes : List ℕ) (old new : ChipState) : Type 0 where
   pub set : Front
+  pub implied : implies_seeks set ≡ seeks
   pub stands : Stands set
   pub base : IsBase old.front.adapter.controller set.adapter.controller
   pub sends : Sends bytes set new.front
@@ -99,13 +95,18 @@ remembers_stands true old new stands (sends, rest) =
 remembers_stands false old new stands is =
     subst (IsSet old) (sym is) (record { stands = stands; base = same_base old.front stands; stage = refl; count = refl; order = refl })
 
-pub begins_sent : (task : Task) (seeks : Bool) (bytes : List ℕ) (old new : ChipState) → Stands old.front → Begins task seeks bytes old new → IsSent task bytes old new
+only_strapped : (on : Bool) → (on || false) ≡ on
+only_strapped true = refl
+only_strapped false = refl
+
+pub begins_sent : (task : Task) (seeks : Bool) (bytes : List ℕ) (old new : ChipState) → Stands old.front → Begins task seeks bytes old new → IsSent task seeks bytes old new
 begins_sent task seeks bytes old new stands begins =
-    let start = begun task seeks old in
-    let ready = remembers_stands old.settings.forgotten start begins.set (strapped_stands seeks old.front stands) begins.remembers in
+    let start = begun task old in
+    let ready = remembers_stands old.settings.forgotten start begins.set stands begins.remembers in
     record {
-      set = begins.set.front;
-      stands = ready.stands;
+      set = with_seeks seeks begins.set.front;
+      implied = only_strapped seeks;
+      stands = sought_stands seeks begins.set.front ready.stands;
       base = record { dor = ready.base.dor; non_dma = ready.base.non_dma; command = ready.base.command };
       sends = begins.sends.0;
       stage = ap (λ (chip : ChipState). chip.stage) begins.sends.1 ∙ ready.stage;
@@ -114,10 +115,10 @@ begins_sent task seeks bytes old new stands begins =
     }
 
 -- a seek is implied, or not
-pub sought_sent : (b : Bool) (task : Task) (seeks : Bool) (bytes : List ℕ) (old new : ChipState) → Stands old.front → Begins task seeks bytes (sought_if b old) new → IsSent task bytes old new
+pub sought_sent : (b : Bool) (task : Task) (seeks : Bool) (bytes : List ℕ) (old new : ChipState) → Stands old.front → Begins task seeks bytes (sought_if b old) new → IsSent task seeks bytes old new
 sought_sent true task seeks bytes old new stands begins =
     let sent = begins_sent task seeks bytes (sought_if true old) new stands begins in
-    record { set = sent.set; stands = sent.stands; base = sent.base; sends = sent.sends; stage = sent.stage; count = sent.count; order = sent.order }
+    record { set = sent.set; implied = sent.implied; stands = sent.stands; base = sent.base; sends = sent.sends; stage = sent.stage; count = sent.count; order = sent.order }
 sought_sent false task seeks bytes old new stands begins = begins_sent task seeks bytes old new stands begins
 
 -- ---- the codes
@@ -137,13 +138,14 @@ codes_served code few is =
 -- ---- a command of sectors
 
 pub transfer_begun : (opcode : Opcode) (old new : ChipState) → opcode_of old.order.code ≡ Some opcode → is_size old.order.key.n ≡ true → IsFreeBehind old.front → Obeys (TransferCode true) old new
-    → IsBegun (transfer_sent opcode old.order) new
+    → IsBegun (transfer_sent (implies old) opcode old.order) new
 transfer_begun opcode old new is size free obeys =
     let noted = with_last old.order.last_sector old in
     let begins : TransfersIf true true Sent (order_bytes old.order) noted new = subst (λ b. TransfersIf b true Sent (order_bytes old.order) noted new) size obeys in
     let sent = sought_sent (implies noted) Sent (implies noted) (order_bytes old.order) noted new (stands_free old.front free) begins in
     let (serves, carried, starts) = order_begins opcode old.order sent.set new.front sent.stands is size sent.sends in
-    record { begins = serves; serving = record { sent = sent.stage; under_way = carried.under_way } }
+    subst (λ seeks. IsBegun (transfer_sent seeks opcode old.order) new) sent.implied
+    (record { begins = serves; serving = record { sent = sent.stage; under_way = carried.under_way } })
 
 -- what passes from the beginning of the command to its results
 pub transfer_served : (first : Transfer) (calls : List Call) (begun last new : ChipState) (served : AreServed calls begun last) (step : StepsChip last new) (results : Results)

@@ -278,5 +278,5 @@ remembers_down false what old new down is = subst (λ (chip : ChipState). IsDown
 
 pub begins_down : (what : Task) (seeks : Bool) (bytes : List ℕ) (old new : ChipState) → is_by_port old.settings ≡ false → Begins what seeks bytes old new → interrupts_chip new ≡ false
 begins_down what seeks bytes old new dma begins =
-    let start : IsDown what (begun what seeks old) = record { dma = dma; line = refl; stage = refl } in
-    down_int what new (down_kept what begins.set new (remembers_down old.settings.forgotten what (begun what seeks old) begins.set start begins.remembers) begins.sends.1)
+    let start : IsDown what (begun what old) = record { dma = dma; line = refl; stage = refl } in
+    down_int what new (down_kept what begins.set new (remembers_down old.settings.forgotten what (begun what old) begins.set start begins.remembers) begins.sends.1)

@@ -9,9 +9,9 @@ use Rattle.fdc_core.specs.declared.controller.Fdc.{Fdc}
 use Rattle.fdc_sequencer.specs.Fronts.{Front}
 use Rattle.fdc_chip.specs.Chips.{ChipState, passes_by_channel, with_front}
 use Rattle.fdc_chip.specs.Codes.{code_of}
-use Rattle.fdc_chip.specs.Doing.{AttendsIf, drained, is_moving, moves_heads, needs_heads}
+use Rattle.fdc_chip.specs.Doing.{AttendsIf, drained, implies, is_moving, moves_heads, needs_heads}
 use Rattle.fdc_chip.specs.Paces.{EndsAt, GoesOnIf, Paces, PulsesIf, is_due, is_over}
-use Rattle.fdc_chip.specs.Ports.{GivesChipIf, TakesIf, WritesChip, count_told, gated_by, reset_if, value_behind}
+use Rattle.fdc_chip.specs.Ports.{GivesChipIf, TakesIf, WritesChip, count_told, latched_by, reset_if, value_behind}
 use Rattle.fdc_chip.specs.Settings.{step_words}
 use Rattle.fdc_chip.specs.Steps.{StepsChip}
 use Rattle.fdc_chip.specs.declared.code.Code.{Code}
@@ -88,7 +88,7 @@ keeps_move left old new keeps was = record {
 port_heads : (port value : ℕ) (old new : ChipState) → WritesChip port value old new → (port == 0x3F5) ≡ false → resets port (value_behind port value) ≡ false → KeepsHeads old new
 port_heads port value old new writes no_data quiet =
     let (front, rest) = writes.others no_data in
-    let set : new ≡ with_front new.front (gated_by port value old) = subst (λ b. new ≡ with_front new.front (reset_if b (gated_by port value old))) quiet rest in
+    let set : new ≡ with_front new.front (latched_by port value old) = subst (λ b. new ≡ with_front new.front (reset_if b (latched_by port value old))) quiet rest in
     record {
       seeks = (front_left port (value_behind port value) old.front new.front front no_data quiet).seeks;
       pace = ap (λ (chip : ChipState). chip.pace) set;
@@ -163,7 +163,7 @@ drained_move words left paced settings on moves =
 -- ---- ---- a held command
 
 pub move_step : (left : ℕ) (found : Code) (order : Order) (old new : ChipState) → IsSound old → IsInRange old.front.adapter.controller → IsInRange new.front.adapter.controller → IsHeldFor order old → code_of order.code ≡ Some found
-    → needs_heads found ≡ true → HeadsMove left old → StepsChip old new → (IsHeldFor order new × HeadsMove (left - 1) new) ⊎ IsDoneFree found order new
+    → needs_heads found ≡ true → HeadsMove left old → StepsChip old new → (IsHeldFor order new × HeadsMove (left - 1) new) ⊎ IsDoneFree found order (implies old) new
 move_step left found order old new sound range still held is heads was step =
     let (paced, paces, attends) = follows_held old new step held.held in
     let resting = step_rests old paced new step sound held.held paces in
@@ -182,7 +182,7 @@ move_step left found order old new sound range still held is heads was step =
       record { held = refl; order_is = drained_order paced resting.base.command resting.rests ∙ of_order },
       record { runs = go.runs; some = go.some; within = go.within },
     )))
-    (λ stands. inr (subst (λ o. IsDoneFree found o new) of_order (attended_free found paced new attended stands)))
+    (λ stands. inr (subst (λ o. IsDoneFree found o (implies old) new) of_order (subst (λ seeks. IsDoneFree found paced.order seeks new) resting.implied (attended_free found paced new attended stands))))
   where
     same_words : (n : ℕ) → n ≤ n
     same_words n = omega arith

@@ -48,7 +48,7 @@ use Rattle.fdc_chip.specs.Codes.{code_of}
 use Rattle.fdc_chip.specs.Doing.{Obeys, identifying}
 use Rattle.fdc_chip.specs.Ending.{EndsIf, EndsSent, MayEnd, is_not_found, looks_for_cylinder, results_behind, results_taken, told_results}
 use Rattle.fdc_chip.specs.Ports as ports
-use Rattle.fdc_chip.specs.Ports.{GivesChipIf, GivesIf, ReadsAt, ReadsIf, TakesByte, TakesIf, gated_by, value_behind}
+use Rattle.fdc_chip.specs.Ports.{GivesChipIf, GivesIf, ReadsAt, ReadsIf, TakesByte, TakesIf, latched_by, value_behind}
 use Rattle.fdc_chip.specs.Steps.{Follows, StepsChip}
 use Rattle.fdc_chip.specs.declared.answer.Answer.TheVariants as answer
 use Rattle.fdc_chip.specs.declared.code.Code.{Code}
@@ -86,6 +86,7 @@ id_at unit = record {
   last_sector = 0;
   gap = 0;
   length = 0;
+  seeks = false;
 }
 
 -- ---- ---- READ ID is executed
@@ -325,7 +326,7 @@ write_on true place value old new gives was = record { front = gives_keeps place
 write_on false place value old new is was = same_on place old new is was
 
 port_on : (b : Bool) (place : Place) (port value : ℕ) (old new : ChipState) → resets port (value_behind port value) ≡ b → (port == 0x3F5) ≡ false → WritesFront port (value_behind port value) old.front new.front
-    → new ≡ with_front new.front (ports.reset_if b (gated_by port value old)) → new.stage ≡ Busy Sent → ExecutesBehind old.front → KeepsOn place old new
+    → new ≡ with_front new.front (ports.reset_if b (latched_by port value old)) → new.stage ≡ Busy Sent → ExecutesBehind old.front → KeepsOn place old new
 port_on true place port value old new anew no_data writes rest stays was = absurd (false≢true (sym (ap parts.is_ready stays) ∙ ap (λ (chip : ChipState). parts.is_ready chip.stage) rest))
 port_on false place port value old new quiet no_data writes rest stays was =
     record { front = port_keeps place port (value_behind port value) old.front new.front writes no_data quiet was; order = ap (λ (chip : ChipState). chip.order) rest }

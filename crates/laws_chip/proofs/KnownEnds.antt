@@ -26,7 +26,7 @@ use Rattle.fdc_chip.specs.Interrupts.{cylinder_of}
 use Rattle.fdc_chip.specs.Orders.{is_format}
 use Rattle.fdc_chip.specs.Paces as paces
 use Rattle.fdc_chip.specs.Paces.{GoesOnIf, Paces, PulsesIf, is_due, stepped}
-use Rattle.fdc_chip.specs.Ports.{CollectsIf, ComesIf, GivesChipIf, GivesIf, ReadsAt, ReadsIf, TakesByte, TakesIf, WritesChip, byte_told, count_told, gated_by, is_whole, may_come, reset_if, value_behind, with_next}
+use Rattle.fdc_chip.specs.Ports.{CollectsIf, ComesIf, GivesChipIf, GivesIf, ReadsAt, ReadsIf, TakesByte, TakesIf, WritesChip, byte_told, count_told, latched_by, is_whole, may_come, reset_if, value_behind, with_next}
 use Rattle.fdc_chip.specs.Settings.{is_by_port, step_words}
 use Rattle.fdc_chip.specs.Steps.{Follows, FollowsTask, StepsChip}
 use Rattle.fdc_chip.specs.declared.code.Code.{Code}
@@ -385,7 +385,7 @@ other_known : (port value : ℕ) (old new : ChipState) → (port == 0x3F5) ≡ f
 other_known port value old new no_data was writes =
     let (front, rest) = writes.others no_data in
     let behind = value_behind port value in
-    port_known (resets port behind) port behind old (gated_by port value old) new refl no_data refl was front rest
+    port_known (resets port behind) port behind old (latched_by port value old) new refl no_data refl was front rest
 
 idle_call : (call : Call) (old new : ChipState) → is_busy old.stage ≡ false → IsSound old → KnowsEnd old → Does call old new → WritesByte call → is_step call ≡ false → KnowsEnd new
 idle_call made.Steps old new idle sound was does writes other = absurd (false≢true (sym other))

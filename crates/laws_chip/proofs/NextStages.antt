@@ -3,7 +3,7 @@ use Rattle.std.proofs.Common.{◌≡◌, ℕ, Bool, true, false, ◌==◌, Optio
 use Rattle.std.proofs.lemmas.Bool.{eqb-true, false≢true}
 use Rattle.fdc_core.specs.Ports.{resets}
 use Rattle.fdc_chip.specs.Chips.{ChipState, is_data, passes_by_channel, passes_by_port, with_front}
-use Rattle.fdc_chip.specs.Ports.{GivesChipIf, GivesIf, ReadsAt, ReadsIf, TakesByte, TakesIf, WritesChip, count_told, counted_if, gated_by, given_one, reset_if, value_behind}
+use Rattle.fdc_chip.specs.Ports.{GivesChipIf, GivesIf, ReadsAt, ReadsIf, TakesByte, TakesIf, WritesChip, count_told, counted_if, latched_by, given_one, reset_if, value_behind}
 use Rattle.fdc_chip.specs.declared.stage.Stage.{Stage}
 use Rattle.fdc_chip.specs.declared.stage.Stage.TheVariants.{Busy}
 use Rattle.fdc_chip.specs.declared.stage.Task.{Task}
@@ -76,8 +76,8 @@ counts_keeps (task.Track track) old new is at = counted_track (is_data track.pla
 
 other_write : (port value : ℕ) (what : Task) (old new : ChipState) → (port == 0x3F5) ≡ false → resets port (value_behind port value) ≡ false → WritesChip port value old new → old.stage ≡ Busy what → KeepsTask what old new
 other_write port value what old new no_data quiet writes at =
-    let is : new ≡ with_front new.front (gated_by port value old) =
-    subst (λ b. new ≡ with_front new.front (reset_if b (gated_by port value old))) quiet (writes.others no_data).1 in
+    let is : new ≡ with_front new.front (latched_by port value old) =
+    subst (λ b. new ≡ with_front new.front (reset_if b (latched_by port value old))) quiet (writes.others no_data).1 in
     keeps_as what old new (ap (λ (chip : ChipState). chip.stage) is ∙ at) (ap (λ (chip : ChipState). chip.order) is)
 
 pub call_keeps : (call : Call) (what : Task) (old new : ChipState) → Does call old new → old.stage ≡ Busy what → is_step call ≡ false → is_reset call ≡ false → KeepsTask what old new
@@ -108,7 +108,7 @@ pub works_quiet : (call : Call) (old new : ChipState) → Does call old new → 
 works_quiet (made.Writes port value) old new does works = either_way (port == 0x3F5)
     (λ here. data_quiet port value (eqb-true port 0x3F5 here))
     (λ no_data. either_way (resets port (value_behind port value))
-    (λ anew. absurd (reset_over (resets port (value_behind port value)) (gated_by port value old) new (does.others no_data).1 anew works))
+    (λ anew. absurd (reset_over (resets port (value_behind port value)) (latched_by port value old) new (does.others no_data).1 anew works))
     (λ quiet. quiet))
 works_quiet made.Steps old new does works = refl
 works_quiet (made.Takes byte) old new does works = refl

@@ -1,6 +1,6 @@
 -- The nine bytes of a command of several sectors, given to the sequencer one by one: with the last byte it serves the
 -- command.
-use Rattle.std.proofs.Common.{◌≡◌, ℕ, ◌≤◌, nat_le, true, false, ◌||◌, if◌then◌else◌, Some, None, List, [], ◌∷◌, ◌++◌, refl, sym, ◌∙◌, ap, subst}
+use Rattle.std.proofs.Common.{◌≡◌, ℕ, ◌≤◌, nat_le, true, false, ◌||◌, if◌then◌else◌, Some, None, List, [], ◌∷◌, ◌++◌, refl, sym, ◌∙◌, ap, subst, Bool}
 use Rattle.std.proofs.lemmas.Bool.{and_parts, leb-true}
 use Rattle.track_model.specs.Fields.{IsSizeCode}
 use Rattle.fdc_commands.specs.Table.{answer, kept}
@@ -8,7 +8,7 @@ use Rattle.fdc_commands.specs.declared.bytes.Accepted.TheVariants.{More, Ready}
 use Rattle.fdc_commands.specs.declared.command.Command.{Command}
 use Rattle.fdc_commands.proofs.ReadSpellings.{spells_read}
 use Rattle.fdc_commands.proofs.WriteSpellings.{spells_write}
-use Rattle.fdc_sequencer.specs.Fronts.{CollectsAs, Front, PassesAs, Starts, TakesByte, WritesFront, begins_with}
+use Rattle.fdc_sequencer.specs.Fronts.{CollectsAs, Front, PassesAs, Starts, TakesByte, WritesFront, begins_with, implies_seeks}
 use Rattle.fdc_sequencer.specs.Opcodes.{opcode_of, plain_code}
 use Rattle.fdc_sequencer.specs.Transfers.{command_for, transfer_of}
 use Rattle.fdc_sequencer.specs.declared.opcode.Opcode.{Opcode}
@@ -53,10 +53,10 @@ spelled_plain (Write true) order low high =
     let spelled = spells_write true order.unit order.key order.last_sector order.gap order.length low high in
     record { unit = spelled.head; c = spelled.c; h = spelled.h; r = spelled.r; n = spelled.n; last = spelled.last; gap = spelled.gap_length; whole = spelled.whole }
 
-transfer_is : (opcode : Opcode) (operation : Operation) (order : Order) → transfer_of opcode (command_sent operation order) ≡ Some (transfer_sent opcode order)
-transfer_is opcode (Read deleted skip) order = refl
-transfer_is opcode (Write false) order = refl
-transfer_is opcode (Write true) order = refl
+transfer_is : (seeks : Bool) (opcode : Opcode) (operation : Operation) (order : Order) → transfer_of seeks opcode (command_sent operation order) ≡ Some (transfer_sent seeks opcode order)
+transfer_is seeks opcode (Read deleted skip) order = refl
+transfer_is seeks opcode (Write false) order = refl
+transfer_is seeks opcode (Write true) order = refl
 
 -- ---- ---- the bytes come
 
@@ -82,7 +82,7 @@ sized_by n is = let (some, few) = and_parts (nat_le 1 n) (nat_le n 6) is in (leb
 
 module _ (opcode : Opcode) (order : Order) (start old new : Front) (stands : Stands start) (sized : IsSizeCode order.key.n) (bytes : List ℕ) (came : old ≡ collected opcode bytes start) (whole : answer (bytes ++ order.length ∷ []) ≡ Ready (command_sent opcode.operation order)) (writes : WritesFront 0x3F5 order.length old new) where
   abbrev spelled : Transfer
-  spelled = transfer_sent opcode order
+  spelled = transfer_sent (implies_seeks start) opcode order
 
   is_last : IsLastByte order.length spelled old
   is_last = record {
@@ -90,7 +90,7 @@ module _ (opcode : Opcode) (order : Order) (start old new : Front) (stands : Sta
     collects = ap (λ front. front.stage) came;
     command = command_sent opcode.operation order;
     whole = ap (λ (front : Front). answer (front.bytes ++ order.length ∷ [])) came ∙ whole;
-    transfer = transfer_is opcode opcode.operation order;
+    transfer = ap (λ (front : Front). transfer_of (implies_seeks front) opcode (command_sent opcode.operation order)) came ∙ transfer_is (implies_seeks start) opcode opcode.operation order;
   }
 
   abbrev whole_at : Front
@@ -99,13 +99,13 @@ module _ (opcode : Opcode) (order : Order) (start old new : Front) (stands : Sta
   begins_starts : Starts (Some spelled) whole_at new
   begins_starts =
       let from : WritesFront 0x3F5 order.length (collected opcode bytes start) new = subst (λ front. WritesFront 0x3F5 order.length front new) came writes in
-      let collects : Starts (transfer_of opcode (command_sent opcode.operation order)) whole_at new =
+      let collects : Starts (transfer_of (implies_seeks start) opcode (command_sent opcode.operation order)) whole_at new =
       subst (λ accepted. CollectsAs opcode accepted (record start { stage = Collecting opcode; bytes = kept accepted (bytes ++ order.length ∷ []) }) new) whole (from.bytes refl) in
-      subst (λ transfer. Starts transfer whole_at new) (transfer_is opcode opcode.operation order) collects
+      subst (λ transfer. Starts transfer whole_at new) (transfer_is (implies_seeks start) opcode opcode.operation order) collects
 
   begins_carried : IsCarried start new
   begins_carried =
-      let carried = starts_carried (start.strapped || start.configured) spelled whole_at new sized stands.takes (stands_idle start stands) (record { rests = stands.rests; by_dma = stands.by_dma }) begins_starts in
+      let carried = starts_carried (implies_seeks start) spelled whole_at new sized stands.takes (stands_idle start stands) (record { rests = stands.rests; by_dma = stands.by_dma }) begins_starts in
       record { under_way = carried.under_way; waits = carried.waits; base = carried.base }
 
   pub last_begins : BeginsBehind spelled new × IsCarried start new × Starts (Some spelled) whole_at new
@@ -125,7 +125,7 @@ module _ (opcode : Opcode) (order : Order) (start old new : Front) (stands : Sta
 -- ---- all nine
 
 pub order_begins : (opcode : Opcode) (order : Order) (start new : Front) → Stands start → opcode_of order.code ≡ Some opcode → is_size order.key.n ≡ true → Sends (order_bytes order) start new
-    → BeginsBehind (transfer_sent opcode order) new × IsCarried start new × Starts (Some (transfer_sent opcode order)) (record start { stage = Collecting opcode; bytes = [] }) new
+    → BeginsBehind (transfer_sent (implies_seeks start) opcode order) new × IsCarried start new × Starts (Some (transfer_sent (implies_seeks start) opcode order)) (record start { stage = Collecting opcode; bytes = [] }) new
 order_begins opcode order start new stands is size
     (one, write_one, (two, write_two, (three, write_three, (four, write_four, (five, write_five, (six, write_six, (seven, write_seven, (eight, write_eight, (nine, write_nine, same))))))))) =
     let sized = sized_by order.key.n size in
@@ -140,5 +140,5 @@ order_begins opcode order start new stands is size
     let at_six = more_collected opcode (code ∷ order.unit ∷ key.c ∷ key.h ∷ key.r ∷ []) key.n start five six at_five bytes.n write_six in
     let at_seven = more_collected opcode (code ∷ order.unit ∷ key.c ∷ key.h ∷ key.r ∷ key.n ∷ []) order.last_sector start six seven at_six bytes.last write_seven in
     let at_eight = more_collected opcode (code ∷ order.unit ∷ key.c ∷ key.h ∷ key.r ∷ key.n ∷ order.last_sector ∷ []) order.gap start seven eight at_seven bytes.gap write_eight in
-    subst (λ front. BeginsBehind (transfer_sent opcode order) front × IsCarried start front × Starts (Some (transfer_sent opcode order)) (record start { stage = Collecting opcode; bytes = [] }) front) (sym same)
+    subst (λ front. BeginsBehind (transfer_sent (implies_seeks start) opcode order) front × IsCarried start front × Starts (Some (transfer_sent (implies_seeks start) opcode order)) (record start { stage = Collecting opcode; bytes = [] }) front) (sym same)
     (last_begins opcode order start eight nine stands sized (code ∷ order.unit ∷ key.c ∷ key.h ∷ key.r ∷ key.n ∷ order.last_sector ∷ order.gap ∷ []) at_eight bytes.whole write_nine)

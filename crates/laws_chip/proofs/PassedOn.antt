@@ -10,10 +10,10 @@ use Rattle.laws_sequencer.specs.Lasting as lasting
 use Rattle.laws_sequencer.specs.Lasting.{is_under_way}
 use Rattle.laws_sequencer.proofs.Called.{both_within}
 use Rattle.laws_sequencer.proofs.Sectors.{steps_both}
-use Rattle.laws_sequencer.proofs.Shown.{shows_busy}
+use Rattle.laws_sequencer.proofs.Shown.{none_shown}
 use Rattle.fdc_chip.specs.Chips.{ChipState, passes_by_channel, passes_by_port, with_front}
 use Rattle.fdc_chip.specs.Ending.{EndsIf, EndsSent, has_results, looks_for_cylinder, results_behind, results_taken}
-use Rattle.fdc_chip.specs.Ports.{GivesChipIf, GivesIf, ReadsAt, ReadsChip, ReadsIf, TakesByte, TakesIf, WritesChip, count_told, gated_by, given_one, reset_if, value_behind}
+use Rattle.fdc_chip.specs.Ports.{GivesChipIf, GivesIf, ReadsAt, ReadsChip, ReadsIf, TakesByte, TakesIf, WritesChip, count_told, latched_by, given_one, reset_if, value_behind}
 use Rattle.fdc_chip.specs.Steps.{Follows, StepsChip}
 use Rattle.fdc_chip.specs.declared.stage.Stage.{Stage}
 use Rattle.fdc_chip.specs.declared.stage.Stage.TheVariants.{Busy}
@@ -50,7 +50,7 @@ no_results old new step sent still shown =
 
 -- while a command is under way no results wait
 pub none_wait : (front : Front) → is_under_way front.stage ≡ true → has_results front ≡ false
-none_wait front under = ap (λ value. bit_and value 0xC0 == 0xC0) (shows_busy front under)
+none_wait front under = none_shown front under
 
 pub step_goes_on : (old new : ChipState) (step : StepsChip old new) → IsServing old → is_under_way step.between.stage ≡ true → new ≡ with_front step.between old
 step_goes_on old new step was under =
@@ -246,7 +246,7 @@ port_serving : (port value : ℕ) (old new : ChipState) → IsServing old → (p
 port_serving port value old new was no_data no_reset writes =
     let (wrote, rest) = writes.others no_data in
     record {
-      sent = same_stage (gated_by port value old) new (subst (λ b. new ≡ with_front new.front (reset_if b (gated_by port value old))) no_reset rest) was.sent;
+      sent = same_stage (latched_by port value old) new (subst (λ b. new ≡ with_front new.front (reset_if b (latched_by port value old))) no_reset rest) was.sent;
       under_way = writes_under port (value_behind port value) old.front new.front was.under_way wrote no_reset;
     }
 

@@ -44,7 +44,7 @@ use Rattle.fdc_core.specs.Writing.{WriteDoes, after_next, without_byte}
 use Rattle.fdc_core.specs.declared.controller.Fdc.{Fdc}
 use Rattle.fdc_core.specs.declared.controller.Lines.{Lines}
 use Rattle.fdc_adapter.specs.Adapters.{AdapterState, Gives, StepsAdapter, Takes, lines_at, selected_at}
-use Rattle.fdc_sequencer.specs.Fronts.{BeginsSector, CollectsAs, Front, GivesAt, GivesFront, GivesMoving, PassesAs, Starts, StartsIf, TakesAt, TakesByte, TakesFront, TakesMoving, WritesFront, after_reading, begins_with, begun_if, byte_given, count_told, told_front, told_if, with_controller}
+use Rattle.fdc_sequencer.specs.Fronts.{BeginsSector, CollectsAs, Front, GivesAt, GivesFront, GivesMoving, PassesAs, Starts, StartsIf, TakesAt, TakesByte, TakesFront, TakesMoving, WritesFront, after_reading, begins_with, begun_if, byte_given, count_told, implies_seeks, told_front, told_if, with_controller}
 use Rattle.fdc_sequencer.specs.Moves.{EndsIf, EndsSector, FollowsStep, MovesOn, SeeksOn, StepsFront, goes_on, has_met_other, is_unwanted, judged_if, passed_over_if}
 use Rattle.fdc_sequencer.specs.Transfers.{command_of, next_of, transfer_of}
 use Rattle.fdc_sequencer.specs.declared.opcode.Opcode.{Opcode}
@@ -275,11 +275,11 @@ starts_by false transfer old new begins none = sector_poll transfer false false 
 
 starts_poll : (transfer : Option Transfer) (old new : Front) → Starts transfer old new → awaits_poll old ≡ false → awaits_poll new ≡ false
 starts_poll None old new is none = ap awaits_poll is ∙ none
-starts_poll (Some transfer) old new starts none = starts_by (old.strapped || old.configured) transfer old new starts none
+starts_poll (Some transfer) old new starts none = starts_by transfer.seeks transfer old new starts none
 
 collects_poll : (opcode : Opcode) (accepted : Accepted) (old new : Front) → CollectsAs opcode accepted old new → awaits_poll old ≡ false → awaits_poll new ≡ false
 collects_poll opcode More old new is none = ap awaits_poll is ∙ none
-collects_poll opcode (Ready command) old new starts none = starts_poll (transfer_of opcode command) old new starts none
+collects_poll opcode (Ready command) old new starts none = starts_poll (transfer_of (implies_seeks old) opcode command) old new starts none
 collects_poll opcode Invalid old new refuses none =
     ap awaits_poll refuses.after
     ∙ accepted_poll (looked_at Invalid) (lines_at old.adapter) (record old.adapter.controller { command = [] }) refuses.between.controller refuses.takes.takes none

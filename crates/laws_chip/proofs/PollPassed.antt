@@ -10,15 +10,15 @@ use Rattle.fdc_core.specs.State.{is_held}
 use Rattle.fdc_core.specs.Whole.{is_idle}
 use Rattle.fdc_core.specs.declared.controller.Fdc.{Fdc}
 use Rattle.fdc_adapter.specs.Senses.{after_result, without_result}
-use Rattle.fdc_sequencer.specs.Fronts.{Front, interrupts_outside, told_front}
+use Rattle.fdc_sequencer.specs.Fronts.{Front, interrupts_outside, told_front, with_seeks}
 use Rattle.fdc_sequencer.specs.Senses.{pending_outside, recalibrated_at, sensed_at, sensed_outside}
 use Rattle.fdc_sequencer.specs.Transfers.{size_of}
 use Rattle.fdc_sequencer.specs.declared.stage.Stage.{Stage as FrontStage}
 use Rattle.fdc_sequencer.specs.declared.stage.Stage.TheVariants.{Through, Collecting, Seeking, Moving, Telling as FrontTelling}
 use Rattle.fdc_chip.specs.Chips.{ChipState, is_data, passes_by_channel, passes_by_port, with_front}
 use Rattle.fdc_chip.specs.Codes.{code_of}
-use Rattle.fdc_chip.specs.Doing.{AttendsIf, AttendsTo, Begins, BeginsReadId, FormatsIf, MovesIf, Obeys, RemembersIf, Sends, SendsOn, TransfersIf, absent_key, begun, configuring, drained, drained_by, format_bytes, identifying, implies, is_moving, is_size, moving, needs_heads, no_key, reading_one, relative_target, sectors_verified, sought_if, track_begun, verifying, with_keys, with_last}
-use Rattle.fdc_chip.specs.Ending.{Ends, EndsAddress, EndsAddressIf, EndsAt, EndsData, EndsIf, EndsIndex, EndsSent, MayEnd, behind_one, behind_six, behind_three, has_results, is_over as is_over_track, looks_for_cylinder, results_behind, results_taken, unit_of, verified, without_one, without_seeks}
+use Rattle.fdc_chip.specs.Doing.{AttendsIf, AttendsTo, Begins, BeginsReadId, FormatsIf, MovesIf, Obeys, RemembersIf, Sends, SendsOn, TransfersIf, absent_key, begun, configuring, drained, drained_by, format_bytes, identifying, implies, implying, is_moving, is_size, moving, needs_heads, no_key, reading_one, relative_target, sectors_verified, sought_if, track_begun, verifying, with_keys, with_last}
+use Rattle.fdc_chip.specs.Ending.{Ends, EndsAddress, EndsAddressIf, EndsAt, EndsData, EndsIf, EndsIndex, EndsSent, MayEnd, behind_one, behind_six, behind_three, has_results, is_over as is_over_track, looks_for_cylinder, results_behind, results_taken, unit_of, verified, without_one}
 use Rattle.fdc_chip.specs.Paces.{EndsAt as EndsPace, GoesOnIf, Paces, PulsesIf, is_due, is_over, stepped}
 use Rattle.fdc_chip.specs.Settings.{step_words}
 use Rattle.fdc_chip.specs.Interrupts.{cylinder_of}
@@ -94,7 +94,7 @@ remembers_poll false old new is none = ap to_come is ∙ none
 
 begins_poll : (what : Task) (seeks : Bool) (bytes : List ℕ) (old new : ChipState) → Begins what seeks bytes old new → to_come old ≡ false → to_come new ≡ false
 begins_poll what seeks bytes old new begins none =
-    sent_poll bytes begins.set new begins.sends (remembers_poll old.settings.forgotten (begun what seeks old) begins.set begins.remembers none)
+    sent_poll bytes (implying seeks begins.set) new begins.sends (remembers_poll old.settings.forgotten (begun what old) begins.set begins.remembers none)
 
 identifies_poll : (mfm : Bool) (old new : ChipState) → BeginsReadId mfm old new → to_come old ≡ false → to_come new ≡ false
 identifies_poll true old new begins none = begins_poll task.Sent false (identifying old.order.unit) old new begins none
@@ -131,7 +131,7 @@ obeys_poll (Transfer mfm) old new begins none = transfers_poll (mfm && is_size o
 obeys_poll (Verify mfm) old new begins none =
     transfers_poll (mfm && is_size old.order.key.n) mfm (task.Verify (sectors_verified old.order * size_of old.order.key.n)) (order_bytes (verifying old.order)) (with_last old.order.last_sector old) new begins none
 obeys_poll (ReadTrack mfm) old new begins none =
-    transfers_poll (mfm && is_size old.order.key.n) mfm (task.Track (track_begun old.order)) (reading_one old.order.unit (absent_key old.order.key.c) old.order.gap old.order.length) (with_last old.order.last_sector old) new
+    transfers_poll (mfm && is_size old.order.key.n) mfm (task.Track (track_begun (implies old) old.order)) (reading_one old.order.unit (absent_key old.order.key.c) old.order.gap old.order.length) (with_last old.order.last_sector old) new
     begins none
 
 attends_by : (holds : Bool) (code : Code) (old new : ChipState) → AttendsIf holds code old new → to_come old ≡ false → to_come new ≡ false
@@ -202,10 +202,10 @@ sent_ends false results old new is none = ap to_come is ∙ none
 
 index_poll : (missed : Bool) (track : Track) (old new : ChipState) → EndsIndex missed track old new → to_come old ≡ false → to_come new ≡ false
 index_poll true track old new is none = ap to_come is ∙ none
-index_poll false track old new (sends, rest) none = sends_poll (identifying track.unit) (without_seeks old.front) new.front sends none
+index_poll false track old new (sends, rest) none = sends_poll (identifying track.unit) (with_seeks false old.front) new.front sends none
 
 met_poll : (met : Bool) (results : Results) (track : Track) (old new : ChipState) → EndsAddressIf met results track old new → to_come old ≡ false → to_come new ≡ false
-met_poll true results track old new (sends, rest) none = sends_poll (reading_one track.unit results.key old.order.gap old.order.length) (without_seeks old.front) new.front sends none
+met_poll true results track old new (sends, rest) none = sends_poll (reading_one track.unit results.key old.order.gap old.order.length) (with_seeks false old.front) new.front sends none
 met_poll false results track old new is none = ap to_come is ∙ none
 
 address_poll : (counted : Bool) (results : Results) (track : Track) (old new : ChipState) → EndsAddress counted results track old new → to_come old ≡ false → to_come new ≡ false
@@ -214,7 +214,7 @@ address_poll false results track old new ends none = met_poll ((results.st1.0 ==
 
 data_poll : (over : Bool) (track : Track) (old new : ChipState) → EndsData over track old new → to_come old ≡ false → to_come new ≡ false
 data_poll true track old new is none = ap to_come is ∙ none
-data_poll false track old new (sends, rest) none = sends_poll (identifying track.unit) (without_seeks old.front) new.front sends none
+data_poll false track old new (sends, rest) none = sends_poll (identifying track.unit) (with_seeks false old.front) new.front sends none
 
 place_poll : (place : Place) (track : Track) (results : Results) (old new : ChipState) → EndsAt place track results old new → to_come old ≡ false → to_come new ≡ false
 place_poll Index track results old new ends none = index_poll (not (bit_and results.st1.0 missing_mark == 0)) track old new ends none

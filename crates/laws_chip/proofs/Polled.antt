@@ -20,7 +20,7 @@ use Rattle.fdc_chip.specs.Doing.{drained, drained_by, drained_one, sensing}
 use Rattle.fdc_chip.specs.Interrupts.{Interrupting, at_rest}
 use Rattle.fdc_chip.specs.Orders.{is_format, with_byte}
 use Rattle.fdc_chip.specs.Paces.{Paces}
-use Rattle.fdc_chip.specs.Ports.{ComesIf, GivesChipIf, ReadsAt, ReadsChip, TakesByte, TakesIf, WritesChip, count_told, gated_by, reset_if, value_behind}
+use Rattle.fdc_chip.specs.Ports.{ComesIf, GivesChipIf, ReadsAt, ReadsChip, TakesByte, TakesIf, WritesChip, count_told, latched_by, reset_if, value_behind}
 use Rattle.fdc_chip.specs.Quiet.{rests_at}
 use Rattle.fdc_chip.specs.Settings.{is_by_port}
 use Rattle.fdc_chip.specs.Steps.{Follows, StepsChip}
@@ -261,7 +261,7 @@ reset_awaits port value old new writes anew =
     let no_data = no_data_reset port given anew in
     let (front, rest) = writes.others no_data in
     let (is, through) = front_anew port given old.front new.front front no_data anew in
-    let set : new ≡ with_front new.front (reset_if true (gated_by port value old)) = subst (λ b. new ≡ with_front new.front (reset_if b (gated_by port value old))) anew rest in
+    let set : new ≡ with_front new.front (reset_if true (latched_by port value old)) = subst (λ b. new ≡ with_front new.front (reset_if b (latched_by port value old))) anew rest in
     record {
       stage = ap (λ (chip : ChipState). chip.stage) set;
       count = ap (λ (chip : ChipState). chip.count) set;
@@ -275,7 +275,7 @@ port_awaits port value old new was writes no_data quiet =
     let given = value_behind port value in
     let (front, rest) = writes.others no_data in
     let left = front_left port given old.front new.front front no_data quiet in
-    let set : new ≡ with_front new.front (gated_by port value old) = subst (λ b. new ≡ with_front new.front (reset_if b (gated_by port value old))) quiet rest in
+    let set : new ≡ with_front new.front (latched_by port value old) = subst (λ b. new ≡ with_front new.front (reset_if b (latched_by port value old))) quiet rest in
     record {
       stage = ap (λ (chip : ChipState). chip.stage) set ∙ was.stage;
       count = ap (λ (chip : ChipState). chip.count) set ∙ was.count;

@@ -41,6 +41,7 @@ use Rattle.fdc_core.specs.Whole.{TakesWhole, ending_told, given_up, mark_of, wit
 use Rattle.fdc_core.specs.declared.controller.Fdc.{Fdc}
 use Rattle.fdc_core.specs.declared.controller.Lines.{Lines}
 use Rattle.fdc_adapter.specs.Adapters.{AdapterState, StepsAdapter, lines_at, selected_at}
+use Rattle.fdc_phases.specs.Answers.{st1_of}
 use Rattle.fdc_sequencer.specs.Fronts.{BeginsSector, CollectsAs, Front, GivesAt, Starts, StartsIf, TakesAt, TakesByte, WritesFront, asks_at, asks_outside, begun_if, count_told, moving_of, passed_one, told_front, told_if, with_controller}
 use Rattle.fdc_sequencer.specs.Moves.{EndsIf, EndsSector, FollowsStep, MovesOn, SeeksOn, StepsFront, goes_on, has_met_other, is_unwanted, judged, judged_if, passed_over_if, results_behind, results_failed, would_go_on}
 use Rattle.fdc_sequencer.specs.Transfers.{command_for, next_of, results_told, size_of}
@@ -52,7 +53,7 @@ use Rattle.fdc_sequencer.specs.declared.stage.Stage.TheVariants.{Through, Collec
 use Rattle.fdc_sequencer.specs.declared.transfer.Transfer.{Transfer}
 use Rattle.fdc_chip.specs.Chips.{ChipState, asks_chip, interrupts_chip, passes_by_channel, passes_by_port, shows_behind, with_front}
 use Rattle.fdc_chip.specs.Ports as ports
-use Rattle.fdc_chip.specs.Ports.{GivesChipIf, GivesIf, ReadsAt, ReadsIf, TakesByte as TakesByteChip, TakesIf, gated_by, value_behind}
+use Rattle.fdc_chip.specs.Ports.{GivesChipIf, GivesIf, ReadsAt, ReadsIf, TakesByte as TakesByteChip, TakesIf, latched_by, value_behind}
 use Rattle.fdc_chip.specs.Steps.{StepsChip}
 use Rattle.fdc_chip.specs.declared.stage.Task.TheVariants.{Sent as SentTask}
 use Rattle.laws_sequencer.specs.Lasting.{is_under_way}
@@ -417,24 +418,25 @@ is_telling _ = false
 abbrev IsCalm : Results → Type 0
 IsCalm results = bit_and results.st1.0 overrun ≡ 0
 
-told_calm : (ending : Ending) (head_drive : ℕ) (key : Chrn) (met : Bool) → overran ending ≡ false → IsCalm (results_told ending head_drive key met)
-told_calm Overrun head_drive key met calm = absurd (false≢true (sym calm))
-told_calm (Done marked) head_drive key true calm = refl
-told_calm (Done marked) head_drive key false calm = refl
-told_calm NoMark head_drive key true calm = refl
-told_calm NoMark head_drive key false calm = refl
-told_calm NoSector head_drive key true calm = refl
-told_calm NoSector head_drive key false calm = refl
-told_calm NoField head_drive key true calm = refl
-told_calm NoField head_drive key false calm = refl
-told_calm BadCheck head_drive key true calm = refl
-told_calm BadCheck head_drive key false calm = refl
-told_calm NoCount head_drive key true calm = refl
-told_calm NoCount head_drive key false calm = refl
-told_calm Protected head_drive key true calm = refl
-told_calm Protected head_drive key false calm = refl
-told_calm Late head_drive key true calm = refl
-told_calm Late head_drive key false calm = refl
+ending_calm : (ending : Ending) → overran ending ≡ false → bit_and (st1_of ending).0 overrun ≡ 0
+ending_calm Overrun calm = absurd (false≢true (sym calm))
+ending_calm (Done marked) calm = refl
+ending_calm NoMark calm = refl
+ending_calm NoSector calm = refl
+ending_calm NoField calm = refl
+ending_calm BadCheck calm = refl
+ending_calm NoCount calm = refl
+ending_calm Protected calm = refl
+ending_calm Late calm = refl
+
+told_calm : (ending : Ending) (at : Transfer) (key : Chrn) (met : Bool) → overran ending ≡ false → IsCalm (results_told ending at key met)
+told_calm ending at key met calm = ap (λ n. bit_and n overrun) (by_cases at.seeks met) ∙ ending_calm ending calm
+  where
+    by_cases : (seeks other : Bool) → (results_told ending (record at { seeks = seeks }) key other).st1.0 ≡ (st1_of ending).0
+    by_cases true true = refl
+    by_cases true false = refl
+    by_cases false true = refl
+    by_cases false false = refl
 
 same_results : (one other : Results) → Telling one 0 ≡ Telling other 0 → one ≡ other
 same_results one other is = cc
@@ -445,10 +447,10 @@ as_told told results old new calm is tells = subst IsCalm (same_results told res
 behind_calm : (moving : MovingSector) (marked : Bool) → IsCalm (results_behind moving marked)
 behind_calm moving marked = by_more (would_go_on moving marked)
   where
-    by_more : (b : Bool) → IsCalm (if b then results_told NoCount moving.transfer.head_drive moving.transfer.key (has_met_other moving marked)
-        else results_told (Done false) moving.transfer.head_drive (next_of moving.transfer).key (has_met_other moving marked))
-    by_more true = told_calm NoCount moving.transfer.head_drive moving.transfer.key (has_met_other moving marked) refl
-    by_more false = told_calm (Done false) moving.transfer.head_drive (next_of moving.transfer).key (has_met_other moving marked) refl
+    by_more : (b : Bool) → IsCalm (if b then results_told NoCount moving.transfer moving.transfer.key (has_met_other moving marked)
+        else results_told (Done false) moving.transfer (next_of moving.transfer).key (has_met_other moving marked))
+    by_more true = told_calm NoCount moving.transfer moving.transfer.key (has_met_other moving marked) refl
+    by_more false = told_calm (Done false) moving.transfer (next_of moving.transfer).key (has_met_other moving marked) refl
 
 begins_silent : (at : Transfer) (counted passed_over : Bool) (old new : Front) (results : Results) → BeginsSector at counted passed_over old new → new.stage ≡ Telling results 0 → IsCalm results
 begins_silent at counted passed_over old new results begins tells = by_busy (is_executing begins.between.controller.phase) begins.begun
@@ -464,13 +466,13 @@ ends_calm (Done marked) moving old new results calm ends tells = by_next (goes_o
     by_next true begins = begins_silent (next_of moving.transfer) false (has_met_other moving marked) old new results begins tells
     by_next false is = as_told (results_behind moving marked) results old new (behind_calm moving marked) is tells
 ends_calm Overrun moving old new results calm is tells = absurd (false≢true (sym calm))
-ends_calm NoMark moving old new results calm is tells = as_told _ results old new (told_calm NoMark moving.transfer.head_drive moving.transfer.key moving.passed_over calm) is tells
-ends_calm NoSector moving old new results calm is tells = as_told _ results old new (told_calm NoSector moving.transfer.head_drive moving.transfer.key moving.passed_over calm) is tells
-ends_calm NoField moving old new results calm is tells = as_told _ results old new (told_calm NoField moving.transfer.head_drive moving.transfer.key moving.passed_over calm) is tells
-ends_calm BadCheck moving old new results calm is tells = as_told _ results old new (told_calm BadCheck moving.transfer.head_drive moving.transfer.key moving.passed_over calm) is tells
-ends_calm NoCount moving old new results calm is tells = as_told _ results old new (told_calm NoCount moving.transfer.head_drive moving.transfer.key moving.passed_over calm) is tells
-ends_calm Protected moving old new results calm is tells = as_told _ results old new (told_calm Protected moving.transfer.head_drive moving.transfer.key moving.passed_over calm) is tells
-ends_calm Late moving old new results calm is tells = as_told _ results old new (told_calm Late moving.transfer.head_drive moving.transfer.key moving.passed_over calm) is tells
+ends_calm NoMark moving old new results calm is tells = as_told _ results old new (told_calm NoMark moving.transfer moving.transfer.key moving.passed_over calm) is tells
+ends_calm NoSector moving old new results calm is tells = as_told _ results old new (told_calm NoSector moving.transfer moving.transfer.key moving.passed_over calm) is tells
+ends_calm NoField moving old new results calm is tells = as_told _ results old new (told_calm NoField moving.transfer moving.transfer.key moving.passed_over calm) is tells
+ends_calm BadCheck moving old new results calm is tells = as_told _ results old new (told_calm BadCheck moving.transfer moving.transfer.key moving.passed_over calm) is tells
+ends_calm NoCount moving old new results calm is tells = as_told _ results old new (told_calm NoCount moving.transfer moving.transfer.key moving.passed_over calm) is tells
+ends_calm Protected moving old new results calm is tells = as_told _ results old new (told_calm Protected moving.transfer moving.transfer.key moving.passed_over calm) is tells
+ends_calm Late moving old new results calm is tells = as_told _ results old new (told_calm Late moving.transfer moving.transfer.key moving.passed_over calm) is tells
 
 -- the controller's ending isn't OR, and it isn't OR as the front judges it
 same_ending : (one other : Ending) → Some one ≡ Some other → one ≡ other
@@ -594,7 +596,7 @@ write_on true value old new was gives = gives_fed old.front.stage value gives.wa
 write_on false value old new was is = same_fed old.front new.front (ap (λ (chip : ChipState). chip.front) is) was.fed
 
 port_on : (b : Bool) (port value : ℕ) (old new : ChipState) → resets port (value_behind port value) ≡ b → (port == 0x3F5) ≡ false → InTimeSoFar old → IsServing new → WritesFront port (value_behind port value) old.front new.front
-    → new ≡ with_front new.front (ports.reset_if b (gated_by port value old)) → IsFedFront new.front
+    → new ≡ with_front new.front (ports.reset_if b (latched_by port value old)) → IsFedFront new.front
 port_on true port value old new anew no_data was serving writes rest = absurd (false≢true (sym (ap parts.is_ready serving.sent) ∙ ap (λ (chip : ChipState). parts.is_ready chip.stage) rest))
 port_on false port value old new quiet no_data was serving writes rest = port_fed port (value_behind port value) old.front new.front writes no_data quiet was.fed
 
@@ -644,7 +646,7 @@ begun_fed first chip is =
     subst (λ (a : Accepted). CollectsAs last.opcode a (record start { bytes = kept a bytes }) chip.front) last.whole taken in
     let starts : Starts (Some first) (record start { bytes = kept (Ready last.command) bytes }) chip.front =
     subst (λ t. Starts t (record start { bytes = kept (Ready last.command) bytes }) chip.front) last.transfer whole in
-    starts_fed (start.strapped || start.configured) first (record start { bytes = kept (Ready last.command) bytes }) chip.front begins.serves.sized starts
+    starts_fed first.seeks first (record start { bytes = kept (Ready last.command) bytes }) chip.front begins.serves.sized starts
 
 pub prompt_calm : (first : Transfer) (calls : List Call) (begun last new : ChipState) (step : StepsChip last new) (results : Results) → IsSound begun → IsBegun first begun → AreInTime calls begun last → IsPrompt last
     → step.between.stage ≡ Telling results 0 → bit_and results.st1.0 overrun ≡ 0

@@ -20,7 +20,7 @@ use Rattle.fdc_sequencer.specs.declared.stage.Stage.TheVariants.{Through}
 use Rattle.laws_sequencer.proofs.Known.{which_drive}
 use Rattle.laws_sequencer.proofs.Resting.{polled_phase}
 use Rattle.fdc_chip.specs.Chips.{ChipState, with_front}
-use Rattle.fdc_chip.specs.Doing.{drained_by, drained_one, is_told, kept}
+use Rattle.fdc_chip.specs.Doing.{drained_by, drained_one, implies, is_told, kept}
 use Rattle.fdc_chip.specs.Interrupts.{with_result}
 use Rattle.laws_chip.specs.Beginning.{IsOfFour}
 use Rattle.laws_chip.specs.Sound.{RestsBehind}
@@ -152,13 +152,15 @@ front_rests old new step none rests =
 
 -- ---- results that are taken over
 
--- the inner controller does nothing, and the chip's stage and the bytes that came are as they were
+-- the inner controller does nothing. The chip's stage, the bytes that came and whether seeks are implied are as they
+-- were
 pub record IsResting (old new : ChipState) : Type 0 where
   pub rests : RestsBehind new.front
   pub base : IsBase old.front.adapter.controller new.front.adapter.controller
   pub stage : new.stage ≡ old.stage
   pub count : new.count ≡ old.count
   pub order : new.order ≡ old.order
+  pub implied : implies new ≡ implies old
 
 -- the controller once a result was taken
 record IsSensed (old new : Fdc) : Type 0 where
@@ -193,16 +195,16 @@ one_rests None old new rests = rests
 one_rests (Some (status, cylinder)) old new rests = by_told (is_told new.pace status)
   where
     by_told : (b : Bool) → IsResting old (if b then record new { interrupts = with_result status cylinder new.interrupts } else new)
-    by_told true = record { rests = rests.rests; base = rests.base; stage = rests.stage; count = rests.count; order = rests.order }
+    by_told true = record { rests = rests.rests; base = rests.base; stage = rests.stage; count = rests.count; order = rests.order; implied = rests.implied }
     by_told false = rests
 
 drains_one : (old new : ChipState) → IsResting old new → IsResting old (drained_one new)
 drains_one old new was =
     let (rests, base) = front_sensed new.front was.base.command was.rests in
     one_rests (pending_outside new.front) old (with_front (sensed_outside new.front) new)
-    (record { rests = rests; base = base_on old.front.adapter.controller new.front.adapter.controller (sensed_outside new.front).adapter.controller was.base base; stage = was.stage; count = was.count; order = was.order })
+    (record { rests = rests; base = base_on old.front.adapter.controller new.front.adapter.controller (sensed_outside new.front).adapter.controller was.base base; stage = was.stage; count = was.count; order = was.order; implied = was.implied })
 
 pub drained_rests : (n : ℕ) (old : ChipState) → old.front.adapter.controller.command ≡ [] → RestsBehind old.front → IsResting old (drained_by n old)
 unfolding drained_by
-drained_rests zero old none rests = record { rests = rests; base = base_same old.front.adapter.controller none; stage = refl; count = refl; order = refl }
+drained_rests zero old none rests = record { rests = rests; base = base_same old.front.adapter.controller none; stage = refl; count = refl; order = refl; implied = refl }
 drained_rests (suc n) old none rests = drains_one old (drained_by n old) (drained_rests n old none rests)

@@ -10,10 +10,10 @@ use Rattle.fdc_core.specs.declared.controller.Fdc.{Fdc}
 use Rattle.fdc_sequencer.specs.Fronts.{Front, KeepsFront, WritesFront, interrupts_outside}
 use Rattle.fdc_chip.specs.Chips.{ChipState, passes, passes_at, passes_by_channel, with_front}
 use Rattle.fdc_chip.specs.Codes.{code_of}
-use Rattle.fdc_chip.specs.Doing.{AttendsIf, drained, is_moving, moves_heads, needs_heads}
+use Rattle.fdc_chip.specs.Doing.{AttendsIf, drained, implies, is_moving, moves_heads, needs_heads}
 use Rattle.fdc_chip.specs.Orders.{is_format}
 use Rattle.fdc_chip.specs.Paces.{Paces}
-use Rattle.fdc_chip.specs.Ports.{CollectsIf, ComesIf, GivesChipIf, TakesByte, TakesIf, WritesChip, count_told, gated_by, may_come, reset_if, value_behind, with_next}
+use Rattle.fdc_chip.specs.Ports.{CollectsIf, ComesIf, GivesChipIf, TakesByte, TakesIf, WritesChip, count_told, latched_by, may_come, reset_if, value_behind, with_next}
 use Rattle.fdc_chip.specs.Settings.{is_by_port, step_words}
 use Rattle.fdc_chip.specs.Steps.{Follows, StepsChip}
 use Rattle.fdc_chip.specs.declared.code.Code.{Code}
@@ -141,7 +141,7 @@ port_going : (left drive : ℕ) (goal : Option ℕ) (port value : ℕ) (stage : 
 port_going left drive goal port value stage old new was writes no_data quiet =
     let given = value_behind port value in
     let (front, rest) = writes.others no_data in
-    let set : new ≡ with_front new.front (gated_by port value old) = subst (λ b. new ≡ with_front new.front (reset_if b (gated_by port value old))) quiet rest in
+    let set : new ≡ with_front new.front (latched_by port value old) = subst (λ b. new ≡ with_front new.front (reset_if b (latched_by port value old))) quiet rest in
     record {
       at = ap (λ (chip : ChipState). chip.stage) set ∙ was.at;
       unpaced = ap (λ (chip : ChipState). chip.pace) set ∙ was.unpaced;
@@ -170,7 +170,7 @@ port_paced : (left drive : ℕ) (goal : Option ℕ) (port value : ℕ) (stage : 
 port_paced left drive goal port value stage old new was writes no_data quiet =
     let given = value_behind port value in
     let (front, rest) = writes.others no_data in
-    let set : new ≡ with_front new.front (gated_by port value old) = subst (λ b. new ≡ with_front new.front (reset_if b (gated_by port value old))) quiet rest in
+    let set : new ≡ with_front new.front (latched_by port value old) = subst (λ b. new ≡ with_front new.front (reset_if b (latched_by port value old))) quiet rest in
     paced_as left drive goal stage old new was (ap (λ (chip : ChipState). chip.stage) set) (ap (λ (chip : ChipState). chip.pace) set) (ap (λ (chip : ChipState). chip.settings) set)
     (port_behind was.behind was.apart drive was.pace.cylinder port given old.front new.front was.going front no_data quiet)
 
@@ -262,7 +262,7 @@ comes_held left drive goal code byte old new sound few heads completes was write
 -- ---- ---- a device step of a held command
 
 pub held_step : (left drive : ℕ) (goal : Option ℕ) (code : Code) (order : Order) (old new : ChipState) → IsSound old → IsHeldFor order old → code_of order.code ≡ Some code → needs_heads code ≡ true
-    → HeadsGo (left + 1) drive goal Held old → StepsChip old new → (IsHeldFor order new × HeadsGo left drive goal Held new) ⊎ IsDoneFree code order new
+    → HeadsGo (left + 1) drive goal Held old → StepsChip old new → (IsHeldFor order new × HeadsGo left drive goal Held new) ⊎ IsDoneFree code order (implies old) new
 held_step left drive goal code order old new sound held is heads was step =
     let (paced, paces, attends) = follows_held old new step held.held in
     let set = with_front step.between old in
@@ -287,7 +287,7 @@ held_step left drive goal code order old new sound held is heads was step =
           let same : drained paced ≡ stood status target (slice_set cylinders drive target) set = ap drained unpaced ∙ ended_drained drive status target cylinders set was.few ended was.unpaced in
           let stands = stood_stands status target (slice_set cylinders drive target) set ended.free in
           let still : still_moves paced ≡ false = ap is_moving same ∙ or_from (is_some set.pace) (moves_heads (stood status target (slice_set cylinders drive target) set).front) (ap is_some was.unpaced) stands.stand in
-          inr (subst (λ o. IsDoneFree code o new) of_order (attended_free code paced new attended still))
+          inr (subst (λ o. IsDoneFree code o (implies old) new) of_order (subst (λ seeks. IsDoneFree code paced.order seeks new) resting.implied (attended_free code paced new attended still)))
     ]
 
 -- ---- ---- pulses are to come in the time that SPECIFY sets

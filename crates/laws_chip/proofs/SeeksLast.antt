@@ -17,7 +17,7 @@ use Rattle.fdc_chip.specs.Chips.{ChipState, passes_by_channel, passes_by_port, w
 use Rattle.fdc_chip.specs.Codes.{code_of}
 use Rattle.fdc_chip.specs.Doing.{AttendsIf, AttendsTo, Obeys, drained, is_moving, moves_heads, needs_heads, pace_begun}
 use Rattle.fdc_chip.specs.Paces.{Paces}
-use Rattle.fdc_chip.specs.Ports.{CollectsIf, ComesIf, GivesChipIf, GivesIf, ReadsAt, ReadsIf, TakesByte, TakesIf, WritesChip, byte_told, count_told, gated_by, is_whole, may_come, quieted_if, reset_if, value_behind, with_next}
+use Rattle.fdc_chip.specs.Ports.{CollectsIf, ComesIf, GivesChipIf, GivesIf, ReadsAt, ReadsIf, TakesByte, TakesIf, WritesChip, byte_told, count_told, latched_by, is_whole, may_come, quieted_if, reset_if, value_behind, with_next}
 use Rattle.fdc_chip.specs.Settings.{step_words}
 use Rattle.fdc_chip.specs.Steps.{Follows}
 use Rattle.fdc_chip.specs.declared.answer.Answer.{Answer}
@@ -219,7 +219,7 @@ other_few (made.Writes port value) words n old new idle free range goes still do
     (λ no_data.
     let (front, rest) = does.others no_data in
     let behind = value_behind port value in
-    port_few (resets port behind) words n port behind old (gated_by port value old) new refl no_data refl still front rest few)
+    port_few (resets port behind) words n port behind old (latched_by port value old) new refl no_data refl still front rest few)
 other_few made.Changes words n old new idle free range goes still does no_step few =
     same_few words n old new (ap (λ (chip : ChipState). chip.pace) does.rest) (ap (λ (fdc : Fdc). fdc.seeks.seek) does.front.controller) few
 other_few (made.Straps on) words n old new idle free range goes still does no_step few =

@@ -12,7 +12,7 @@ use Rattle.fdc_core.specs.State.{is_held}
 use Rattle.fdc_core.specs.Whole.{ending_told, given_up, given_up_if, mark_of, without_seek}
 use Rattle.fdc_core.specs.declared.controller.Fdc.{Fdc}
 use Rattle.fdc_adapter.specs.Adapters.{AdapterState, StepsAdapter}
-use Rattle.fdc_sequencer.specs.Fronts.{BeginsSector, Front, with_controller}
+use Rattle.fdc_sequencer.specs.Fronts.{BeginsSector, Front, with_controller, implies_seeks}
 use Rattle.fdc_sequencer.specs.Moves.{EndsIf, EndsSector, FollowsStep, MovesOn, SeeksOn, StepsFront, goes_on, has_met_other, is_unwanted, judged, judged_if, passed_over_if, results_behind, results_failed}
 use Rattle.fdc_sequencer.specs.Opcodes.{opcode_of}
 use Rattle.fdc_sequencer.specs.Transfers.{next_of}
@@ -46,7 +46,7 @@ order_serves opcode order start new stands is size sends =
     let (begins, carried, starts) = order_begins opcode order start new stands is size sends in (
       record {
         under_way = carried.under_way;
-        first = transfer_sent opcode order;
+        first = transfer_sent (implies_seeks start) opcode order;
         history = nothing_moved false;
         serves = begins.serves;
         waits = carried.waits;

@@ -7,7 +7,7 @@ use Rattle.fdc_core.specs.Ports.{resets}
 use Rattle.fdc_chip.specs.Chips.{ChipState, is_data, passes_by_channel, passes_by_port, with_front}
 use Rattle.fdc_chip.specs.Doing.{is_size}
 use Rattle.fdc_chip.specs.Ending.{Ends, EndsAddress, EndsAddressIf, EndsAt, EndsData, EndsIf, EndsIndex, EndsSent, LooksOn, has_results, is_over, looks_for_cylinder, met_key, results_behind, results_taken, told_results, verified, without_one}
-use Rattle.fdc_chip.specs.Ports.{GivesChipIf, GivesIf, ReadsAt, ReadsChip, ReadsIf, TakesByte, TakesIf, WritesChip, count_told, counted_if, gated_by, given_one, reset_if, value_behind}
+use Rattle.fdc_chip.specs.Ports.{GivesChipIf, GivesIf, ReadsAt, ReadsChip, ReadsIf, TakesByte, TakesIf, WritesChip, count_told, counted_if, latched_by, given_one, reset_if, value_behind}
 use Rattle.fdc_chip.specs.Steps.{Follows, FollowsTask, StepsChip}
 use Rattle.fdc_chip.specs.declared.stage.Place.{Place}
 use Rattle.fdc_chip.specs.declared.stage.Place.TheVariants.{Index, Address, Data}
@@ -123,7 +123,7 @@ other_read port value old new no_data reads = either_way (port == 0x3F4)
 
 other_write : (port value : ℕ) (what : Task) (old new : ChipState) → (port == 0x3F5) ≡ false → resets port (value_behind port value) ≡ false → WritesChip port value old new → old.stage ≡ Busy what → IsBusyOrTells new
 other_write port value what old new no_data quiet writes at =
-    rest_goes what (gated_by port value old) new (subst (λ b. new ≡ with_front new.front (reset_if b (gated_by port value old))) quiet (writes.others no_data).1) at
+    rest_goes what (latched_by port value old) new (subst (λ b. new ≡ with_front new.front (reset_if b (latched_by port value old))) quiet (writes.others no_data).1) at
 
 pub call_goes : (call : Call) (what : Task) (old new : ChipState) → Does call old new → old.stage ≡ Busy what → is_reset call ≡ false → IsBusyOrTells new
 call_goes made.Steps what old new does at quiet = step_goes what old new does at

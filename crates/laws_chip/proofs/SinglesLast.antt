@@ -14,7 +14,7 @@ use Rattle.fdc_sequencer.specs.Moves.{StepsFront}
 use Rattle.fdc_chip.specs.Chips.{ChipState, is_data, passes_by_channel, passes_by_port, with_front}
 use Rattle.fdc_chip.specs.Doing.{is_size}
 use Rattle.fdc_chip.specs.Ending.{Ends, EndsAddress, EndsAddressIf, EndsAt, EndsData, EndsIf, EndsIndex, EndsSent, MayEnd, is_over, looks_for_cylinder, results_behind, results_taken, verified, without_one}
-use Rattle.fdc_chip.specs.Ports.{GivesChipIf, GivesIf, ReadsAt, ReadsChip, ReadsIf, TakesByte, TakesIf, count_told, counted_if, gated_by, reset_if, value_behind}
+use Rattle.fdc_chip.specs.Ports.{GivesChipIf, GivesIf, ReadsAt, ReadsChip, ReadsIf, TakesByte, TakesIf, count_told, counted_if, latched_by, reset_if, value_behind}
 use Rattle.fdc_chip.specs.Steps.{Follows, FollowsTask}
 use Rattle.fdc_chip.specs.declared.stage.Place.{Place}
 use Rattle.fdc_chip.specs.declared.stage.Place.TheVariants.{Index, Address, Data}
@@ -247,7 +247,7 @@ single_call (made.Writes port value) what old new sound at was does still same =
     (λ no_data.
     let (front, rest) = does.others no_data in
     let given = value_behind port value in
-    other_write (resets port given) port given what old (gated_by port value old) new refl no_data front rest still was)
+    other_write (resets port given) port given what old (latched_by port value old) new refl no_data front rest still was)
 single_call made.Changes what old new sound at was does still same =
     phase_left old.front new.front (ap (λ (fdc : Fdc). fdc.phase) does.front.controller) (keeps_executes old.front new.front does.front was)
 single_call (made.Straps on) what old new sound at was does still same = same_single old.front new.front (ap (λ (chip : ChipState). chip.front) does) was

@@ -19,7 +19,7 @@ use Rattle.fdc_chip.specs.Chips.{ChipState, IsNewChip, KeepsChip, is_data, passe
 use Rattle.fdc_chip.specs.Codes.{code_of}
 use Rattle.fdc_chip.specs.Orders.{with_byte}
 use Rattle.fdc_chip.specs.Pins.{ResetsByPin, pin_settings}
-use Rattle.fdc_chip.specs.Ports.{CollectsIf, ComesIf, GivesChipIf, GivesIf, ReadsAt, ReadsChip, ReadsIf, TakesByte, TakesIf, WritesChip, byte_told, count_told, counted_if, gated_by, given_one, is_whole, may_come, quieted_if, reset_if, value_behind, with_next}
+use Rattle.fdc_chip.specs.Ports.{CollectsIf, ComesIf, GivesChipIf, GivesIf, ReadsAt, ReadsChip, ReadsIf, TakesByte, TakesIf, WritesChip, byte_told, count_told, counted_if, latched_by, given_one, is_whole, may_come, quieted_if, reset_if, value_behind, with_next}
 use Rattle.fdc_chip.specs.Settings.{is_by_port}
 use Rattle.fdc_chip.specs.declared.answer.Answer.{Answer}
 use Rattle.fdc_chip.specs.declared.order.Order.{Order}
@@ -317,7 +317,7 @@ port_write false port value old new quiet no_data sound out writes rest =
     by_stage (Busy what) now = port_busy what port value old.front new.front writes no_data quiet now
 
 -- INT and DRQ are let out or kept in
-gated_sound : (port value : ℕ) (old : ChipState) → IsSound old → IsSound (gated_by port value old)
+gated_sound : (port value : ℕ) (old : ChipState) → IsSound old → IsSound (latched_by port value old)
 gated_sound port value old sound = record { by_dma = sound.by_dma; whole = sound.whole; held = sound.held; lets_out = sound.lets_out; comes = sound.comes; code = sound.code; now = sound.now }
 
 writes_sound : (port value : ℕ) (old new : ChipState) → value < 256 → IsSound old → WritesChip port value old new → IsSound new
@@ -326,7 +326,7 @@ writes_sound port value old new few sound writes = either_way (port == 0x3F5)
     (λ no_data.
     let (front, rest) = writes.others no_data in
     let given = value_behind port value in
-    port_write (resets port given) port given (gated_by port value old) new refl no_data (gated_sound port value old sound)
+    port_write (resets port given) port given (latched_by port value old) new refl no_data (gated_sound port value old sound)
     (port_lets_out port value (lines_at old.front.adapter) old.front.adapter.controller new.front.adapter.controller few (front.others no_data).0.writes no_data sound.lets_out) front rest)
 
 -- ---- media, and the straps
@@ -408,7 +408,7 @@ used_sound bay0 bay1 calls start new is all = on calls start new all (new_sound 
 in_bytes : (0 < 256) × (2 < 256)
 in_bytes = (omega arith, omega arith)
 
-with_settings : (chip : ChipState) (other : ChipState) → IsSound chip → IsSound (record chip { settings = other.settings })
+with_settings : (chip : ChipState) (other : ChipState) → IsSound chip → IsSound (record chip { settings = other.settings; tape = other.tape })
 with_settings chip other sound = record {
   by_dma = sound.by_dma;
   whole = sound.whole;
@@ -423,4 +423,4 @@ pub pin_sound : (old new : ChipState) → ResetsByPin old new → IsSound old �
 pin_sound old new resets sound =
     let held = call_sound (made.Writes 0x3F2 0) old resets.held resets.dor in_bytes.0 sound in
     let rated = call_sound (made.Writes 0x3F7 2) resets.held resets.rated resets.ccr in_bytes.1 held in
-    subst IsSound (sym resets.settings) (with_settings resets.rated (record resets.rated { settings = pin_settings old.settings }) rated)
+    subst IsSound (sym resets.settings) (with_settings resets.rated (record resets.rated { settings = pin_settings old.settings; tape = 0 }) rated)

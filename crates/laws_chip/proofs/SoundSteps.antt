@@ -5,13 +5,13 @@ use Rattle.flop_base.specs.declared.key.Chrn.{Chrn}
 use Rattle.fdc_registers.specs.St1.{missing_mark}
 use Rattle.fdc_commands.specs.declared.results.Results.{Results}
 use Rattle.fdc_core.specs.State.{is_held}
-use Rattle.fdc_sequencer.specs.Fronts.{Front, TakesFront, interrupts_outside, told_front}
+use Rattle.fdc_sequencer.specs.Fronts.{Front, TakesFront, interrupts_outside, told_front, with_seeks}
 use Rattle.fdc_sequencer.specs.Moves.{StepsFront}
 use Rattle.fdc_sequencer.specs.Opcodes.{opcode_of}
 use Rattle.fdc_sequencer.specs.Senses.{is_ready as is_ready_behind}
 use Rattle.fdc_chip.specs.Chips.{ChipState, asks_chip, interrupts_chip, with_front}
 use Rattle.fdc_chip.specs.Codes.{code_of}
-use Rattle.fdc_chip.specs.Doing.{SendsOn, drained, identifying, is_size, moves_heads, moving, reading_one}
+use Rattle.fdc_chip.specs.Doing.{SendsOn, drained, identifying, implies, is_size, moves_heads, moving, reading_one}
 use Rattle.fdc_chip.specs.Ending.{Ends, EndsAddress, EndsAddressIf, EndsAt, EndsData, EndsIf, EndsIndex, EndsSent, LooksOn, MayEnd, ReadsOn, has_results, is_over, looks_for_cylinder, met_key, results_behind, results_taken, told_results, track_at, unit_of, verified, without_one}
 use Rattle.fdc_chip.specs.Paces.{EndsAt as EndsPace, GoesOnIf, Paces, PulsesIf, is_due, is_over as is_over_pace, stepped}
 use Rattle.fdc_chip.specs.Settings.{step_words}
@@ -27,7 +27,7 @@ use Rattle.fdc_chip.specs.declared.stage.Track.{Track}
 use Rattle.laws_chip.specs.Sound.{ExecutesBehind, IsBusyAt, IsBusyWith, IsSound, RestsBehind, ServesBehind}
 use Rattle.laws_chip.proofs.Attended.{attended_sound, done_sound, given_moves, one_order, recalibrated_rests, some_of}
 use Rattle.laws_chip.proofs.Channels.{IsOverBehind, counts_busy, counts_front_base, counts_over, takes_busy, takes_front_base, takes_over}
-use Rattle.laws_chip.proofs.CommandsBegun.{unsought_stands}
+use Rattle.laws_chip.proofs.CommandsBegun.{sought_stands}
 use Rattle.laws_chip.proofs.FirstSectors.{IsBase}
 use Rattle.laws_chip.proofs.PassedOn.{none_wait}
 use Rattle.laws_chip.proofs.Rests.{IsResting, base_on, base_same, drained_rests, front_rests, stands_rests}
@@ -70,12 +70,12 @@ track_basis track old basis = record { by_dma = basis.by_dma; whole = basis.whol
 looks_sound : (track : Track) (old new : ChipState) → IsBasis old → Stands old.front → LooksOn track old new → IsSound new
 looks_sound track old new basis stands looks =
     let next : Track = record track { place = Address } in
-    id_given (task.Track next) track.unit (track_at next old) new (track_basis next old basis) (unsought_stands old.front stands) refl (λ executes. executes) looks
+    id_given (task.Track next) track.unit (track_at next old) new (track_basis next old basis) (sought_stands false old.front stands) refl (λ executes. executes) looks
 
 reads_sound : (track : Track) (key : Chrn) (old new : ChipState) → IsBasis old → Stands old.front → is_size key.n ≡ true → ReadsOn track key old new → IsSound new
 reads_sound track key old new basis stands sized reads =
     sector_given (task.Track (met_key key track)) track.unit key old.order.gap old.order.length (track_at (met_key key track) old) new (track_basis (met_key key track) old basis)
-    (unsought_stands old.front stands) refl sized (λ serves. serves) reads
+    (sought_stands false old.front stands) refl sized (λ serves. serves) reads
 
 sent_sound : (b : Bool) (results : Results) (old new : ChipState) → IsBasis old → Stands old.front → EndsSent b results old new → IsSound new
 sent_sound true results old new basis stands looks =
@@ -251,8 +251,8 @@ stage_rests old new sound idle rests base stage count order = stays_sound old ne
 
 -- the inner controller is given a command of that seek
 gives_rests : (unit : ℕ) (goal : Option ℕ) (old set new : ChipState) → Stands old.front → set.front ≡ old.front → set.stage ≡ old.stage → set.count ≡ old.count → set.order ≡ old.order
-    → SendsOn (moving unit goal) set new → IsResting old new
-gives_rests unit goal old set new stands front stage count order (sends, rest) =
+    → implies set ≡ implies old → SendsOn (moving unit goal) set new → IsResting old new
+gives_rests unit goal old set new stands front stage count order implied (sends, rest) =
     let (rests, base) = given_moves unit goal set.front new.front (subst Stands (sym front) stands) sends in
     record {
       rests = rests;
@@ -260,19 +260,20 @@ gives_rests unit goal old set new stands front stage count order (sends, rest) =
       stage = ap (λ (chip : ChipState). chip.stage) rest ∙ stage;
       count = ap (λ (chip : ChipState). chip.count) rest ∙ count;
       order = ap (λ (chip : ChipState). chip.order) rest ∙ order;
+      implied = ap implies rest ∙ implied;
     }
 
 ends_rest : (goal : Option ℕ) (pace : Pace) (old new : ChipState) → Stands old.front → EndsPace goal pace (record old { pace = None }) new → IsResting old new
-ends_rest (Some target) pace old new stands ends = gives_rests pace.unit (Some target) old (record old { pace = None }) new stands refl refl refl refl ends
+ends_rest (Some target) pace old new stands ends = gives_rests pace.unit (Some target) old (record old { pace = None }) new stands refl refl refl refl refl ends
 ends_rest None pace old new stands is =
     let (rests, base) = recalibrated_rests pace.unit pace.left old.front stands in
-    subst (IsResting old) (sym is) (record { rests = rests; base = base; stage = refl; count = refl; order = refl })
+    subst (IsResting old) (sym is) (record { rests = rests; base = base; stage = refl; count = refl; order = refl; implied = refl })
 
 pulses_rest : (b : Bool) (pace : Pace) (old new : ChipState) → Stands old.front → PulsesIf b pace old new → IsResting old new
 pulses_rest true pace old new stands ends = ends_rest pace.goal pace old new stands ends
 pulses_rest false pace old new stands pulses =
     let next : Pace = stepped (step_words old.settings) pace in
-    gives_rests pace.unit (Some next.cylinder) old (record old { pace = Some next }) new stands refl refl refl refl pulses
+    gives_rests pace.unit (Some next.cylinder) old (record old { pace = Some next }) new stands refl refl refl refl refl pulses
 
 goes_rests : (b : Bool) (pace : Pace) (old new : ChipState) → old.front.adapter.controller.non_dma ≡ false → old.front.adapter.controller.command ≡ [] → RestsBehind old.front → is_due pace old ≡ b
     → GoesOnIf b pace old new → IsResting old new
@@ -289,12 +290,12 @@ goes_rests true pace old new by_dma none rests due pulses =
       by_dma = by_dma;
     }) pulses
 goes_rests false pace old new by_dma none rests due is =
-    subst (IsResting old) (sym is) (record { rests = rests; base = base_same old.front.adapter.controller none; stage = refl; count = refl; order = refl })
+    subst (IsResting old) (sym is) (record { rests = rests; base = base_same old.front.adapter.controller none; stage = refl; count = refl; order = refl; implied = refl })
 
 -- the inner controller still rests
 pub paces_rest : (pace : Option Pace) (old new : ChipState) → old.front.adapter.controller.non_dma ≡ false → old.front.adapter.controller.command ≡ [] → RestsBehind old.front → Paces pace old new → IsResting old new
 paces_rest None old new by_dma none rests is =
-    subst (IsResting old) (sym is) (record { rests = rests; base = base_same old.front.adapter.controller none; stage = refl; count = refl; order = refl })
+    subst (IsResting old) (sym is) (record { rests = rests; base = base_same old.front.adapter.controller none; stage = refl; count = refl; order = refl; implied = refl })
 paces_rest (Some pace) old new by_dma none rests goes =
     let set = drained old in
     let was = drained_rests 4 old none rests in
@@ -305,6 +306,7 @@ paces_rest (Some pace) old new by_dma none rests goes =
       stage = on.stage ∙ was.stage;
       count = on.count ∙ was.count;
       order = on.order ∙ was.order;
+      implied = on.implied ∙ was.implied;
     }
 
 pub stepped_rests : (old : ChipState) (between : Front) (new : ChipState) → IsSound old → is_busy old.stage ≡ false → StepsFront old.front between → Paces old.pace (with_front between old) new → IsResting old new
@@ -317,6 +319,7 @@ stepped_rests old between new sound idle step paces =
       stage = on.stage;
       count = on.count;
       order = on.order;
+      implied = on.implied;
     }
 
 -- ---- a device step of any chip

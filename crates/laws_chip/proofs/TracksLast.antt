@@ -7,7 +7,7 @@ use Rattle.fdc_commands.specs.declared.results.Results.{Results}
 use Rattle.fdc_core.specs.Ports.{resets}
 use Rattle.fdc_core.specs.Ranges.{IsInRange}
 use Rattle.fdc_core.specs.Steps.{steps_left}
-use Rattle.fdc_sequencer.specs.Fronts.{Front, WritesFront}
+use Rattle.fdc_sequencer.specs.Fronts.{Front, WritesFront, implies_seeks, with_seeks}
 use Rattle.fdc_sequencer.specs.Moves.{StepsFront}
 use Rattle.fdc_sequencer.specs.Transfers.{is_last}
 use Rattle.fdc_sequencer.specs.declared.opcode.Opcode.{Opcode}
@@ -18,9 +18,9 @@ use Rattle.laws_sequencer.specs.Lasting as lasting
 use Rattle.laws_sequencer.specs.Lasting.{HasRecords, is_under_way, most_steps}
 use Rattle.laws_sequencer.proofs.Lasted.{Lasts, call_lasts, calls_last, first_lasts, lasts_some, unsought_last}
 use Rattle.fdc_chip.specs.Chips.{ChipState, is_data, passes_by_channel, passes_by_port, with_front}
-use Rattle.fdc_chip.specs.Doing.{Obeys, Sends, TransfersIf, absent_key, implies, is_size, reading_one, track_begun, with_last}
-use Rattle.fdc_chip.specs.Ending.{EndsAddress, EndsAddressIf, EndsAt, EndsData, EndsIf, EndsIndex, LooksOn, ReadsOn, has_results, is_over, met_key, results_behind, results_taken, without_one, without_seeks}
-use Rattle.fdc_chip.specs.Ports.{GivesChipIf, GivesIf, ReadsAt, ReadsChip, ReadsIf, TakesByte, TakesIf, count_told, counted_if, gated_by, reset_if, value_behind}
+use Rattle.fdc_chip.specs.Doing.{Obeys, Sends, TransfersIf, absent_key, implies, is_size, reading_one, sectors_of_track, track_begun, with_last}
+use Rattle.fdc_chip.specs.Ending.{EndsAddress, EndsAddressIf, EndsAt, EndsData, EndsIf, EndsIndex, LooksOn, ReadsOn, has_results, is_over, met_key, results_behind, results_taken, without_one}
+use Rattle.fdc_chip.specs.Ports.{GivesChipIf, GivesIf, ReadsAt, ReadsChip, ReadsIf, TakesByte, TakesIf, count_told, counted_if, latched_by, reset_if, value_behind}
 use Rattle.fdc_chip.specs.Steps.{Follows, StepsChip}
 use Rattle.fdc_chip.specs.declared.code.Code.TheVariants.{ReadTrack}
 use Rattle.fdc_chip.specs.declared.stage.Place.{Place}
@@ -35,7 +35,7 @@ use Rattle.laws_chip.specs.Calls.{Call, Does, is_step, steps_in, steps_of}
 use Rattle.laws_chip.specs.Lasting.{AreTracked, IsTracking, most_track_steps}
 use Rattle.laws_chip.specs.Sound.{IsBusyAt, IsSound, ServesBehind}
 use Rattle.laws_chip.proofs.Attended.{one_order}
-use Rattle.laws_chip.proofs.CommandsBegun.{sought_sent, unsought_stands}
+use Rattle.laws_chip.proofs.CommandsBegun.{sought_sent, sought_stands}
 use Rattle.laws_chip.proofs.FirstSectors.{base_held}
 use Rattle.laws_chip.proofs.NineBytes.{order_begins}
 use Rattle.laws_chip.proofs.ServedSteps.{serves_step, tells_shown}
@@ -121,34 +121,34 @@ read_one = record { operation = Read false false; multitrack = false }
 same_record : (r : ℕ) → r + 256 - r ≡ 256
 same_record r = omega arith
 
-one_sector : (unit : ℕ) (key : Chrn) (gap length : ℕ) → most_steps (transfer_sent read_one (one_order unit key gap length)) ≡ 65792
-one_sector unit key gap length = ap (λ (n : ℕ). 256 + 65536 * ((n % 256 + 1) + 0)) (same_record key.r)
+one_sector : (seeks : Bool) (unit : ℕ) (key : Chrn) (gap length : ℕ) → most_steps (transfer_sent seeks read_one (one_order unit key gap length)) ≡ 65792
+one_sector seeks unit key gap length = ap (λ (n : ℕ). 256 + 65536 * ((n % 256 + 1) + 0)) (same_record key.r)
 
 -- no sector comes after it
 same_number : (n : ℕ) → (n == n) ≡ true
 same_number n = either_way (n == n) (λ same. same) (λ other. absurd (eqb-false n n other refl))
 
-one_last : (unit : ℕ) (key : Chrn) (gap length : ℕ) → is_last (transfer_sent read_one (one_order unit key gap length)) ≡ true
-one_last unit key gap length = ap (λ b. b && true) (same_number key.r)
+one_last : (seeks : Bool) (unit : ℕ) (key : Chrn) (gap length : ℕ) → is_last (transfer_sent seeks read_one (one_order unit key gap length)) ≡ true
+one_last seeks unit key gap length = ap (λ b. b && true) (same_number key.r)
 
-one_records : (unit : ℕ) (key : Chrn) (gap length : ℕ) → HasRecords (transfer_sent read_one (one_order unit key gap length))
-one_records unit key gap length = λ more. clash (is_last (transfer_sent read_one (one_order unit key gap length))) more (one_last unit key gap length)
+one_records : (seeks : Bool) (unit : ℕ) (key : Chrn) (gap length : ℕ) → HasRecords (transfer_sent seeks read_one (one_order unit key gap length))
+one_records seeks unit key gap length = λ more. clash (is_last (transfer_sent seeks read_one (one_order unit key gap length))) more (one_last seeks unit key gap length)
 
 -- the first sector, for which a seek may be implied
 first_sector : (unit : ℕ) (key : Chrn) (gap length : ℕ) (set new : Front) → Stands set → is_size key.n ≡ true → Sends (reading_one unit key gap length) set new → IsInRange new.adapter.controller → Lasts 65792 new
 first_sector unit key gap length set new stands sized sends range =
     let order = one_order unit key gap length in
     let (begins, carried, starts) = order_begins read_one order set new stands refl sized sends in
-    let first = transfer_sent read_one order in
-    subst (λ n. Lasts n new) (one_sector unit key gap length) (first_lasts begins.byte first begins.start new begins.last (one_records unit key gap length) begins.writes begins.stays range)
+    let first = transfer_sent (implies_seeks set) read_one order in
+    subst (λ n. Lasts n new) (one_sector (implies_seeks set) unit key gap length) (first_lasts begins.byte first begins.start new begins.last (one_records (implies_seeks set) unit key gap length) begins.writes begins.stays range)
 
 -- a sector for which no seek is implied
-sector_lasts : (unit : ℕ) (key : Chrn) (gap length : ℕ) (set new : Front) → Stands set → (set.strapped || set.configured) ≡ false → is_size key.n ≡ true → Sends (reading_one unit key gap length) set new → Lasts 65792 new
+sector_lasts : (unit : ℕ) (key : Chrn) (gap length : ℕ) (set new : Front) → Stands set → implies_seeks set ≡ false → is_size key.n ≡ true → Sends (reading_one unit key gap length) set new → Lasts 65792 new
 sector_lasts unit key gap length set new stands none sized sends =
     let order = one_order unit key gap length in
     let (begins, carried, starts) = order_begins read_one order set new stands refl sized sends in
     let whole : Front = record set { stage = Collecting read_one; bytes = [] } in
-    subst (λ n. Lasts n new) (one_sector unit key gap length) (unsought_last (transfer_sent read_one order) whole new (one_records unit key gap length) none begins.stays starts)
+    subst (λ n. Lasts n new) (one_sector (implies_seeks set) unit key gap length) (unsought_last (transfer_sent (implies_seeks set) read_one order) whole new (one_records (implies_seeks set) unit key gap length) none begins.stays starts)
 
 -- ---- what comes of results
 
@@ -174,7 +174,7 @@ reads_leave n track key old new stands sized some spent tracks (sends, rest) = r
   some = some;
   leaves = (
     65792,
-    sector_lasts track.unit key old.order.gap old.order.length (without_seeks old.front) new.front (unsought_stands old.front stands) refl sized sends,
+    sector_lasts track.unit key old.order.gap old.order.length (with_seeks false old.front) new.front (sought_stands false old.front stands) refl sized sends,
     spent,
   );
 }
@@ -337,7 +337,7 @@ call_passes (made.Writes port value) track old new at does other tracks = either
     (λ no_data.
     let (front, rest) = does.others no_data in
     let given = value_behind port value in
-    port_passes (resets port given) port given track old (gated_by port value old) new at tracks front refl rest)
+    port_passes (resets port given) port given track old (latched_by port value old) new at tracks front refl rest)
 call_passes made.Changes track old new at does other tracks = passing_one behind.Changes track old new at does.front refl (ap (λ (chip : ChipState). chip.stage) does.rest)
 call_passes (made.Straps on) track old new at does other tracks = record {
   kept = kept_at track old new at (ap (λ (chip : ChipState). chip.stage) does);
@@ -459,19 +459,19 @@ pub track_leaves : (old begun : ChipState) → is_size old.order.key.n ≡ true 
 track_leaves old begun size free obeys range =
     let order = old.order in
     let noted = with_last order.last_sector old in
-    let what : Task = task.Track (track_begun order) in
+    let what : Task = task.Track (track_begun (implies noted) order) in
     let key = absent_key order.key.c in
     let bytes = reading_one order.unit key order.gap order.length in
     let begins : TransfersIf true true what bytes noted begun = subst (λ b. TransfersIf b true what bytes noted begun) size obeys in
     let sent = sought_sent (implies noted) what (implies noted) bytes noted begun (stands_free old.front free) begins in
     record {
-      track = track_begun order;
+      track = track_begun (implies noted) order;
       at = sent.stage;
       some = all_left order.last_sector;
       leaves = (
         65792,
         first_sector order.unit key order.gap order.length sent.set begun.front sent.stands refl sent.sends range,
-        at_most (65792 + 131328 * (track_begun order).left),
+        at_most (65792 + 131328 * sectors_of_track order),
       );
     }
 

@@ -54,7 +54,7 @@ transfer_last first calls begun new is bytes range served =
 -- ---- a VERIFY begins
 
 verify_sent : (opcode : Opcode) (old new : ChipState) → opcode_of (verifying old.order).code ≡ Some opcode → is_size old.order.key.n ≡ true → IsFreeBehind old.front → Obeys (VerifyCode true) old new
-    → BeginsBehind (transfer_sent opcode (verifying old.order)) new.front × IsVerifying new
+    → BeginsBehind (transfer_sent (implies old) opcode (verifying old.order)) new.front × IsVerifying new
 verify_sent opcode old new is size free obeys =
     let noted = with_last old.order.last_sector old in
     let order = verifying old.order in
@@ -62,10 +62,10 @@ verify_sent opcode old new is size free obeys =
     let begins : TransfersIf true true (Verify left) (order_bytes order) noted new = subst (λ b. TransfersIf b true (Verify left) (order_bytes order) noted new) size obeys in
     let sent = sought_sent (implies noted) (Verify left) (implies noted) (order_bytes order) noted new (stands_free old.front free) begins in
     let (serves, carried, starts) = order_begins opcode order sent.set new.front sent.stands is size sent.sends in
-    (serves, record { left = left; verifies = sent.stage; under_way = carried.under_way })
+    (subst (λ seeks. BeginsBehind (transfer_sent seeks opcode order) new.front) sent.implied serves, record { left = left; verifies = sent.stage; under_way = carried.under_way })
 
 pub verify_begins : (opcode : Opcode) (old new : ChipState) → opcode_of (verifying old.order).code ≡ Some opcode → is_size old.order.key.n ≡ true → IsFreeBehind old.front → Obeys (VerifyCode true) old new
-    → BeginsBehind (transfer_sent opcode (verifying old.order)) new.front
+    → BeginsBehind (transfer_sent (implies old) opcode (verifying old.order)) new.front
 verify_begins opcode old new is size free obeys = (verify_sent opcode old new is size free obeys).0
 
 pub verify_verifies : (opcode : Opcode) (old new : ChipState) → opcode_of (verifying old.order).code ≡ Some opcode → is_size old.order.key.n ≡ true → IsFreeBehind old.front → Obeys (VerifyCode true) old new

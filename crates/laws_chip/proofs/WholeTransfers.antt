@@ -7,10 +7,10 @@ use Rattle.fdc_sequencer.specs.Senses.{is_ready, is_ready_at, pending_outside, s
 use Rattle.fdc_sequencer.specs.declared.opcode.Opcode.{Opcode}
 use Rattle.fdc_chip.specs.Chips.{ChipState, passes_by_channel, passes_by_port, with_front}
 use Rattle.fdc_chip.specs.Codes.{code_of, parameters}
-use Rattle.fdc_chip.specs.Doing.{Attends, AttendsIf, AttendsTo, drained, drained_by, is_moving, is_size, is_told, kept, moves_heads, needs_heads}
+use Rattle.fdc_chip.specs.Doing.{Attends, AttendsIf, AttendsTo, drained, drained_by, implies, is_moving, is_size, is_told, kept, moves_heads, needs_heads}
 use Rattle.fdc_chip.specs.Interrupts.{with_result}
 use Rattle.fdc_chip.specs.Paces.{Paces}
-use Rattle.fdc_chip.specs.Ports.{CollectsIf, ComesIf, GivesChipIf, GivesIf, ReadsAt, ReadsIf, TakesByte, TakesIf, WritesChip, count_told, gated_by, given_one, is_whole, may_come, reset_if, with_next}
+use Rattle.fdc_chip.specs.Ports.{CollectsIf, ComesIf, GivesChipIf, GivesIf, ReadsAt, ReadsIf, TakesByte, TakesIf, WritesChip, count_told, latched_by, given_one, is_whole, may_come, reset_if, with_next}
 use Rattle.fdc_chip.specs.Steps.{Follows, StepsChip}
 use Rattle.fdc_chip.specs.declared.code.Code.{Code}
 use Rattle.fdc_chip.specs.declared.code.Code.TheVariants.{ReadTrack, Specify, SenseDrive, Transfer, Recalibrate, SenseInterrupt, ReadId, FormatTrack, DumpRegisters, Seek, RelativeSeek, Version, Perpendicular, Configure, Lock, Verify}
@@ -87,7 +87,7 @@ free_of front stands rests still = record {
   by_dma = stands.by_dma;
 }
 
-pub attended_free : (code : Code) (old new : ChipState) → IsAttended code old new → still_moves old ≡ false → IsDoneFree code old.order new
+pub attended_free : (code : Code) (old new : ChipState) → IsAttended code old new → still_moves old ≡ false → IsDoneFree code old.order (implies old) new
 attended_free code old new attended still =
     let set = drained old in
     let resting : IsResting old set = drained_rests 4 old attended.basis.whole attended.rests in
@@ -95,6 +95,7 @@ attended_free code old new attended still =
     record {
       set = set;
       order_is = resting.order;
+      implied = resting.implied;
       free = free_of set.front stands resting.rests (or_parts (is_some set.pace) (moves_heads set.front) still).1;
       obeys = subst (λ b. AttendsIf b code set new) (and_right (needs_heads code) (is_moving set) still) attended.attends;
     }
@@ -106,13 +107,14 @@ attended_held code old new attended heads moves =
     let is : new ≡ record set { stage = Held } = subst (λ b. AttendsIf b code set new) (and_from (needs_heads code) (is_moving set) heads moves) attended.attends in
     record { held = ap (λ (chip : ChipState). chip.stage) is; order_is = ap (λ (chip : ChipState). chip.order) is ∙ resting.order }
 
-attended_begins : (b : Bool) (opcode : Opcode) (old new : ChipState) → still_moves old ≡ b → IsTransferOf opcode old.order → IsAttended (Transfer true) old new → BeginsUnless b opcode old.order new
+attended_begins : (b : Bool) (opcode : Opcode) (old new : ChipState) → still_moves old ≡ b → IsTransferOf opcode old.order → IsAttended (Transfer true) old new → BeginsUnless b (implies old) opcode old.order new
 attended_begins true opcode old new moves whole attended = attended_held (Transfer true) old new attended refl moves
 attended_begins false opcode old new still whole attended =
     let done = attended_free (Transfer true) old new attended still in
     let served : opcode_of done.set.order.code ≡ Some opcode = ap (λ (order : Order). opcode_of order.code) done.order_is ∙ whole.served in
     let size : is_size done.set.order.key.n ≡ true = ap (λ (order : Order). is_size order.key.n) done.order_is ∙ whole.size in
-    subst (λ order. IsBegun (transfer_sent opcode order) new) done.order_is (transfer_begun opcode done.set new served size done.free done.obeys)
+    subst (λ order. IsBegun (transfer_sent (implies old) opcode order) new) done.order_is
+    (subst (λ seeks. IsBegun (transfer_sent seeks opcode done.set.order) new) done.implied (transfer_begun opcode done.set new served size done.free done.obeys))
 
 -- ---- ---- the last byte of a command
 
@@ -165,12 +167,12 @@ byte_attends code byte old new sound few heads completes writes =
     }
 
 pub byte_free : (code : Code) (byte : ℕ) (old new : ChipState) → IsSound old → byte < 256 → needs_heads code ≡ true → Completes code byte old → WritesChip 0x3F5 byte old new → still_moves old ≡ false
-    → IsDoneFree code (completed byte old) new
+    → IsDoneFree code (completed byte old) (implies old) new
 byte_free code byte old new sound few heads completes writes still =
     attended_free code (attending byte old) new (byte_attends code byte old new sound few heads completes writes) (same_moves (attending byte old) old refl refl ∙ still)
 
 pub byte_begins : (opcode : Opcode) (byte : ℕ) (old new : ChipState) → IsSound old → byte < 256 → CompletesTransfer opcode byte old → WritesChip 0x3F5 byte old new
-    → BeginsUnless (still_moves old) opcode (completed byte old) new
+    → BeginsUnless (still_moves old) (implies old) opcode (completed byte old) new
 byte_begins opcode byte old new sound few completes writes =
     let last : Completes (Transfer true) byte old = record { others = completes.eight; whole = completes.whole.code } in
     attended_begins (still_moves old) opcode (attending byte old) new (same_moves (attending byte old) old refl refl) completes.whole (byte_attends (Transfer true) byte old new sound few refl last writes)
@@ -191,19 +193,19 @@ follows_held old new step at = subst (λ stage. Follows stage (with_front step.b
 pub step_rests : (old paced new : ChipState) (step : StepsChip old new) → IsSound old → old.stage ≡ Held → Paces old.pace (with_front step.between old) paced → IsResting old paced
 step_rests old paced new step sound at paces = stepped_rests old step.between paced sound (ap is_busy at) step.steps paces
 
-of_order : (code : Code) (one other : Order) (new : ChipState) → one ≡ other → IsDoneFree code one new → IsDoneFree code other new
-of_order code one other new is done = record { set = done.set; order_is = done.order_is ∙ is; free = done.free; obeys = done.obeys }
+of_order : (code : Code) (one other : Order) (seeks implied : Bool) (new : ChipState) → one ≡ other → seeks ≡ implied → IsDoneFree code one seeks new → IsDoneFree code other implied new
+of_order code one other seeks implied new is same done = record { set = done.set; order_is = done.order_is ∙ is; implied = done.implied ∙ same; free = done.free; obeys = done.obeys }
 
 pub step_free : (code : Code) (old new : ChipState) (step : StepsChip old new) → IsSound old → old.stage ≡ Held → code_of old.order.code ≡ Some code
-    → (paced : ChipState) × Paces old.pace (with_front step.between old) paced × (still_moves paced ≡ false → IsDoneFree code old.order new)
+    → (paced : ChipState) × Paces old.pace (with_front step.between old) paced × (still_moves paced ≡ false → IsDoneFree code old.order (implies old) new)
 step_free code old new step sound at is =
     let (paced, paces, attends) = follows_held old new step at in
     let was = step_rests old paced new step sound at paces in
     let attended = step_attends code old paced new sound at is was attends in
-    (paced, paces, λ still. of_order code paced.order old.order new was.order (attended_free code paced new attended still))
+    (paced, paces, λ still. of_order code paced.order old.order (implies paced) (implies old) new was.order was.implied (attended_free code paced new attended still))
 
 pub step_begins : (opcode : Opcode) (order : Order) (old new : ChipState) (step : StepsChip old new) → IsSound old → IsHeldFor order old → IsTransferOf opcode order
-    → (paced : ChipState) × Paces old.pace (with_front step.between old) paced × BeginsUnless (still_moves paced) opcode order new
+    → (paced : ChipState) × Paces old.pace (with_front step.between old) paced × BeginsUnless (still_moves paced) (implies old) opcode order new
 step_begins opcode order old new step sound held whole =
     let (paced, paces, attends) = follows_held old new step held.held in
     let was = step_rests old paced new step sound held.held paces in
@@ -212,8 +214,8 @@ step_begins opcode order old new step sound held whole =
     let attended = step_attends (Transfer true) old paced new sound held.held is was attends in (
       paced,
       paces,
-      subst (λ o. BeginsUnless (still_moves paced) opcode o new) same
-          (attended_begins (still_moves paced) opcode paced new refl (subst (IsTransferOf opcode) (sym same) whole) attended),
+      subst (λ o. BeginsUnless (still_moves paced) (implies old) opcode o new) same
+          (subst (λ seeks. BeginsUnless (still_moves paced) seeks opcode paced.order new) was.implied (attended_begins (still_moves paced) opcode paced new refl (subst (IsTransferOf opcode) (sym same) whole) attended)),
     )
 
 -- ---- ---- the command is held through each other call
@@ -251,7 +253,7 @@ call_held order (made.Reads port value) old new was does no_step no_reset = eith
     (λ no_data. same_held order old new (other_read port value old new no_data does) was)
 call_held order (made.Writes port value) old new was does no_step no_reset = either_way (port == 0x3F5)
     (λ here. write_held (passes_by_port old) order value old new was (subst (λ stage. TakesByte stage value old new) was.held (does.bytes (eqb-true port 0x3F5 here))))
-    (λ no_data. front_held order (gated_by port value old) new (subst (λ b. new ≡ with_front new.front (reset_if b (gated_by port value old))) no_reset (does.others no_data).1)
+    (λ no_data. front_held order (latched_by port value old) new (subst (λ b. new ≡ with_front new.front (reset_if b (latched_by port value old))) no_reset (does.others no_data).1)
     (record { held = was.held; order_is = was.order_is }))
 call_held order made.Changes old new was does no_step no_reset = front_held order old new does.rest was
 call_held order (made.Straps on) old new was does no_step no_reset =

@@ -21,7 +21,7 @@ use Rattle.laws_sequencer.specs.Serving.{ServesAt, nothing_moved}
 use Rattle.laws_sequencer.proofs.Lasted.{Lasts, first_lasts}
 use Rattle.fdc_chip.specs.Chips.{ChipState}
 use Rattle.fdc_chip.specs.Codes.{code_of, has_bit, has_multitrack}
-use Rattle.fdc_chip.specs.Doing.{Begins, FormatsIf, Obeys, Refuses, TransfersIf, format_bytes, absent_key, identifying, is_size, no_key, reading_one, sectors_to, sectors_verified, track_begun, verifying, with_keys, with_last}
+use Rattle.fdc_chip.specs.Doing.{Begins, FormatsIf, Obeys, Refuses, TransfersIf, format_bytes, absent_key, identifying, implies, is_size, no_key, reading_one, sectors_of_track, sectors_to, sectors_verified, track_begun, verifying, with_keys, with_last}
 use Rattle.fdc_chip.specs.Orders.{order_bytes}
 use Rattle.fdc_chip.specs.declared.code.Code.{Code}
 use Rattle.fdc_chip.specs.declared.code.Code.TheVariants as code
@@ -105,8 +105,8 @@ opcode_multitrack byte opcode is = by_operation (operation_of (bit_and byte 0x7F
     by_operation None is = absurd (false≢true (ap is_some is))
     by_operation (Some operation) is = sym (ap multitrack_of is)
 
-same_sectors : (opcode : Opcode) (order : Order) → opcode_of order.code ≡ Some opcode → sectors_from (transfer_sent opcode order) ≡ sectors_of order
-same_sectors opcode order is =
+same_sectors : (seeks : Bool) (opcode : Opcode) (order : Order) → opcode_of order.code ≡ Some opcode → sectors_from (transfer_sent seeks opcode order) ≡ sectors_of order
+same_sectors seeks opcode order is =
     ap (λ b. sectors_to order.last_sector order.key.r + (if b && not (has_bit order.unit 0x04) then sectors_to order.last_sector 1 else 0)) (opcode_multitrack order.code opcode is)
 
 -- the numbers of the first sector are those of the sequencer
@@ -120,16 +120,16 @@ first_records (Moving moving) first fdc (here, counts, carries) under bytes = su
 one_more : (sectors : ℕ) → 256 + 65536 * sectors + 65536 ≤ 256 + 65536 * (sectors + 1)
 one_more sectors = omega arith
 
-order_left : (opcode : Opcode) (order : Order) (new : ChipState) → opcode_of order.code ≡ Some opcode → BeginsBehind (transfer_sent opcode order) new.front → is_under_way new.front.stage ≡ true → IsWorking new
+order_left : (seeks : Bool) (opcode : Opcode) (order : Order) (new : ChipState) → opcode_of order.code ≡ Some opcode → BeginsBehind (transfer_sent seeks opcode order) new.front → is_under_way new.front.stage ≡ true → IsWorking new
     → ServedLeft (256 + 65536 * (sectors_of order + 1)) new
-order_left opcode order new is begins under working =
-    let first = transfer_sent opcode order in
+order_left seeks opcode order new is begins under working =
+    let first = transfer_sent seeks opcode order in
     let records = first_records new.front.stage first new.front.adapter.controller begins.serves.now under working.ranges.records in
     record {
       under = under;
       here = most_steps first;
       lasts = first_lasts begins.byte first begins.start new.front begins.last (λ more. records) begins.writes begins.stays working.ranges.controller;
-      few = subst (λ n. most_steps first + 65536 ≤ 256 + 65536 * (n + 1)) (same_sectors opcode order is) (one_more (sectors_from first));
+      few = subst (λ n. most_steps first + 65536 ≤ 256 + 65536 * (n + 1)) (same_sectors seeks opcode order is) (one_more (sectors_from first));
     }
 
 some_sectors : (sectors : ℕ) → 65536 ≤ 256 + 65536 * (sectors + 1)
@@ -147,7 +147,7 @@ transfer_starts true old new few is free obeys working = either_way (is_size old
     (λ size.
     let (opcode, served) = some_of (opcode_of old.order.code) (codes_served old.order.code few is) in
     let begun = transfer_begun opcode old new served size free obeys in
-    record { task = task.Sent; at = begun.serving.sent; left = inl (order_left opcode old.order new served begun.begins begun.serving.under_way working) })
+    record { task = task.Sent; at = begun.serving.sent; left = inl (order_left (implies old) opcode old.order new served begun.begins begun.serving.under_way working) })
     (λ unsized.
     refused_sectors (sectors_of old.order) true old new free
     (subst (λ b. TransfersIf b true task.Sent (order_bytes old.order) (with_last old.order.last_sector old) new) unsized obeys))
@@ -159,7 +159,7 @@ verify_starts true old new few free obeys working = either_way (is_size old.orde
     let order = verifying old.order in
     let (opcode, served) = some_of (opcode_of order.code) (verifying_served old.order.code few) in
     let on = verify_verifies opcode old new served size free obeys in
-    record { task = task.Verify on.left; at = on.verifies; left = order_left opcode order new served (verify_begins opcode old new served size free obeys) on.under_way working })
+    record { task = task.Verify on.left; at = on.verifies; left = order_left (implies old) opcode order new served (verify_begins opcode old new served size free obeys) on.under_way working })
     (λ unsized.
     refused_sectors (sectors_of (verifying old.order)) true old new free
     (subst (λ b. TransfersIf b true (task.Verify (sectors_verified old.order * size_of old.order.key.n)) (order_bytes (verifying old.order)) (with_last old.order.last_sector old) new) unsized obeys))
@@ -172,12 +172,12 @@ refused_track left mfm old new free refuses =
     more_left 65536 (65792 + 131328 * left) new (some_track left) (refused_begins old.order.key mfm (with_last old.order.last_sector old) new (stands_free old.front free) refuses)
 
 track_starts : (mfm : Bool) (old new : ChipState) → IsFreeBehind old.front → Obeys (code.ReadTrack mfm) old new → IsWorking new → BusyLeft (most_steps_of (code.ReadTrack mfm) old.order) new
-track_starts false old new free obeys working = refused_track (track_begun old.order).left false old new free obeys
+track_starts false old new free obeys working = refused_track (sectors_of_track old.order) false old new free obeys
 track_starts true old new free obeys working = either_way (is_size old.order.key.n)
     (λ size. leaves_left (most_track_steps old.order) new (track_leaves old new size free obeys working.ranges.controller))
     (λ unsized.
-    refused_track (track_begun old.order).left true old new free
-    (subst (λ b. TransfersIf b true (task.Track (track_begun old.order)) (reading_one old.order.unit (absent_key old.order.key.c) old.order.gap old.order.length) (with_last old.order.last_sector old) new) unsized obeys))
+    refused_track (sectors_of_track old.order) true old new free
+    (subst (λ b. TransfersIf b true (task.Track (track_begun (implies old) old.order)) (reading_one old.order.unit (absent_key old.order.key.c) old.order.gap old.order.length) (with_last old.order.last_sector old) new) unsized obeys))
 
 -- ---- ---- any of these commands
 
@@ -209,8 +209,8 @@ starts code.Configure old new kind sound few is free obeys working = absurd (fal
 starts code.DumpRegisters old new kind sound few is free obeys working = absurd (false≢true kind)
 starts (code.Lock on) old new kind sound few is free obeys working = absurd (false≢true kind)
 
-pub done_left : (found : Code) (order : Order) (new : ChipState) → is_data found ≡ true → IsSound new → order.code < 256 → code_of order.code ≡ Some found → IsDoneFree found order new → IsWorking new
+pub done_left : (found : Code) (order : Order) (seeks : Bool) (new : ChipState) → is_data found ≡ true → IsSound new → order.code < 256 → code_of order.code ≡ Some found → IsDoneFree found order seeks new → IsWorking new
     → BusyLeft (most_steps_of found order) new
-done_left found order new kind sound few is done working =
+done_left found order seeks new kind sound few is done working =
     subst (λ o. BusyLeft (most_steps_of found o) new) done.order_is
     (starts found done.set new kind sound (subst (λ (o : Order). o.code < 256) (sym done.order_is) few) (ap (λ (o : Order). code_of o.code) done.order_is ∙ is) done.free done.obeys working)

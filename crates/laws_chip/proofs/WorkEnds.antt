@@ -34,7 +34,7 @@ remembers_busy false old new busy is = ap (λ (chip : ChipState). is_busy chip.s
 
 begins_busy : (what : Task) (seeks : Bool) (bytes : List ℕ) (old new : ChipState) → Begins what seeks bytes old new → is_busy new.stage ≡ true
 begins_busy what seeks bytes old new begins =
-    ap (λ (chip : ChipState). is_busy chip.stage) begins.sends.1 ∙ remembers_busy old.settings.forgotten (begun what seeks old) begins.set refl begins.remembers
+    ap (λ (chip : ChipState). is_busy chip.stage) begins.sends.1 ∙ remembers_busy old.settings.forgotten (begun what old) begins.set refl begins.remembers
 
 transfers_busy : (b mfm : Bool) (what : Task) (bytes : List ℕ) (old new : ChipState) → TransfersIf b mfm what bytes old new → is_busy new.stage ≡ true
 transfers_busy true mfm what bytes old new begins = begins_busy _ _ _ (sought_if (implies old) old) new begins

@@ -3,7 +3,7 @@ use Rattle.std.proofs.Common.{◌≡◌, ◌⊎◌, inl, inr, ℕ, zero, suc, �
 use Rattle.std.proofs.lemmas.Bool.{and_left, and_right, eqb-true, false≢true}
 use Rattle.fdc_chip.specs.Chips.{ChipState, passes, passes_at, passes_by_port}
 use Rattle.fdc_chip.specs.Codes.{code_of}
-use Rattle.fdc_chip.specs.Doing.{needs_heads}
+use Rattle.fdc_chip.specs.Doing.{implies, needs_heads}
 use Rattle.fdc_chip.specs.Orders.{is_format}
 use Rattle.fdc_chip.specs.Ports.{GivesIf, ReadsAt, ReadsIf, TakesByte}
 use Rattle.fdc_chip.specs.Settings.{is_by_port}
@@ -121,7 +121,7 @@ module _ (found : Code) (order : Order) (kind : is_data found ≡ true) (heads :
       let all : wait + 1 + most ≤ n = subst (λ m. m + most ≤ n) (next wait) few in
       elim (held_step wait drive goal found order old new sound held is heads (subst (λ m. HeadsGo m drive goal Held old) (next wait) was) does) [
         | inl (on, going) ↦ inr (record { held = on; wait = wait; waits = bounds.go drive goal going; few = one_waited wait most n all })
-        | inr done ↦ inl (more_left most (n - 1) new (all_waited wait most n all) (done_left found order new kind still few_code is done working))
+        | inr done ↦ inl (more_left most (n - 1) new (all_waited wait most n all) (done_left found order (implies old) new kind still few_code is done working))
       ]
 
   pace_step : (pulses wait n drive : ℕ) (goal : Option ℕ) (old new : ChipState) → IsSoundInRange old → IsSoundInRange new → IsHeldFor order old → HeadsPaced pulses drive goal Held old → pulses + most_of goal ≤ wait → wait + most ≤ n
@@ -142,7 +142,7 @@ module _ (found : Code) (order : Order) (kind : is_data found ≡ true) (heads :
       let some = move_some (heads_of old) wait was.some was.within in
       elim (move_step wait found order old new sound worked.ranges.controller working.ranges.controller held is heads was does) [
         | inl (on, going) ↦ inr (record { held = on; wait = wait - 1; waits = bounds.move going; few = move_waited wait most n some few })
-        | inr done ↦ inl (more_left most (n - 1) new (move_done wait most n some few) (done_left found order new kind still few_code is done working))
+        | inr done ↦ inl (more_left most (n - 1) new (move_done wait most n some few) (done_left found order (implies old) new kind still few_code is done working))
       ]
 
   held_by_step : (n : ℕ) (old new : ChipState) → IsSound old → IsSound new → IsWorking old → IsWorking new → HeldLeft most n order old → Does made.Steps old new → WorkLeft most order (n - 1) new
@@ -225,7 +225,7 @@ given_left wait found byte old begun kind heads given =
     inr (record { held = held; wait = wait; waits = given.waits held.held; few = same_most (wait + most) }))
     (λ stands.
     let done = byte_free found byte old begun given.sound given.few heads given.last given.writes stands in
-    inl (more_left most (wait + most) begun (at_most wait most) (done_left found order begun kind still few given.last.whole done given.working)))
+    inl (more_left most (wait + most) begun (at_most wait most) (done_left found order (implies old) begun kind still few given.last.whole done given.working)))
 
 pub given_lasts : (found : Code) → is_data found ≡ true → needs_heads found ≡ true → (wait byte : ℕ) (calls : List Call) (old begun new : ChipState) → IsGiven wait found byte old begun → AreWorking calls begun new
     → steps_in calls < wait + most_steps_of found (completed byte old)

@@ -14,7 +14,7 @@ use Rattle.laws_sequencer.specs.Calls.{IsLastByte, Served}
 use Rattle.laws_sequencer.specs.Serving.{Serves, nothing_moved}
 use Rattle.fdc_chip.specs.Chips.{ChipState}
 use Rattle.fdc_chip.specs.Codes.{code_of, parameters}
-use Rattle.fdc_chip.specs.Doing.{Obeys, drained, is_moving, is_size, moves_heads}
+use Rattle.fdc_chip.specs.Doing.{Obeys, drained, implies, is_moving, is_size, moves_heads}
 use Rattle.fdc_chip.specs.Orders.{with_byte}
 use Rattle.fdc_chip.specs.Steps.{StepsChip}
 use Rattle.fdc_chip.specs.declared.code.Code.{Code}
@@ -35,9 +35,9 @@ pub record IsFreeBehind (front : Front) : Type 0 where
   pub seek : IsOfFour front.adapter.controller.seeks.seek
   pub by_dma : front.adapter.controller.non_dma ≡ false
 
--- the command that nine bytes spell, at its first sector
-abbrev pub transfer_sent : Opcode → Order → Transfer
-transfer_sent opcode order = transfer_with opcode order.unit order.key order.last_sector order.gap order.length
+-- the command that nine bytes spell, at its first sector. The Bool says whether the heads go to its cylinder first
+abbrev pub transfer_sent : Bool → Opcode → Order → Transfer
+transfer_sent seeks opcode order = transfer_with seeks opcode order.unit order.key order.last_sector order.gap order.length
 
 -- with this byte the sequencer has the whole command, and serves it from then on. Nothing of it has passed yet
 pub record BeginsBehind (first : Transfer) (front : Front) : Type 0 where
@@ -92,14 +92,15 @@ pub record IsHeldFor (order : Order) (chip : ChipState) : Type 0 where
   pub held : chip.stage ≡ Held
   pub order_is : chip.order ≡ order
 
--- the command is held, or it begins
-abbrev pub BeginsUnless : Bool → Opcode → Order → ChipState → Type 0
-BeginsUnless true opcode order new = IsHeldFor order new
-BeginsUnless false opcode order new = IsBegun (transfer_sent opcode order) new
+-- the command is held (first Bool), or it begins. The second Bool says whether a seek is implied for it
+abbrev pub BeginsUnless : Bool → Bool → Opcode → Order → ChipState → Type 0
+BeginsUnless true seeks opcode order new = IsHeldFor order new
+BeginsUnless false seeks opcode order new = IsBegun (transfer_sent seeks opcode order) new
 
--- a chip does a command while its inner controller is free
-pub record IsDoneFree (code : Code) (order : Order) (new : ChipState) : Type 0 where
+-- a chip does a command while its inner controller is free. The Bool says whether the chip implies seeks
+pub record IsDoneFree (code : Code) (order : Order) (seeks : Bool) (new : ChipState) : Type 0 where
   pub set : ChipState
   pub order_is : set.order ≡ order
+  pub implied : implies set ≡ seeks
   pub free : IsFreeBehind set.front
   pub obeys : Obeys code set new

@@ -2,7 +2,7 @@
 use Rattle.std.specs.Prelude.{◌≡◌, ℕ, ◌+◌, ◌*◌, true, List, [], ◌∷◌}
 use Rattle.laws_sequencer.specs.Lasting.{is_under_way}
 use Rattle.fdc_chip.specs.Chips.{ChipState}
-use Rattle.fdc_chip.specs.Doing.{track_begun}
+use Rattle.fdc_chip.specs.Doing.{sectors_of_track}
 use Rattle.fdc_chip.specs.declared.order.Order.{Order}
 use Rattle.fdc_chip.specs.declared.stage.Stage.{Stage}
 use Rattle.fdc_chip.specs.declared.stage.Stage.TheVariants.{Busy}
@@ -44,4 +44,4 @@ AreTracked (made ∷ calls) old new =
 -- the search for the index takes as many device steps as a command of one sector. Each sector takes as many again, and
 -- READ ID before it 65,536
 abbrev pub most_track_steps : Order → ℕ
-most_track_steps order = 65792 + 131328 * (track_begun order).left
+most_track_steps order = 65792 + 131328 * sectors_of_track order

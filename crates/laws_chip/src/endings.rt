@@ -7,7 +7,7 @@ ghost use Rattle.fdc_sequencer.specs.declared.opcode.Opcode.{Opcode};
 ghost use Rattle.fdc_sequencer.specs.declared.transfer.Transfer.{Transfer};
 ghost use Rattle.laws_sequencer.specs.Lasting.{HasByteNumbers, most_steps};
 ghost use Rattle.fdc_chip.specs.Chips.{ChipState};
-ghost use Rattle.fdc_chip.specs.Doing.{Obeys, is_size, verifying};
+ghost use Rattle.fdc_chip.specs.Doing.{Obeys, implies, is_size, verifying};
 ghost use Rattle.fdc_chip.specs.declared.code.Code.TheVariants.{ReadTrack, Verify as VerifyCode};
 ghost use Rattle.fdc_chip.specs.declared.stage.Stage.TheVariants.{Busy};
 ghost use Rattle.fdc_chip.specs.declared.stage.Task.{Task};
@@ -31,7 +31,7 @@ pub fn each_command_ends()
 /// is free. It ends as soon as such a READ DATA.
 pub fn a_verify_ends()
     ensures begins { (opcode : Opcode) (old new : ChipState) → opcode_of (verifying old.order).code ≡ Some opcode → is_size old.order.key.n ≡ true → IsFreeBehind old.front
-        → Obeys (VerifyCode true) old new → BeginsBehind (transfer_sent opcode (verifying old.order)) new.front }
+        → Obeys (VerifyCode true) old new → BeginsBehind (transfer_sent (implies old) opcode (verifying old.order)) new.front }
     ensures verifies { (opcode : Opcode) (old new : ChipState) → opcode_of (verifying old.order).code ≡ Some opcode → is_size old.order.key.n ≡ true → IsFreeBehind old.front
         → Obeys (VerifyCode true) old new → IsVerifying new }
     ensures within { (first : Transfer) (calls : List Call) (begun new : ChipState) → BeginsBehind first begun.front → IsVerifying begun → HasByteNumbers begun.front.stage

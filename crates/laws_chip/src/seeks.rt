@@ -2,7 +2,7 @@
 ghost use Rattle.std.specs.Prelude.{◌≡◌, ◌⊎◌, ◌+◌, ◌<◌, ◌≤◌, ◌%◌, ℕ, Option, Some, None, unwrap_or, true, false};
 ghost use Rattle.fdc_chip.specs.Chips.{ChipState, interrupts_chip};
 ghost use Rattle.fdc_chip.specs.Codes.{code_of};
-ghost use Rattle.fdc_chip.specs.Doing.{drained, needs_heads, pace_begun};
+ghost use Rattle.fdc_chip.specs.Doing.{drained, implies, needs_heads, pace_begun};
 ghost use Rattle.fdc_chip.specs.Interrupts.{cylinder_of};
 ghost use Rattle.fdc_chip.specs.Ports.{WritesChip};
 ghost use Rattle.fdc_chip.specs.Settings.{step_words};
@@ -47,7 +47,7 @@ pub fn a_held_command_starts()
         → IsHeldFor (completed byte old) new × HeadsGo left drive goal Held new }
     ensures steps { (left drive : ℕ) (goal : Option ℕ) (code : Code) (order : Order) (old new : ChipState) → IsSound old → IsHeldFor order old → code_of order.code ≡ Some code
         → needs_heads code ≡ true → HeadsGo (left + 1) drive goal Held old → StepsChip old new
-        → (IsHeldFor order new × HeadsGo left drive goal Held new) ⊎ IsDoneFree code order new }
+        → (IsHeldFor order new × HeadsGo left drive goal Held new) ⊎ IsDoneFree code order (implies old) new }
     ensures some { (drive : ℕ) (goal : Option ℕ) (chip : ChipState) → HeadsGo 0 drive goal Held chip → ⊥ }
 {}
 

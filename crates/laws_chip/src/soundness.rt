@@ -4,7 +4,7 @@ ghost use Rattle.drive_model.specs.Drive.{DriveState};
 ghost use Rattle.fdc_sequencer.specs.declared.opcode.Opcode.{Opcode};
 ghost use Rattle.fdc_chip.specs.Chips.{ChipState, IsNewChip, with_front};
 ghost use Rattle.fdc_chip.specs.Codes.{code_of};
-ghost use Rattle.fdc_chip.specs.Doing.{needs_heads};
+ghost use Rattle.fdc_chip.specs.Doing.{implies, needs_heads};
 ghost use Rattle.fdc_chip.specs.Paces.{Paces};
 ghost use Rattle.fdc_chip.specs.Pins.{ResetsByPin};
 ghost use Rattle.fdc_chip.specs.Ports.{WritesChip};
@@ -33,20 +33,20 @@ pub fn a_chip_stays_sound()
 /// which heads stand. The inner controller is then free. What the step does to pulses that come in time comes first.
 pub fn what_stands_behind_is_free()
     ensures comes { (code : Code) (byte : ℕ) (old new : ChipState) → IsSound old → byte < 256 → needs_heads code ≡ true → Completes code byte old
-        → WritesChip 0x3F5 byte old new → still_moves old ≡ false → IsDoneFree code (completed byte old) new }
+        → WritesChip 0x3F5 byte old new → still_moves old ≡ false → IsDoneFree code (completed byte old) (implies old) new }
     ensures released { (code : Code) (old new : ChipState) (step : StepsChip old new) → IsSound old → old.stage ≡ Held → code_of old.order.code ≡ Some code
-        → (paced : ChipState) × Paces old.pace (with_front step.between old) paced × (still_moves paced ≡ false → IsDoneFree code old.order new) }
+        → (paced : ChipState) × Paces old.pace (with_front step.between old) paced × (still_moves paced ≡ false → IsDoneFree code old.order (implies old) new) }
 {}
 
 /// A command of sectors that this medium can have begins with its ninth byte. If heads move then, the command is held,
 /// through all calls except a reset, up to the device step in which they stand. It begins in that step.
 pub fn a_whole_transfer_begins()
     ensures comes { (opcode : Opcode) (byte : ℕ) (old new : ChipState) → IsSound old → byte < 256 → CompletesTransfer opcode byte old
-        → WritesChip 0x3F5 byte old new → BeginsUnless (still_moves old) opcode (completed byte old) new }
+        → WritesChip 0x3F5 byte old new → BeginsUnless (still_moves old) (implies old) opcode (completed byte old) new }
     ensures held { (order : Order) (made : Call) (old new : ChipState) → IsHeldFor order old → Does made old new → is_step made ≡ false → is_reset made ≡ false
         → IsHeldFor order new }
     ensures released { (opcode : Opcode) (order : Order) (old new : ChipState) (step : StepsChip old new) → IsSound old → IsHeldFor order old → IsTransferOf opcode order
-        → (paced : ChipState) × Paces old.pace (with_front step.between old) paced × BeginsUnless (still_moves paced) opcode order new }
+        → (paced : ChipState) × Paces old.pace (with_front step.between old) paced × BeginsUnless (still_moves paced) (implies old) opcode order new }
 {}
 
 /// A chip that is busy stays busy until it gives results, and INT with them, or until it is reset.

@@ -9,7 +9,7 @@ ghost use Rattle.fdc_sequencer.specs.declared.transfer.Transfer.{Transfer};
 ghost use Rattle.laws_sequencer.specs.Lasting.{is_under_way};
 ghost use Rattle.fdc_chip.specs.Chips.{ChipState, with_front, interrupts_chip, asks_chip};
 ghost use Rattle.fdc_chip.specs.Codes.{code_of};
-ghost use Rattle.fdc_chip.specs.Doing.{Obeys, is_size};
+ghost use Rattle.fdc_chip.specs.Doing.{Obeys, implies, is_size};
 ghost use Rattle.fdc_chip.specs.Ending.{looks_for_cylinder};
 ghost use Rattle.fdc_chip.specs.Steps.{StepsChip};
 ghost use Rattle.fdc_chip.specs.declared.code.Code.TheVariants.{Transfer as TransferCode};
@@ -25,7 +25,7 @@ ghost use Rattle.laws_chip.specs.Told.{LooksFor, LooksOrTells, Tells};
 pub fn a_transfer_is_begun()
     ensures codes { (code : ℕ) → code < 256 → code_of code ≡ Some (TransferCode true) → IsSome (opcode_of code) }
     ensures begins { (opcode : Opcode) (old new : ChipState) → opcode_of old.order.code ≡ Some opcode → is_size old.order.key.n ≡ true
-        → IsFreeBehind old.front → Obeys (TransferCode true) old new → IsBegun (transfer_sent opcode old.order) new }
+        → IsFreeBehind old.front → Obeys (TransferCode true) old new → IsBegun (transfer_sent (implies old) opcode old.order) new }
 {}
 
 /// While the command is under way each call of the chip is the sequencer's: a device step, each byte, by the channel or

@@ -9,12 +9,13 @@ use Rattle.track_model.specs.Crc.{crc}
 use Rattle.track_model.specs.Marks.{data_byte}
 use Rattle.track_model.specs.Fields.{after_marks, IsAddressAt}
 use Rattle.track_model.specs.Looks.{LookAt}
-use Rattle.track_model.specs.Regular.{IsRegular, IsSpaced, span_cells}
+use Rattle.track_model.specs.Regular.{IsRegular, span_cells}
 use Rattle.track_model.specs.Writing.{check_bytes, window}
 use Rattle.track_model.specs.Windows.{window_word, window_place, window_end, cut_of, IsFieldFor}
 use Rattle.track_model.proofs.Cuts.{IsOverlay, fits, behind_end, kept_look}
 use Rattle.track_model.proofs.Frames.{AreSame, same_back, same_address_at}
 use Rattle.track_model.proofs.OwnField.{data_overlay}
+use Rattle.track_model.proofs.Parted.{IsParted, spaced_parted}
 use Rattle.track_model.proofs.Splices
 use Rattle.track_model.proofs.Unique.{one_key}
 use Rattle.sector_map.proofs.RegularTracks.{spaced_from}
@@ -24,8 +25,8 @@ module _ (track : List ℕ) (c h p : ℕ) (key : Chrn) (deleted : Bool) (content
   abbrev after : List ℕ
   after = cut_of track p k (window deleted content)
 
-  spaced : IsSpaced track
-  spaced = spaced_from track c h regular
+  parted : IsParted track
+  parted = spaced_parted track (spaced_from track c h regular)
 
   over : IsOverlay (window deleted content) key.n
   over =
@@ -34,14 +35,14 @@ module _ (track : List ℕ) (c h p : ℕ) (key : Chrn) (deleted : Bool) (content
       data_overlay deleted (content ++ check_bytes check) key.n (omega (arith, length-append content (check_bytes check)))
 
   inside : window_word p + length (take k (window deleted content)) ≤ length track
-  inside = fits track p key (window deleted content) k spaced field.address over most
+  inside = fits track p key (window deleted content) k parted field.address over most
 
   before : (q m : ℕ) → q + m ≤ window_place p → AreSame track after q m
   before q m low = Splices.same_before track (window_word p) (take k (window deleted content)) inside q m low
 
   behind : (q m : ℕ) → p + span_cells key.n ≤ q → AreSame track after q m
   behind q m high =
-      let end = behind_end track p key (window deleted content) k spaced field.address over most in
+      let end = behind_end track p key (window deleted content) k parted field.address over most in
       let span : window_end p key.n + 64 ≤ p + span_cells key.n = omega arith in
       Splices.same_behind track (window_word p) (take k (window deleted content)) inside q m (omega (arith, end, span, length-take k (window deleted content)))
 
@@ -72,11 +73,11 @@ module _ (track : List ℕ) (c h p : ℕ) (key : Chrn) (deleted : Bool) (content
     -- the other address fields show the same
     pub shows_on : (q : ℕ) (other : Chrn) (look : Look) → q ≢ p → IsAddressAt track q other → Shows track q other.n look ↔ Shows after q other.n look
     shows_on q other (Found mark place) not at = (
-      λ x. (x.0, (kept_look track p key (window deleted content) k spaced field.address over most q other (Found mark x.0) not at).0 x.1),
-      λ x. (x.0, (kept_look track p key (window deleted content) k spaced field.address over most q other (Found mark x.0) not at).1 x.1),
+      λ x. (x.0, (kept_look track p key (window deleted content) k parted field.address over most q other (Found mark x.0) not at).0 x.1),
+      λ x. (x.0, (kept_look track p key (window deleted content) k parted field.address over most q other (Found mark x.0) not at).1 x.1),
     )
-    shows_on q other NoData not at = kept_look track p key (window deleted content) k spaced field.address over most q other NoData not at
-    shows_on q other BadCrc not at = kept_look track p key (window deleted content) k spaced field.address over most q other BadCrc not at
+    shows_on q other NoData not at = kept_look track p key (window deleted content) k parted field.address over most q other NoData not at
+    shows_on q other BadCrc not at = kept_look track p key (window deleted content) k parted field.address over most q other BadCrc not at
     shows_on q other NoSector not at = (λ x. x, λ x. x)
     shows_on q other NoMark not at = (λ x. x, λ x. x)
 

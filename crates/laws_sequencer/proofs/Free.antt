@@ -260,12 +260,12 @@ pub answer_sized : (bytes : List ℕ) (command : Command) → answer bytes ≡ R
 unfolding answer
 answer_sized bytes command is = row_sized command bytes (row_of (slice_index bytes 0)) is
 
-key_sized : (opcode : Opcode) (head_drive : ℕ) (key : Chrn) (last_sector gap length_code : ℕ) (first : Transfer) → (nat_le 1 key.n && nat_le key.n 6) ≡ true
-    → transfer_with opcode head_drive key last_sector gap length_code ≡ first → IsSizeCode first.key.n
-key_sized opcode head_drive key last_sector gap length_code first sized same = subst (λ at. IsSizeCode at.key.n) same (in_range key.n sized)
+key_sized : (seeks : Bool) (opcode : Opcode) (head_drive : ℕ) (key : Chrn) (last_sector gap length_code : ℕ) (first : Transfer) → (nat_le 1 key.n && nat_le key.n 6) ≡ true
+    → transfer_with seeks opcode head_drive key last_sector gap length_code ≡ first → IsSizeCode first.key.n
+key_sized seeks opcode head_drive key last_sector gap length_code first sized same = subst (λ at. IsSizeCode at.key.n) same (in_range key.n sized)
 
-pub first_sized : (opcode : Opcode) (command : Command) (first : Transfer) → is_sized command ≡ true → transfer_of opcode command ≡ Some first → IsSizeCode first.key.n
-first_sized opcode (ReadData head_drive key last_sector gap length_code) first sized is = key_sized opcode head_drive key last_sector gap length_code first sized (cc is)
-first_sized opcode (WriteData head_drive key last_sector gap length_code) first sized is = key_sized opcode head_drive key last_sector gap length_code first sized (cc is)
-first_sized opcode (WriteDeleted head_drive key last_sector gap length_code) first sized is = key_sized opcode head_drive key last_sector gap length_code first sized (cc is)
-first_sized opcode _ first sized is = absurd (cc is)
+pub first_sized : (seeks : Bool) (opcode : Opcode) (command : Command) (first : Transfer) → is_sized command ≡ true → transfer_of seeks opcode command ≡ Some first → IsSizeCode first.key.n
+first_sized seeks opcode (ReadData head_drive key last_sector gap length_code) first sized is = key_sized seeks opcode head_drive key last_sector gap length_code first sized (cc is)
+first_sized seeks opcode (WriteData head_drive key last_sector gap length_code) first sized is = key_sized seeks opcode head_drive key last_sector gap length_code first sized (cc is)
+first_sized seeks opcode (WriteDeleted head_drive key last_sector gap length_code) first sized is = key_sized seeks opcode head_drive key last_sector gap length_code first sized (cc is)
+first_sized seeks opcode _ first sized is = absurd (cc is)

@@ -19,7 +19,7 @@ use Rattle.fdc_phases.specs.declared.phases.Phase.TheVariants.{Command, Execute,
 use Rattle.fdc_adapter.specs.Adapters.{AdapterState, StepsAdapter, WritesAdapter, lines_at, selected_at}
 use Rattle.laws_sequencer.specs.Calls as call
 use Rattle.laws_sequencer.specs.Calls.{Call, Does, Waits, WaitsAt}
-use Rattle.fdc_sequencer.specs.Fronts.{BeginsSector, CollectsAs, Front, GivesAt, PassesAs, Starts, StartsIf, TakesAt, TakesByte, WritesFront, begins_with, begun_if, byte_given, count_told, reset_if}
+use Rattle.fdc_sequencer.specs.Fronts.{BeginsSector, CollectsAs, Front, GivesAt, PassesAs, Starts, StartsIf, TakesAt, TakesByte, WritesFront, begins_with, begun_if, byte_given, count_told, implies_seeks, reset_if}
 use Rattle.fdc_sequencer.specs.Moves.{EndsIf, EndsSector, FollowsStep, MovesOn, SeeksOn, goes_on, is_unwanted, judged_if, passed_over_if}
 use Rattle.fdc_sequencer.specs.Opcodes.{opcode_of}
 use Rattle.fdc_sequencer.specs.Transfers.{transfer_of}
@@ -181,7 +181,7 @@ passes_waits None byte old new stage_is begins (writes, is) = at_stage Through n
 
 starts_waits : (transfer : Option Transfer) (old new : Front) → Starts transfer old new → Waits new
 starts_waits None old new is = at_stage Through new (ap (λ front. front.stage) is) tt
-starts_waits (Some transfer) old new starts = by_seek (old.strapped || old.configured) starts
+starts_waits (Some transfer) old new starts = by_seek transfer.seeks starts
   where
     by_idle : (b : Bool) → new.stage ≡ (if b then Seeking transfer false else Through) → Waits new
     by_idle true is = at_stage _ new is tt
@@ -193,7 +193,7 @@ starts_waits (Some transfer) old new starts = by_seek (old.strapped || old.confi
 
 collects_waits : (accepted : Accepted) (opcode : Opcode) (old new : Front) → old.stage ≡ Collecting opcode → is_idle old.adapter.controller ≡ true → CollectsAs opcode accepted old new → Waits new
 collects_waits More opcode old new stage_is idle is = at_stage (Collecting opcode) new (ap (λ front. front.stage) is ∙ stage_is) (ap (λ front. is_idle front.adapter.controller) is ∙ idle)
-collects_waits (Ready command) opcode old new stage_is idle starts = starts_waits (transfer_of opcode command) old new starts
+collects_waits (Ready command) opcode old new stage_is idle starts = starts_waits (transfer_of (implies_seeks old) opcode command) old new starts
 collects_waits Invalid opcode old new stage_is idle refuses = at_stage Through new (ap (λ front. front.stage) refuses.after) tt
 
 byte_waits : (stage : Stage) (byte : ℕ) (old new : Front) → old.stage ≡ stage → WaitsAt stage old.adapter.controller → Waits old → TakesByte stage byte old new → Waits new

@@ -388,7 +388,7 @@ moved_first : (sectors : ℕ) → 65536 * sectors ≤ 256 + 65536 * sectors
 moved_first sectors = omega arith
 
 starts_last : (first : Transfer) (old new : Front) → HasRecords first → IsInRange new.adapter.controller → (new.stage ≡ Through → ⊥) → Starts (Some first) old new → Lasts (most_steps first) new
-starts_last first old new bytes range stays starts = by_seek (old.strapped || old.configured) starts
+starts_last first old new bytes range stays starts = by_seek first.seeks starts
   where
     by_idle : (seeks : SeeksFirst first old new) (b : Bool) → is_idle seeks.between.controller ≡ b → new ≡ record old { adapter = seeks.between; stage = if b then Seeking first false else Through } → Lasts (most_steps first) new
     by_idle seeks false busy is = absurd (stays (ap (λ front. front.stage) is))
@@ -407,7 +407,7 @@ starts_last first old new bytes range stays starts = by_seek (old.strapped || ol
     by_seek false begins = begins_lasts (most_steps first) first false false old new bytes (moved_first (sectors_from first)) stays begins
 
 -- where no seek is implied, the controller's numbers play no part
-pub unsought_last : (first : Transfer) (old new : Front) → HasRecords first → (old.strapped || old.configured) ≡ false → (new.stage ≡ Through → ⊥) → Starts (Some first) old new → Lasts (most_steps first) new
+pub unsought_last : (first : Transfer) (old new : Front) → HasRecords first → first.seeks ≡ false → (new.stage ≡ Through → ⊥) → Starts (Some first) old new → Lasts (most_steps first) new
 unsought_last first old new bytes none stays starts =
     begins_lasts (most_steps first) first false false old new bytes (moved_first (sectors_from first)) stays (subst (λ b. StartsIf b first old new) none starts)
 
@@ -426,7 +426,7 @@ first_lasts byte first start begun last records writes stays range =
     starts_last first (record start { bytes = [] }) begun records range stays (first_starts byte first start begun last writes)
 
 starts_under : (first : Transfer) (old new : Front) → (new.stage ≡ Through → ⊥) → Starts (Some first) old new → is_under_way new.stage ≡ true
-starts_under first old new stays starts = by_seek (old.strapped || old.configured) starts
+starts_under first old new stays starts = by_seek first.seeks starts
   where
     by_idle : (seeks : SeeksFirst first old new) (b : Bool) → new ≡ record old { adapter = seeks.between; stage = if b then Seeking first false else Through } → is_under_way new.stage ≡ true
     by_idle seeks false is = absurd (stays (ap (λ front. front.stage) is))

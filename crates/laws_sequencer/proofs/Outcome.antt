@@ -100,16 +100,16 @@ module _ (operation : Operation) (met told : Bool) (moving : MovingSector) (past
     moved = part_moved operation met moving past mark marked same would mark_is accounts done;
     last = not-false (is_last sector) (sym (ap (λ b. b && not (is_last sector)) would) ∙ goes);
     uncounted = sym counts ∙ would_uncounted moving marked would;
-    results_are = are ∙ (ap (λ b. if b then results_told NoCount sector.head_drive sector.key (has_met_other moving marked) else results_told (Done false) sector.head_drive (next_of sector).key (has_met_other moving marked)) would
-        ∙ ap (results_told NoCount sector.head_drive sector.key) (met_then operation met moving past mark marked same mark_is accounts));
+    results_are = are ∙ (ap (λ b. if b then results_told NoCount sector sector.key (has_met_other moving marked) else results_told (Done false) sector (next_of sector).key (has_met_other moving marked)) would
+        ∙ ap (results_told NoCount sector sector.key) (met_then operation met moving past mark marked same mark_is accounts));
   }))
   done_so false marked would goes mark_is done are = inl (record {
     marked = marked;
     missing = moving.left;
     moved = moved_but operation met moving past mark marked mark_is accounts done;
     stops = stops moving.counted marked refl would done;
-    results_are = are ∙ (ap (λ b. if b then results_told NoCount sector.head_drive sector.key (has_met_other moving marked) else results_told (Done false) sector.head_drive (next_of sector).key (has_met_other moving marked)) would
-        ∙ ap (results_told (Done false) sector.head_drive (next_of sector).key) (met_then operation met moving past mark marked same mark_is accounts));
+    results_are = are ∙ (ap (λ b. if b then results_told NoCount sector sector.key (has_met_other moving marked) else results_told (Done false) sector (next_of sector).key (has_met_other moving marked)) would
+        ∙ ap (results_told (Done false) sector (next_of sector).key) (met_then operation met moving past mark marked same mark_is accounts));
   })
 
   fails_so : (ending : Ending) → IsFailure ending → Means operation past (sent_of sector) ending → IsJudged ending operation past sector.key → TellsOther ending operation met moving.passed_over

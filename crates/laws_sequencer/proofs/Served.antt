@@ -28,7 +28,7 @@ use Rattle.fdc_core.proofs.MayRead.{starts_given}
 use Rattle.fdc_core.proofs.Meanings.{read_gives, read_tells}
 use Rattle.fdc_core.proofs.Tellings.{write_tells, writes_window}
 use Rattle.fdc_adapter.specs.Adapters.{AdapterState, StepsAdapter, WritesAdapter, lines_at, selected_at}
-use Rattle.fdc_sequencer.specs.Fronts.{BeginsSector, CollectsAs, Front, GivesAt, GivesFront, GivesMoving, SeeksFirst, Starts, StartsIf, TakesAt, TakesByte, TakesFront, TakesMoving, WritesFront, after_reading, begun_if, byte_given, count_told, moving_of, passed_one, reset_if, told_front, told_if, with_controller}
+use Rattle.fdc_sequencer.specs.Fronts.{BeginsSector, CollectsAs, Front, GivesAt, GivesFront, GivesMoving, SeeksFirst, Starts, StartsIf, TakesAt, TakesByte, TakesFront, TakesMoving, WritesFront, after_reading, begun_if, byte_given, count_told, implies_seeks, moving_of, passed_one, reset_if, told_front, told_if, with_controller}
 use Rattle.fdc_sequencer.specs.Moves.{EndsIf, EndsSector, FollowsStep, MovesOn, SeeksOn, StepsFront, goes_on, has_met_other, is_unwanted, judged, judged_if, passed_over_if}
 use Rattle.laws_sequencer.specs.Serving.{Accounts, AreLeft, AreMoved, BeginsAt, BeginsWith, Carries, GoesOn, History, IsFieldDone, IsLastOne, IsFree, IsLeft, IsMarkOf, IsOfOther, IsOfSector, IsRefused, IsTimeOf, KeepsServing, MayMove, Means, MeansJudged, Part, Passes, PassesAt, RefusesFirst, Serves, ServesAt, ServesCounted, ServesStep, ServesUnless, StepsTo, bytes_moved, gives_last, has_other, hears_count, history_counted, history_ended, history_given, history_moved, history_passed, history_sought, history_stepped, history_taken, nothing_moved, passed_in, passed_out, results_ended, sector_after, sent_of, still_seeks}
 use Rattle.fdc_sequencer.specs.Transfers.{is_other, is_skipping, next_of, size_of}
@@ -572,7 +572,7 @@ writes_serve port value old new writes = by_port (port == 0x3F5) refl
 -- ---- how a command begins
 
 starts_serve : (first : Transfer) (old new : Front) → IsSizeCode first.key.n → Starts (Some first) old new → Serves first (nothing_moved false) new ⊎ IsLeft old new
-starts_serve first old new sized starts = by_seek (old.strapped || old.configured) starts
+starts_serve first old new sized starts = by_seek first.seeks starts
   where
     by_idle : (seeks : SeeksFirst first old new) (b : Bool) → is_idle seeks.between.controller ≡ b → new.stage ≡ (if b then Seeking first false else Through) → Serves first (nothing_moved false) new ⊎ IsLeft old new
     by_idle seeks true idle is = inl (record { sized = sized; parts = tt; now = subst (λ s. ServesAt s first (nothing_moved false) new.adapter.controller) (sym is) (refl, refl) })
@@ -593,7 +593,7 @@ begins_with : (opcode : Opcode) (byte : ℕ) (old new : Front) → TakesByte (Co
 begins_with opcode byte old new takes command first whole is =
     let bytes = old.bytes ++ byte ∷ [] in
     let collects : CollectsAs opcode (Ready command) (record old { bytes = [] }) new = subst (λ accepted. CollectsAs opcode accepted (record old { bytes = kept accepted bytes }) new) whole takes in
-    starts_serve first (record old { bytes = [] }) new (first_sized opcode command first (answer_sized bytes command whole) is) (subst (λ transfer. Starts transfer (record old { bytes = [] }) new) is collects)
+    starts_serve first (record old { bytes = [] }) new (first_sized (implies_seeks old) opcode command first (answer_sized bytes command whole) is) (subst (λ transfer. Starts transfer (record old { bytes = [] }) new) is collects)
 
 pub begins_at : (stage : Stage) (port byte : ℕ) (old new : Front) → old.stage ≡ stage → WritesFront port byte old new → port ≡ 0x3F5 → BeginsAt stage byte old new
 begins_at Through port byte old new stage_is writes here = tt

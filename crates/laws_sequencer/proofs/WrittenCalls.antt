@@ -102,9 +102,14 @@ adapter_speed port value bay old new writes none = by_bay (bay == 0)
 
 -- ---- what the results tell
 
-told_st1 : (ending : Ending) (head_drive : ℕ) (key : Chrn) (other : Bool) → (results_told ending head_drive key other).st1.0 ≡ (st1_of ending).0
-told_st1 ending head_drive key true = refl
-told_st1 ending head_drive key false = refl
+told_st1 : (ending : Ending) (at : Transfer) (key : Chrn) (other : Bool) → (results_told ending at key other).st1.0 ≡ (st1_of ending).0
+told_st1 ending at key other = by_cases at.seeks other
+  where
+    by_cases : (seeks other : Bool) → (results_told ending (record at { seeks = seeks }) key other).st1.0 ≡ (st1_of ending).0
+    by_cases true true = refl
+    by_cases true false = refl
+    by_cases false true = refl
+    by_cases false false = refl
 
 failed_st1 : (ending : Ending) → IsFailure ending → ((st1_of ending).0 ≡ 0x00) ⊎ ((st1_of ending).0 ≡ 0x80) → ⊥
 failed_st1 (Done marked) fails told = absurd fails
@@ -323,7 +328,7 @@ module _ (place : Place) (deleted : Bool) (first : Transfer) (writes : first.opc
       let takes : TakesByte (Collecting last.opcode) byte start begun = subst (λ s. TakesByte s byte start begun) last.collects (written.bytes refl) in
       let collects : CollectsAs last.opcode (Ready last.command) (record start { bytes = [] }) begun =
       subst (λ accepted. CollectsAs last.opcode accepted (record start { bytes = kept accepted bytes }) begun) last.whole takes in
-      by_seek (start.strapped || start.configured) (subst (λ transfer. Starts transfer (record start { bytes = [] }) begun) last.transfer collects)
+      by_seek first.seeks (subst (λ transfer. Starts transfer (record start { bytes = [] }) begun) last.transfer collects)
     where
       by_idle : (seeks : SeeksFirst first (record start { bytes = [] }) begun) (b : Bool) → is_idle seeks.between.controller ≡ b → begun.stage ≡ (if b then Seeking first false else Through) → IsNow (nothing_moved false) begun
       by_idle seeks true idle is =
@@ -364,7 +369,7 @@ module _ (place : Place) (deleted : Bool) (first : Transfer) (writes : first.opc
       (0, whole _ (subst (WritesWhole history.past at.key deleted) (sym (append-nil history.past.taken)) moved.field))
   done_whole history results disk now whole (inr (inr fails)) told =
       let at = here_of first history in
-      let is = ap (λ r. r.st1.0) fails.results_are ∙ told_st1 fails.ending at.head_drive at.key fails.told in
+      let is = ap (λ r. r.st1.0) fails.results_are ∙ told_st1 fails.ending at at.key fails.told in
       absurd (failed_st1 fails.ending fails.fails (elim told [ inl none ↦ inl (sym is ∙ none) | inr full ↦ inr (sym is ∙ full) ]))
 
   written_from : (byte : ℕ) (calls : List Call) (start begun end : Front) (within : AreWithin calls begun end) (results : Results) (read : ℕ) → IsLastByte byte first start → WritesFront 0x3F5 byte start begun

@@ -7,7 +7,7 @@ use Rattle.fdc_commands.specs.declared.command.Command.{Command}
 use Rattle.fdc_commands.specs.declared.results.Results.{Results}
 use Rattle.fdc_core.specs.Whole.{is_idle}
 use Rattle.fdc_core.specs.declared.controller.Fdc.{Fdc}
-use Rattle.fdc_sequencer.specs.Fronts.{Front, GivesFront, KeepsFront, TakesFront, WritesFront, after_reading, told_front}
+use Rattle.fdc_sequencer.specs.Fronts.{Front, GivesFront, KeepsFront, TakesFront, WritesFront, after_reading, implies_seeks, told_front}
 use Rattle.fdc_sequencer.specs.Moves.{StepsFront}
 use Rattle.laws_sequencer.specs.Outcomes.{PassesOfSector, ResultsSay}
 use Rattle.laws_sequencer.specs.Serving.{AreMoved, History, Passes, Serves, all_bytes, hears_count, history_counted, history_given, history_stepped, history_taken, nothing_moved, passed_in, passed_out}
@@ -123,4 +123,4 @@ pub record IsLastByte (byte : ℕ) (first : Transfer) (front : Front) : Type 0 w
   pub collects : front.stage ≡ Collecting opcode
   pub command : Command
   pub whole : answer (front.bytes ++ byte ∷ []) ≡ Ready command
-  pub transfer : transfer_of opcode command ≡ Some first
+  pub transfer : transfer_of (implies_seeks front) opcode command ≡ Some first

@@ -58,7 +58,7 @@ pub record EndsWell (operation : Operation) (met counted : Bool) (at : Transfer)
   pub missing : ℕ
   pub moved : IsMovedBut operation past at.key marked missing
   pub stops : StopsBehind operation counted marked missing
-  pub results_are : results ≡ results_told (Done false) at.head_drive (next_of at).key (met || is_other operation marked)
+  pub results_are : results ≡ results_told (Done false) at (next_of at).key (met || is_other operation marked)
 
 -- EN: the last sector of the command was moved as well, and the terminal count didn't come. C, H, R and N are as they
 -- were sent
@@ -67,7 +67,7 @@ pub record EndsUncounted (operation : Operation) (met counted : Bool) (at : Tran
   pub moved : IsMoved operation (record { at = at; past = past; marked = marked })
   pub last : is_last at ≡ true
   pub uncounted : counted ≡ false
-  pub results_are : results ≡ results_told NoCount at.head_drive at.key (met || is_other operation marked)
+  pub results_are : results ≡ results_told NoCount at at.key (met || is_other operation marked)
 
 -- the controller's own command failed
 abbrev pub IsFailure : Ending → Type 0
@@ -95,7 +95,7 @@ pub record Fails (operation : Operation) (met : Bool) (at : Transfer) (past : Pa
   pub of_sector : IsOfSector operation past (sent_of at)
   pub told : Bool
   pub other : TellsOther ending operation met told
-  pub results_are : results ≡ results_told ending at.head_drive at.key told
+  pub results_are : results ≡ results_told ending at at.key told
 
 abbrev pub EndsSo : Operation → Bool → Bool → Transfer → Past → Results → Type 0
 EndsSo operation met counted at past results =

@@ -29,7 +29,7 @@ use Rattle.fdc_core.specs.Written.{MayWrite}
 use Rattle.fdc_phases.specs.declared.answers.Answer.TheVariants.{Short}
 use Rattle.fdc_core.specs.declared.controller.Fdc.{Fdc}
 use Rattle.fdc_phases.specs.declared.phases.Phase.TheVariants.{Result}
-use Rattle.fdc_sequencer.specs.Fronts.{Front}
+use Rattle.fdc_sequencer.specs.Fronts.{Front, implies_seeks}
 use Rattle.fdc_sequencer.specs.Moves.{StepsFront, goes_on, is_unwanted, judged_if, results_behind, results_failed}
 use Rattle.fdc_sequencer.specs.Transfers.{next_of, is_other, is_skipping, transfer_of}
 use Rattle.fdc_sequencer.specs.declared.opcode.Opcode.{Opcode}
@@ -412,7 +412,7 @@ IsLeft old new = (new.stage ≡ Through) × (is_idle old.adapter.controller ≡ 
 -- left to the controller
 abbrev pub BeginsWith : Opcode → ℕ → Front → Front → Type 0
 BeginsWith opcode byte old new =
-    (command : Command) (first : Transfer) → answer (old.bytes ++ byte ∷ []) ≡ Ready command → transfer_of opcode command ≡ Some first
+    (command : Command) (first : Transfer) → answer (old.bytes ++ byte ∷ []) ≡ Ready command → transfer_of (implies_seeks old) opcode command ≡ Some first
     → Serves first (nothing_moved false) new ⊎ IsLeft old new
 
 abbrev pub BeginsAt : Stage → ℕ → Front → Front → Type 0

@@ -1,11 +1,13 @@
 // A command of several sectors ends, and its end is seen in a certain way. The bodies are empty: the contracts say what
 // follows from what each call does.
 ghost use Rattle.std.specs.Prelude.{◌≡◌, ◌<◌, ◌≤◌, ◌+◌, ◌==◌, ◌&&◌, ℕ, Bool, true, false, List, ◌++◌, nat_le, replicate, slice_index, if◌then◌else◌};
+ghost use Rattle.std.specs.Int.RustNames.{bit_or};
+ghost use Rattle.fdc_registers.specs.Msr.{busy};
 ghost use Rattle.fdc_commands.specs.Results.{result_bytes};
 ghost use Rattle.fdc_commands.specs.declared.results.Results.{Results};
 ghost use Rattle.fdc_core.specs.Ranges.{IsInRange};
 ghost use Rattle.fdc_core.specs.State.{is_gated};
-ghost use Rattle.fdc_sequencer.specs.Fronts.{Front, WritesFront, after_reading, asks_outside, interrupts_outside, value_outside};
+ghost use Rattle.fdc_sequencer.specs.Fronts.{Front, WritesFront, after_reading, asks_outside, interrupts_outside, seeking_bit, value_outside};
 ghost use Rattle.fdc_sequencer.specs.Transfers.{is_last, next_of};
 ghost use Rattle.fdc_sequencer.specs.declared.stage.Stage.TheVariants.{Through, Telling};
 ghost use Rattle.fdc_sequencer.specs.declared.transfer.Transfer.{Transfer};
@@ -32,11 +34,11 @@ pub fn sectors_and_steps_are_counted()
     ensures both { (first second : List Call) → steps_in (first ++ second) ≡ steps_in first + steps_in second }
 {}
 
-/// How the end is seen. While the heads seek or a sector is moved, MSR is 10, and INT is down. Then MSR is D0 and DRQ
-/// is down. INT is up until the first result byte is read, where DOR lets it out. The data port gives the seven result
+/// How the end is seen. While a sector is moved MSR is 10, and while the heads seek it has the seek bit of the drive
+/// too. INT is down meanwhile. Then MSR is D0 and DRQ is down. INT is up until the first result byte is read, where DOR lets it out. The data port gives the seven result
 /// bytes in order.
 pub fn results_are_told()
-    ensures busy { (front : Front) → is_under_way front.stage ≡ true → value_outside 0x3F4 front ≡ 0x10 }
+    ensures busy { (front : Front) → is_under_way front.stage ≡ true → value_outside 0x3F4 front ≡ bit_or busy (seeking_bit front.stage) }
     ensures silent { (front : Front) → is_under_way front.stage ≡ true → interrupts_outside front ≡ false }
     ensures status { (front : Front) (results : Results) (read : ℕ) → front.stage ≡ Telling results read → value_outside 0x3F4 front ≡ 0xD0 }
     ensures interrupt { (front : Front) (results : Results) (read : ℕ) → front.stage ≡ Telling results read

@@ -6,7 +6,7 @@ use Rattle.std.proofs.lemmas.List.Quantifiers.{all_pairs_push}
 use Rattle.flop_base.specs.Standard.{gap_at, words_at}
 use Rattle.flop_base.specs.declared.key.Chrn.{Chrn}
 use Rattle.flop_base.specs.declared.answers.Rate.{Rate}
-use Rattle.track_format.specs.Gaps.{Suits, IsLargestGap}
+use Rattle.track_format.specs.Gaps.{Suits, wide_gap, IsLargestGap}
 use Rattle.remaster.specs.declared.sectors.Sector.{Sector}
 use Rattle.remaster.specs.Sectors.{sector_of}
 use Rattle.remaster.specs.Fit.{IsFit, HasSizeCode, MayShare, IsPlanned}
@@ -50,7 +50,7 @@ module _ (rate : Rate) (c h n : ℕ) (sectors : List Sector) (some : 0 < length 
   fit_shares fit = record { distinct = fit.distinct; own = fit.own; one_size = same_size fit; few = fit.few }
 
   -- the gap suits the size of each sector
-  gaps : (gap3 : ℕ) → IsLargestGap n (length sectors) rate gap3 → MayShare n c h sectors → IsFit rate c h sectors
+  gaps : (gap3 : ℕ) → IsLargestGap wide_gap n (length sectors) rate gap3 → MayShare n c h sectors → IsFit rate c h sectors
   gaps gap3 gap share = record {
     distinct = share.distinct;
     own = share.own;
@@ -58,10 +58,10 @@ module _ (rate : Rate) (c h n : ℕ) (sectors : List Sector) (some : 0 < length 
     few = share.few;
     gap = λ k d lt.
         let is : (get_or sectors k d).key.n ≡ n = share.one_size k d lt in
-        (gap3, gap.least, gap.most, subst (λ (m : ℕ). Suits m (length sectors) (words_at rate) gap3) (sym is) gap.suits);
+        (gap3, gap.enough, gap.most, subst (λ (m : ℕ). Suits m (length sectors) (words_at rate) gap3) (sym is) gap.suits);
   }
 
-  pub planned : (result : Option ℕ) → MayShare n c h sectors → MatchOption result ((gap : ℕ) → 16 ≤ gap → gap ≤ gap_at rate → Suits n (length sectors) (words_at rate) gap → ⊥) (λ gap. IsLargestGap n (length sectors) rate gap) → MatchOption result (IsFit rate c h sectors → ⊥) (λ gap3. IsPlanned rate c h sectors n gap3)
+  pub planned : (result : Option ℕ) → MayShare n c h sectors → MatchOption result ((gap : ℕ) → wide_gap ≤ gap → gap ≤ gap_at rate → Suits n (length sectors) (words_at rate) gap → ⊥) (λ gap. IsLargestGap wide_gap n (length sectors) rate gap) → MatchOption result (IsFit rate c h sectors → ⊥) (λ gap3. IsPlanned rate c h sectors n gap3)
   planned None share none = λ fit.
       let has = fit.gap 0 blank_sector some in
       none has.0 has.1 has.2 (subst (λ (m : ℕ). Suits m (length sectors) (words_at rate) has.0) (first blank_sector) has.3)

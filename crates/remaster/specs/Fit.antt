@@ -5,7 +5,7 @@ use Rattle.flop_base.specs.declared.key.Chrn.{Chrn}
 use Rattle.flop_base.specs.declared.answers.Rate.{Rate}
 use Rattle.raw_image.specs.Disk.{Disk, HasTrack, track_of}
 use Rattle.track_model.specs.Fields.{IsSizeCode, content_size}
-use Rattle.track_format.specs.Gaps.{Suits, IsLargestGap}
+use Rattle.track_format.specs.Gaps.{Suits, wide_gap, IsLargestGap}
 use Rattle.remaster.specs.declared.sectors.Sector.{Sector}
 use Rattle.remaster.specs.Sectors.{AreSectors}
 
@@ -13,9 +13,9 @@ use Rattle.remaster.specs.Sectors.{AreSectors}
 abbrev pub IsOwnKey : ℕ → ℕ → Chrn → Type 0
 IsOwnKey c h key = (key.c ≡ c) × (key.h ≡ h)
 
--- some gap 3 suits this many sectors of size code n
+-- some wide gap 3 suits this many sectors of size code n
 abbrev pub HasGap : Rate → ℕ → ℕ → Type 0
-HasGap rate n sectors = (gap3 : ℕ) × (16 ≤ gap3) × (gap3 ≤ gap_at rate) × Suits n sectors (words_at rate) gap3
+HasGap rate n sectors = (gap3 : ℕ) × (wide_gap ≤ gap3) × (gap3 ≤ gap_at rate) × Suits n sectors (words_at rate) gap3
 
 -- The sectors of the track of a cylinder and a head are fit. No two have the same key, each key names this track, and
 -- all have one size. There are at most 255, and some gap suits them.
@@ -61,8 +61,8 @@ pub record MayShare (n c h : ℕ) (sectors : List Sector) : Type 0 where
   pub one_size : All (HasSizeCode n) sectors
   pub few : length sectors ≤ 255
 
--- the sectors are fit, have this size code, and this is the largest gap that suits them
+-- the sectors are fit, have this size code, and this is the largest wide gap that suits them
 pub record IsPlanned (rate : Rate) (c h : ℕ) (sectors : List Sector) (n gap3 : ℕ) : Type 0 where
   pub fit : IsFit rate c h sectors
   pub one_size : All (HasSizeCode n) sectors
-  pub gap : IsLargestGap n (length sectors) rate gap3
+  pub gap : IsLargestGap wide_gap n (length sectors) rate gap3

@@ -11,7 +11,7 @@ use Rattle.track_model.specs.Windows.{window_place}
 use Rattle.track_model.specs.Layouts.{lay}
 use Rattle.track_model.specs.LaidFields.{sector_place}
 use Rattle.track_model.specs.Laid.{with_window}
-use Rattle.track_format.specs.Gaps.{IsLargestGap}
+use Rattle.track_format.specs.Gaps.{wide_gap, IsLargestGap}
 use Rattle.remaster.specs.declared.sectors.Sector.{Sector}
 
 -- the key of a sector
@@ -30,11 +30,11 @@ laid_with rate n gap3 sectors =
     with_sectors n gap3 0 sectors (lay (map key_of sectors) n gap3 standard_fill (words_at rate))
 
 -- The track of these sectors. If there are none, it has words 0000. Otherwise it is formatted with their keys, in this
--- order, with the largest gap that suits them, and then each sector is written.
+-- order, with the largest wide gap that suits them, and then each sector is written.
 abbrev pub IsRelaid : Rate → List Sector → List ℕ → Type 0
 IsRelaid rate [] track = track ≡ unrecorded (words_at rate)
 IsRelaid rate (first ∷ rest) track =
-    (gap3 : ℕ) × IsLargestGap first.key.n (length (first ∷ rest)) rate gap3 × (track ≡ laid_with rate first.key.n gap3 (first ∷ rest))
+    (gap3 : ℕ) × IsLargestGap wide_gap first.key.n (length (first ∷ rest)) rate gap3 × (track ≡ laid_with rate first.key.n gap3 (first ∷ rest))
 
 -- the sector is found at the address field at p, in the place of that field's window
 pub record HoldsSector (track : List ℕ) (p : ℕ) (sector : Sector) : Type 0 where

@@ -6,7 +6,7 @@ ghost use Rattle.remaster.specs.Fit.{IsOwnKey, HasSizeCode, MayShare, IsFit, IsP
 
 use crate::sectors::Sector;
 use flop_base::{Chrn, Rate};
-use track_format::choose_gap;
+use track_format::{WIDE_GAP, choose_gap};
 
 /// The most sectors that a track may have.
 const MOST_SECTORS: usize = 255;
@@ -70,7 +70,7 @@ fn may_share(sectors: &[Sector], n: u8, c: u8, h: u8) -> bool
         && has_distinct_keys(sectors)
 }
 
-/// The largest gap 3 for the sectors of a track, if they can be laid out anew. `n` is the size code of the first
+/// The largest wide gap 3 for the sectors of a track, if they can be laid out anew. `n` is the size code of the first
 /// sector.
 pub(crate) fn fitting_gap(sectors: &[Sector], n: u8, rate: Rate, c: u8, h: u8) -> Option<u8>
     requires some { 0 < length sectors.now }
@@ -82,5 +82,5 @@ pub(crate) fn fitting_gap(sectors: &[Sector], n: u8, rate: Rate, c: u8, h: u8) -
     if !may_share(sectors, n, c, h) {
         return None;
     }
-    choose_gap(n, sectors.len() as u8, rate)
+    choose_gap(n, sectors.len() as u8, rate, WIDE_GAP)
 }

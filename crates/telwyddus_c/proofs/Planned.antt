@@ -60,6 +60,7 @@ planned_both plan old mid new plain first second =
         gated = ap (λ (it : ChipState). it.gated) keeps.rest ∙ plain.gated;
         pace = ap (λ (it : ChipState). it.pace) keeps.rest ∙ plain.pace;
         paced = ap (λ (it : ChipState). it.paced) keeps.rest ∙ plain.paced;
+        tape = ap (λ (it : ChipState). it.tape) keeps.rest ∙ plain.tape;
       };
       first = ap faults_in_bay second.beside.other ∙ first.faults_are;
       second = second.faults_are;

@@ -10,6 +10,7 @@ use Rattle.flat_files.specs.declared.file_fault.FileFault.TheVariants.{NoForm, F
 use Rattle.flat_files.specs.declared.form.FlatForm.{FlatForm}
 use Rattle.imagedisk.specs.Made.{IsFirstCrowded}
 use Rattle.raw_image.specs.Disk.{Disk}
+use Rattle.track_format.specs.Gaps.{narrow_gap}
 use Rattle.telwyddus_c.specs.Flats.{TellsFlat}
 use Rattle.telwyddus_c.specs.Rates.{rate_named}
 use Rattle.telwyddus_c.specs.Slots.{FullOr}
@@ -19,9 +20,9 @@ abbrev pub form_named : (cylinders heads sectors n kilobits : ℕ) → Option Fl
 form_named cylinders heads sectors n kilobits =
     option_map (λ rate. record { cylinders = cylinders; heads = heads; sectors = sectors; n = n; rate = rate }) (rate_named kilobits)
 
--- some track has no room for its sectors
+-- some track has no room for its sectors, however narrow the gaps between them
 abbrev pub IsCrowdedForm : FlatForm → List ℕ → Type 0
-IsCrowdedForm form bytes = (c : ℕ) × (h : ℕ) × (i : ℕ) × IsFirstCrowded (form_image form bytes) c h i
+IsCrowdedForm form bytes = (c : ℕ) × (h : ℕ) × (i : ℕ) × IsFirstCrowded narrow_gap (form_image form bytes) c h i
 
 -- an empty slot gets a tray with a medium that has the sectors of a file of this form and no others. By the code of the
 -- call:

@@ -10,6 +10,7 @@ use Rattle.imagedisk.specs.declared.error.ImdError.TheVariants.{Unfit}
 use Rattle.imagedisk.specs.declared.image.ImdImage.{ImdImage}
 use Rattle.raw_image.specs.Disk.{Disk}
 use Rattle.raw_image.specs.declared.error.ImageError.{ImageError}
+use Rattle.track_format.specs.Gaps.{narrow_gap}
 use Rattle.telwyddus_c.specs.Buffers.{WritesBytes}
 use Rattle.telwyddus_c.specs.Slots.{FullOr}
 
@@ -19,9 +20,9 @@ use Rattle.telwyddus_c.specs.Slots.{FullOr}
 -- - 3: memory is out.
 abbrev pub MakesTray : ImdImage → ℕ → (c_was c_told h_was h_told : ℕ) → Option TrayValue → Option TrayValue → Type 0
 MakesTray image code c_was c_told h_was h_told old new =
-    MatchBool (code == 0) ((disk : Disk) × MakesDisk image (Ok disk) × HasImage disk image × (new ≡ Some (record { medium = Some disk }))
+    MatchBool (code == 0) ((disk : Disk) × MakesDisk narrow_gap image (Ok disk) × HasImage disk image × (new ≡ Some (record { medium = Some disk }))
     × (c_told ≡ c_was) × (h_told ≡ h_was))
-    (MatchBool (code == 21) (MakesDisk image (Err (Unfit c_told h_told)) × (new ≡ old))
+    (MatchBool (code == 21) (MakesDisk narrow_gap image (Err (Unfit c_told h_told)) × (new ≡ old))
     (MatchBool (code == 3) ((new ≡ old) × (c_told ≡ c_was) × (h_told ≡ h_was)) ⊥))
 
 -- a tray is made with the medium of an ImageDisk file, by the codes 0, 21 and 3 as of an image. If the slot holds a

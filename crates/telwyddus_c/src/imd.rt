@@ -12,9 +12,10 @@ use c_slots::TraySlot;
 use imagedisk::{ImdError, ImdImage, from_medium, read_imd, to_medium, write_imd};
 use raw_image::{ImageError, Medium};
 use std::alloc::Global;
+use track_format::NARROW_GAP;
 
-/// Makes a tray with the medium of an ImageDisk file. If a track has no room for its sectors, its cylinder and head are
-/// reported.
+/// Makes a tray with the medium of an ImageDisk file. If a track has no room for its sectors, however narrow the gaps
+/// between them, its cylinder and head are reported.
 #[unsafe(no_mangle)]
 pub extern "C" fn telwyddus_tray_read_imd(
     alloc: Global,
@@ -47,7 +48,7 @@ fn make_tray(
     requires valid { IsImdImage image.now }
     ensures { MakesTray image.now result cylinder.old cylinder.new head.old head.new slot.old.held.tray slot.new.held.tray }
 {
-    match to_medium(alloc, image) {
+    match to_medium(alloc, image, NARROW_GAP) {
         Ok(medium) => fill(alloc, slot, medium),
         Err(ImdError::Unfit { c, h }) => {
             *cylinder = c;

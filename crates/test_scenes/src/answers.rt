@@ -4,6 +4,7 @@ mod cells;
 mod chips;
 mod images;
 mod layouts;
+mod media;
 mod parts;
 mod print;
 mod records;

@@ -10,14 +10,16 @@ use Rattle.track_model.specs.Marks.{IsRun, IsAddressMark}
 use Rattle.track_model.specs.Fields.{IsAddressAt, IsDataMark, IsSizeCode, content_size, data_cells}
 use Rattle.track_model.specs.Looks.{LookAt}
 use Rattle.track_model.specs.Sectors.{IsPlain, IsLone}
-use Rattle.track_model.specs.Regular.{HasSizes, HasSpans, HasCleanGaps, HasCleanEnds, IsSpaced, IsRegular}
+use Rattle.track_model.specs.Cells.{IsInside}
+use Rattle.track_model.specs.Regular.{span_cells, HasSizes, HasSpans, HasCleanGaps, HasCleanEnds, IsSpaced, IsRegular}
 use Rattle.track_model.specs.LaidFields.{IsKey}
 use Rattle.track_model.specs.Layouts.{data_content, address_content}
 use Rattle.track_model.proofs.Unique.{one_key}
+use Rattle.track_model.proofs.Parted.{IsParted}
 use Rattle.track_model.proofs.Recorded.{no_mark_in_bytes}
-use Rattle.track_format.proofs.Parts.{filler, in_gap}
+use Rattle.track_format.proofs.Parts.{filler, in_sync, in_gap}
 use Rattle.track_format.proofs.Steps.{length-data_content}
-use Rattle.track_format.proofs.Tracked.{sector_words, sector_ends, sectors_apart}
+use Rattle.track_format.proofs.Tracked.{sector_words, sector_ends, sectors_apart, at_end_gap}
 use Rattle.track_format.proofs.Runs.{run_place}
 use Rattle.track_format.proofs.Placed.{cells, laid, length-laid, length-cells, inside_of, sound, at_address, at_data, address_is, data_run, first_byte, data_check}
 
@@ -141,7 +143,7 @@ module _ (n gap3 fill : ℕ) (keys : List Chrn) (d : Chrn) (words : ℕ) (fits :
         let found = address_is n gap3 fill keys d words fits at.0 at.1 (are_keys at.0 at.1) in
         (at.0, at.1, at.2, one_key it p other (key at.0) address (subst (λ k. IsAddressAt it k (key at.0)) (sym at.2) found))
 
-    module _ (coded : IsSizeCode n) (asked : (i : ℕ) → i < length keys → (key i).n ≡ n) (wide : 16 ≤ gap3) where
+    module _ (coded : IsSizeCode n) (asked : (i : ℕ) → i < length keys → (key i).n ≡ n) where
       has_size : (p : ℕ) (other : Chrn) → IsAddressAt it p other → other.n ≡ n
       has_size p other address = let at = only p other address in ap (λ k. k.n) at.3 ∙ asked at.0 at.1
 
@@ -166,25 +168,6 @@ module _ (n gap3 fill : ℕ) (keys : List Chrn) (d : Chrn) (words : ℕ) (fits :
           ))
           mark
 
-      pub ends : HasCleanEnds it
-      ends p q other address low high mark =
-          let at = only p other address in
-          let e = at.2 in
-          let i = at.0 in
-          let size : content_size other.n ≡ content_size n = ap content_size (has_size p other address) in
-          no_mark_in_bytes false (cells n gap3 fill keys d words fits) q
-          (λ k above below.
-          let j = k - (from i + 44) in
-          let room = inside_of n gap3 fill keys d words fits i (44 + j) at.1 (omega arith) in
-          let within : k < length (cells n gap3 fill keys d words fits) = omega (arith, length-cells n gap3 fill keys d words fits) in (
-            0x4E,
-            within,
-            get_or_default (cells n gap3 fill keys d words fits) k (Byte 0) filler within
-                ∙ at_data n gap3 fill keys d words fits i j k at.1 (omega arith) (omega arith)
-                ∙ in_gap (data_content (content_size n) fill) gap3 j (omega (arith, length-data_content (content_size n) fill)),
-          ))
-          mark
-
       module _ (end_room : 27 ≤ gap3 + (words - (146 + length keys * sector_words (content_size n) gap3))) where
         room_behind : (i : ℕ) → i < length keys → from i + 89 + content_size n ≤ words
         room_behind i h =
@@ -196,45 +179,116 @@ module _ (n gap3 fill : ℕ) (keys : List Chrn) (d : Chrn) (words : ℕ) (fits :
                   omega arith
             ]
 
-        pub spans : HasSpans it
-        spans = record {
-          inside = λ p other address.
-              let at = only p other address in
-              let e = at.2 in
-              let size : content_size other.n ≡ content_size n = ap content_size (has_size p other address) in
-              let room = room_behind at.0 at.1 in
-              let long = length-laid n gap3 fill keys d words fits in omega arith;
-          apart = λ p q other another address further less.
-              let at = only p other address in
-              let to = only q another further in
-              let e = at.2 in
-              let f = to.2 in
-              let size : content_size other.n ≡ content_size n = ap content_size (has_size p other address) in
+        -- the four words after a data field record bytes: of gap 3, and then of the next sector's sync or of gap 4b
+        byte_behind : (i j k : ℕ) → i < length keys → j < 4 → k ≡ from i + 62 + content_size n + j → (byte : ℕ) × (get_or (cells n gap3 fill keys d words fits) k filler ≡ Byte byte)
+        byte_behind i j k h small e =
+            let long = length-data_content (content_size n) fill in
+            elim (cases_lt j gap3) [
+              | inl within ↦ (
+                0x4E,
+                at_data n gap3 fill keys d words fits i (18 + content_size n + j) k h (omega arith) (omega arith)
+                    ∙ in_gap (data_content (content_size n) fill) gap3 (18 + content_size n + j) (omega (arith, long)),
+              )
+              | inr past ↦
+                  elim (cases_lt (suc i) (length keys)) [
+                    | inl more ↦ (
+                      0,
+                      at_address n gap3 fill keys d words fits (suc i) (j - gap3) k more (omega arith) (omega arith)
+                          ∙ in_sync (address_content (key (suc i))) 22 (j - gap3) (omega arith),
+                    )
+                    | inr last ↦
+                        let all : suc i ≡ length keys = omega arith in
+                        let ended : suc i * sector_words (content_size n) gap3 ≡ length keys * sector_words (content_size n) gap3 = ap (λ m. m * sector_words (content_size n) gap3) all in
+                        (0x4E, at_end_gap (content_size n) gap3 fill keys d words fits k (omega arith))
+                  ]
+            ]
+
+        pub ends : HasCleanEnds it
+        ends p q other address low high mark =
+            let at = only p other address in
+            let e = at.2 in
+            let i = at.0 in
+            let size : content_size other.n ≡ content_size n = ap content_size (has_size p other address) in
+            let room = room_behind i at.1 in
+            no_mark_in_bytes false (cells n gap3 fill keys d words fits) q
+            (λ k above below.
+            let within : k < length (cells n gap3 fill keys d words fits) = omega (arith, length-cells n gap3 fill keys d words fits) in
+            let byte = byte_behind i (k - (from i + 62 + content_size n)) k at.1 (omega arith) (omega arith) in (
+              byte.0,
+              within,
+              get_or_default (cells n gap3 fill keys d words fits) k (Byte 0) filler within ∙ byte.1,
+            ))
+            mark
+
+        inside : (p : ℕ) (other : Chrn) → IsAddressAt it p other → IsInside it p (span_cells other.n)
+        inside p other address =
+            let at = only p other address in
+            let e = at.2 in
+            let size : content_size other.n ≡ content_size n = ap content_size (has_size p other address) in
+            let room = room_behind at.0 at.1 in
+            let long = length-laid n gap3 fill keys d words fits in omega arith
+
+        -- the next address field is a whole sector further, and there is more than gap 3 between them
+        sector_further : (p q : ℕ) (other another : Chrn) → IsAddressAt it p other → IsAddressAt it q another → p < q → (i j : ℕ) × (p ≡ here i) × (q ≡ here j) × (from i + sector_words (content_size n) gap3 ≤ from j)
+        sector_further p q other another address further less =
+            let at = only p other address in
+            let to = only q another further in
+            let e = at.2 in
+            let f = to.2 in (
+              at.0,
+              to.0,
+              at.2,
+              to.2,
               elim (cases_order at.0 to.0) [
                 | inl same ↦ let g : from at.0 ≡ from to.0 = ap from same in absurd (omega arith)
-                | inr (inl before) ↦ let g = apart at.0 to.0 before in omega arith
+                | inr (inl before) ↦ apart at.0 to.0 before
                 | inr (inr after) ↦ let g = apart to.0 at.0 after in absurd (omega arith)
-              ];
-        }
+              ],
+            )
 
-        pub spaced : IsSpaced it
-        spaced = record { plain = plain; coded = sizes; spans = spans; gaps = gaps; ends = ends }
-
-        pub regular : (c h : ℕ) → ((i j : ℕ) → i < length keys → j < length keys → key i ≡ key j → i ≡ j) → ((i : ℕ) → i < length keys → ((key i).c ≡ c) × ((key i).h ≡ h)) → IsRegular it c h
-        regular c h distinct one = record {
+        -- however small gap 3 is, a write over one sector reaches no other
+        pub parted : IsParted it
+        parted = record {
           plain = plain;
-          keys = record {
-            distinct = λ p q other address further.
-                let at = only p other address in
-                let to = only q other further in
-                at.2 ∙ ap here (distinct at.0 to.0 at.1 to.1 (sym at.3 ∙ to.3)) ∙ sym to.2;
-            cylinder = λ p other address.
-                let at = only p other address in ap (λ k. k.c) at.3 ∙ (one at.0 at.1).0;
-            head = λ p other address.
-                let at = only p other address in ap (λ k. k.h) at.3 ∙ (one at.0 at.1).1;
-            coded = sizes;
-          };
-          spans = spans;
+          coded = sizes;
+          inside = inside;
+          ended = λ p q other another address further less.
+              let size : content_size other.n ≡ content_size n = ap content_size (has_size p other address) in
+              let (i, j, e, f, far) = sector_further p q other another address further less in omega arith;
+          looked = λ p q other another address further less.
+              let size : content_size other.n ≡ content_size n = ap content_size (has_size p other address) in
+              let (i, j, e, f, far) = sector_further p q other another address further less in omega arith;
           gaps = gaps;
           ends = ends;
         }
+
+        module _ (wide : 16 ≤ gap3) where
+          pub spans : HasSpans it
+          spans = record {
+            inside = inside;
+            apart = λ p q other another address further less.
+                let size : content_size other.n ≡ content_size n = ap content_size (has_size p other address) in
+                let (i, j, e, f, far) = sector_further p q other another address further less in omega arith;
+          }
+
+          pub spaced : IsSpaced it
+          spaced = record { plain = plain; coded = sizes; spans = spans; gaps = gaps; ends = ends }
+
+          pub regular : (c h : ℕ) → ((i j : ℕ) → i < length keys → j < length keys → key i ≡ key j → i ≡ j) → ((i : ℕ) → i < length keys → ((key i).c ≡ c) × ((key i).h ≡ h)) → IsRegular it c h
+          regular c h distinct one = record {
+            plain = plain;
+            keys = record {
+              distinct = λ p q other address further.
+                  let at = only p other address in
+                  let to = only q other further in
+                  at.2 ∙ ap here (distinct at.0 to.0 at.1 to.1 (sym at.3 ∙ to.3)) ∙ sym to.2;
+              cylinder = λ p other address.
+                  let at = only p other address in ap (λ k. k.c) at.3 ∙ (one at.0 at.1).0;
+              head = λ p other address.
+                  let at = only p other address in ap (λ k. k.h) at.3 ∙ (one at.0 at.1).1;
+              coded = sizes;
+            };
+            spans = spans;
+            gaps = gaps;
+            ends = ends;
+          }

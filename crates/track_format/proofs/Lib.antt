@@ -1,6 +1,7 @@
 pub mod Asked
 mod Found
 pub mod Laid
+mod Narrow
 mod Parts
 mod Placed
 pub mod Read

@@ -16,11 +16,12 @@ use Rattle.track_model.specs.Layouts.{gap, track_symbols, lay, Fits}
 use Rattle.track_model.specs.LaidFields.{sector_place, content_place, HasLaidFields, IsKey, HasEndRoom}
 use Rattle.track_model.proofs.Unique.{one_key, one_deleted}
 use Rattle.track_model.proofs.Sectored.{plain_clear}
+use Rattle.track_model.proofs.Parted.{IsParted}
 use Rattle.track_model.proofs.Sizes.{content_size_least}
 use Rattle.track_model.proofs.Recorded.{length-recorded}
 use Rattle.track_format.specs.Reads.{HasClearField, AllFilled, HoldsFill}
 use Rattle.track_format.proofs.Placed.{address_is, content_is}
-use Rattle.track_format.proofs.Found.{plain, look, lone, only, spaced, regular}
+use Rattle.track_format.proofs.Found.{plain, look, lone, only, parted, spaced, regular}
 
 pub no_key : Chrn
 no_key = record { c = 0; h = 0; r = 0; n = 0 }
@@ -49,17 +50,22 @@ module _ (keys : List Chrn) (n gap3 fill words : ℕ) (fits : Fits keys n gap3 w
     filled = λ i h. content_is n gap3 fill keys no_key words fits i h fit;
   }
 
-  -- if there is room at its end, the sectors keep their distance
+  -- if there is room at its end, a write over one sector reaches no other
+  pub read_parted : IsSizeCode n → All (λ key. IsKey key) keys → All (λ key. key.n ≡ n) keys → HasEndRoom (length keys) n gap3 words → IsParted (lay keys n gap3 fill words)
+  unfolding lay
+  read_parted coded bytes asked room = parted n gap3 fill keys no_key words fits (λ i h. bytes i no_key h) coded (λ i h. asked i no_key h) room
+
+  -- if gap 3 is also wide, the sectors keep their distance
   pub read_spaced : IsSizeCode n → All (λ key. IsKey key) keys → All (λ key. key.n ≡ n) keys → 16 ≤ gap3 → HasEndRoom (length keys) n gap3 words → IsSpaced (lay keys n gap3 fill words)
   unfolding lay
   read_spaced coded bytes asked wide room =
-      spaced n gap3 fill keys no_key words fits (λ i h. bytes i no_key h) coded (λ i h. asked i no_key h) wide room
+      spaced n gap3 fill keys no_key words fits (λ i h. bytes i no_key h) coded (λ i h. asked i no_key h) room wide
 
   -- if the keys are also distinct, and of one cylinder and head, the track is regular
   pub read_regular : IsSizeCode n → All (λ key. IsKey key) keys → All (λ key. key.n ≡ n) keys → 16 ≤ gap3 → (c h : ℕ) → HasEndRoom (length keys) n gap3 words → AllPairs (λ a b. a ≢ b) keys → All (λ key. (key.c ≡ c) × (key.h ≡ h)) keys → IsRegular (lay keys n gap3 fill words) c h
   unfolding lay
   read_regular coded bytes asked wide c h room distinct one =
-      regular n gap3 fill keys no_key words fits (λ i l. bytes i no_key l) coded (λ i l. asked i no_key l) wide room c h
+      regular n gap3 fill keys no_key words fits (λ i l. bytes i no_key l) coded (λ i l. asked i no_key l) room wide c h
       (λ i j a b same.
       elim (cases_order i j) [
         | inl e ↦ e

@@ -12,8 +12,12 @@ pub(crate) const START_WORDS: usize = 146;
 /// The words of a sector without its content and gap 3.
 const SECTOR_WORDS: usize = 62;
 
-/// The least gap 3.
-const LEAST_GAP: u8 = 16;
+/// The least gap 3 with which the sectors of a track keep their distance.
+pub const WIDE_GAP: u8 = 16;
+
+/// The least gap 3 of a medium that is made without a drive. A write over a data field ends with its CRC, however small
+/// gap 3 is. So one byte is enough: it parts the end of the write from the sync of the next sector.
+pub const NARROW_GAP: u8 = 1;
 
 /// The words that gap 3 and gap 4b must have together.
 const LEAST_END: usize = 27;
@@ -45,22 +49,23 @@ fn suits(n: u8, sectors: u8, words: usize, gap3: u8) -> bool
 }
 
 /// The largest gap 3, in bytes, with which a track of `sectors` sectors of size code `n` can be formatted, and each
-/// sector can then be written over. It is at least 16, and at most the standard gap of the rate. The result is `None`
-/// if no such gap leaves room.
-pub fn choose_gap(n: u8, sectors: u8, rate: Rate) -> Option<u8>
+/// sector can then be written over. It is at least `least`, and at most the standard gap of the rate. The result is
+/// `None` if no such gap leaves room.
+pub fn choose_gap(n: u8, sectors: u8, rate: Rate, least: u8) -> Option<u8>
     requires at_least { 1 ≤ n }
     requires at_most { n ≤ 6 }
     ensures { MatchOption result
-        ((gap : ℕ) → 16 ≤ gap → gap ≤ gap_at rate → Suits n sectors (words_at rate) gap → ⊥)
-        (λ gap. IsLargestGap n sectors rate gap) }
+        ((gap : ℕ) → least ≤ gap → gap ≤ gap_at rate → Suits n sectors (words_at rate) gap → ⊥)
+        (λ gap. IsLargestGap least n sectors rate gap) }
 {
     let words = usize::from(rate.words());
     let mut gap = rate.format_gap();
-    while gap >= LEAST_GAP {
-        if suits(n, sectors, words, gap) {
-            return Some(gap);
-        }
+    while least < gap && !suits(n, sectors, words, gap) {
         gap -= 1;
     }
-    None
+    if least <= gap && suits(n, sectors, words, gap) {
+        Some(gap)
+    } else {
+        None
+    }
 }

@@ -1,18 +1,20 @@
 // What a read finds on a formatted track, and what a torn write leaves of one.
 ghost use Rattle.std.specs.Prelude.{◌≡◌, ◌≢◌, ◌≤◌, ◌↔◌, ℕ, length, All, AllPairs, Contains};
+ghost use Rattle.flop_base.specs.Standard.{words_at};
 ghost use Rattle.flop_base.specs.declared.key.Chrn.{Chrn};
 ghost use Rattle.track_model.specs.Marks.{IsAddressMark};
 ghost use Rattle.track_model.specs.Fields.{IsAddressAt};
-ghost use Rattle.track_model.specs.Layouts.{lay, Fits};
+ghost use Rattle.track_model.specs.Layouts.{laid_words, lay, Fits};
 ghost use Rattle.track_model.specs.LaidFields.{HasLaidFields, IsKey, HasEndRoom};
 ghost use Rattle.track_model.specs.Windows.{HasFieldFor, IsTidy};
 ghost use Rattle.track_model.specs.Laid.{IsLaid};
 ghost use Rattle.track_model.specs.Torn.{IsTorn};
 ghost use Rattle.track_model.specs.Regular.{IsSpaced, IsRegular};
 ghost use Rattle.track_model.specs.Sectors.{IsPlain, IsLone};
+ghost use Rattle.track_format.specs.Gaps.{narrow_gap, Suits};
 ghost use Rattle.track_format.specs.Reads.{HasClearField, AllFilled, HoldsFill};
 
-use flop_base::Chrn;
+use flop_base::{Chrn, Rate};
 
 /// A formatted track has exactly the requested sectors, each at its place and whole. If its end has room for a write
 /// over the last data field, the sectors keep their distance. If the keys are also distinct, and of one cylinder and
@@ -93,4 +95,13 @@ pub fn torn_is_regular(_words: &[u16])
     ensures regular { (c h : ℕ) × IsRegular _words.now c h }
     ensures addresses { (torn : IsTorn _words.now) (q : ℕ) (key : Chrn)
         → IsAddressAt torn.formatted q key ↔ IsAddressAt _words.now q key }
+{}
+
+/// As many sectors as fit on a track with some gap 3, however small, also fit with a narrow one, and each can then be
+/// written over.
+pub fn as_many_suit(_n: u8, _sectors: u8, _gap3: u8, _rate: Rate)
+    requires at_least { 1 ≤ _n }
+    requires at_most { _n ≤ 6 }
+    requires fits { laid_words _sectors _n _gap3 ≤ words_at _rate }
+    ensures { Suits _n _sectors (words_at _rate) narrow_gap }
 {}

@@ -7,6 +7,6 @@ mod stream;
 mod symbols;
 mod whole;
 
-pub use gap::choose_gap;
+pub use gap::{NARROW_GAP, WIDE_GAP, choose_gap};
 pub use stream::FormatStream;
 pub use whole::{LayoutError, fill_layout, layout};

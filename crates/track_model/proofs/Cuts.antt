@@ -1,4 +1,4 @@
--- A cut of a window leaves each other sector of a Spaced track as it was.
+-- A cut of a window leaves each other sector of a Parted track as it was.
 use Rattle.std.proofs.Common.{◌≡◌, ◌↔◌, ℕ, ◌+◌, ◌-◌, ◌*◌, ◌/◌, ◌≤◌, Bool, List, length, take, drop, sym, ap, subst, ◌∙◌, arith, inl, inr}
 use Rattle.std.proofs.lemmas.Bool.{cases_lt, cases_order}
 use Rattle.std.proofs.Math.Seq.{take-length}
@@ -6,7 +6,7 @@ use Rattle.std.proofs.lemmas.List.{length-take, take-append-drop}
 use Rattle.flop_base.specs.declared.key.Chrn.{Chrn}
 use Rattle.track_model.specs.declared.Look.{Look}
 use Rattle.track_model.specs.declared.Look.TheVariants.{Found}
-use Rattle.track_model.specs.Cells.{cells_at}
+use Rattle.track_model.specs.Cells.{cells_at, IsInside}
 use Rattle.track_model.specs.Bytes.{byte_at}
 use Rattle.track_model.specs.Marks.{IsAddressMark}
 use Rattle.track_model.specs.Fields.{IsAddressAt, content_size, content_at}
@@ -16,6 +16,7 @@ use Rattle.track_model.specs.Windows.{window_word, window_place, window_words, w
 use Rattle.track_model.specs.Regular.{span_cells, HasSizes, HasSpans, HasCleanGaps, HasCleanEnds, IsSpaced, IsRegular}
 use Rattle.track_model.proofs.Unique.{one_key}
 use Rattle.track_model.proofs.Frames.{AreSame, same_back, same_cells_at, same_byte_at, same_bytes_at, same_run, same_address_mark, same_address_at}
+use Rattle.track_model.proofs.Parted.{IsParted}
 use Rattle.track_model.proofs.Spans.{same_look}
 use Rattle.track_model.proofs.Splices
 use Rattle.track_model.proofs.WindowMarks.{cells_at-left, byte_at-left}
@@ -38,17 +39,13 @@ byte_of_first : (words : List ℕ) (k i : ℕ) → k ≤ length words → i + 16
 byte_of_first words k i most h =
     sym (byte_at-left (take k words) (drop k words) i (omega (arith, length-take k words))) ∙ ap (λ ws. byte_at ws i) (take-append-drop k words)
 
-module _ (track : List ℕ) (p : ℕ) (key : Chrn) (words : List ℕ) (k : ℕ) (spaced : IsSpaced track) (here : IsAddressAt track p key) (over : IsOverlay words key.n) (most : k ≤ length words) where
+module _ (track : List ℕ) (p : ℕ) (key : Chrn) (words : List ℕ) (k : ℕ) (parted : IsParted track) (here : IsAddressAt track p key) (over : IsOverlay words key.n) (most : k ≤ length words) where
   long_cut : length (take k words) ≡ k
   long_cut = omega (arith, length-take k words)
 
-  -- the window lies within the span
-  in_span : window_end p key.n + 64 ≤ p + span_cells key.n
-  in_span = omega arith
-
   pub fits : window_word p + length (take k words) ≤ length track
   fits =
-      let inside = spaced.spans.inside p key here in
+      let inside = parted.inside p key here in
       let long = over.long in
       omega (arith, long_cut)
 
@@ -79,7 +76,7 @@ module _ (track : List ℕ) (p : ℕ) (key : Chrn) (words : List ℕ) (k : ℕ) 
   -- none stands between the field and the window
   pub no_mark_before : (q : ℕ) → p + 160 ≤ q → q + 16 ≤ window_place p → cells_at (cut_of track p k words) q ≡ 0x4489 → ⊥
   no_mark_before q low high mark =
-      spaced.gaps p q key here low high
+      parted.gaps p q key here low high
       (same_cells_at track (cut_of track p k words) q 16 q (same_before q 16 high) (omega arith) (omega arith) ∙ mark)
 
   -- an address mark behind the field ends behind the words put in
@@ -121,7 +118,7 @@ module _ (track : List ℕ) (p : ℕ) (key : Chrn) (words : List ℕ) (k : ℕ) 
               | inr a ↦
                   let same = same_behind (m + 32) 16 (omega arith) in
                   let cells = same_cells_at track (cut_of track p k words) (m + 32) 16 (m + 32) same (omega arith) (omega arith) in
-                  absurd (spaced.ends p (m + 32) key here a (omega arith) (cells ∙ mark.run.third))
+                  absurd (parted.ends p (m + 32) key here a (omega arith) (cells ∙ mark.run.third))
             ]
       ]
 
@@ -149,11 +146,11 @@ module _ (track : List ℕ) (p : ℕ) (key : Chrn) (words : List ℕ) (k : ℕ) 
         elim (cases_order q p) [
           | inl e ↦ same_address_at track after q other (same_before q 160 (omega arith)) field
           | inr (inl h) ↦
-              let far = spaced.spans.apart q p other key field here h in
+              let far = parted.ended q p other key field here h in
               same_address_at track after q other (same_before q 160 (omega arith)) field
           | inr (inr h) ↦
-              let far = spaced.spans.apart p q key other here field h in
-              same_address_at track after q other (same_behind q 160 (omega (arith, behind_end, in_span))) field
+              let far = parted.ended p q key other here field h in
+              same_address_at track after q other (same_behind q 160 (omega (arith, behind_end))) field
         ]
 
     -- a field behind the words put in was there before
@@ -195,34 +192,37 @@ module _ (track : List ℕ) (p : ℕ) (key : Chrn) (words : List ℕ) (k : ℕ) 
     kept_plain m mark q low high run =
         let after = cut_of track p k words in
         elim (cases_lt m (p + 160)) [
-          | inl h ↦ spaced.plain m (old m mark) q low high (same_run after track q (same_back track after q 48 (same_before q 48 (omega arith))) run)
+          | inl h ↦ parted.plain m (old m mark) q low high (same_run after track q (same_back track after q 48 (same_before q 48 (omega arith))) run)
           | inr h ↦
               let place = mark_place m mark h in
-              spaced.plain m (old m mark) q low high (same_run after track q (same_back track after q 48 (same_behind q 48 (omega arith))) run)
+              parted.plain m (old m mark) q low high (same_run after track q (same_back track after q 48 (same_behind q 48 (omega arith))) run)
         ]
 
     kept_sizes : HasSizes (cut_of track p k words)
-    kept_sizes q other field = spaced.coded q other (old_address q other field)
+    kept_sizes q other field = parted.coded q other (old_address q other field)
 
-    kept_spans : HasSpans (cut_of track p k words)
-    kept_spans = record {
-      inside = λ q other field. let inside = spaced.spans.inside q other (old_address q other field) in omega (arith, lengths);
-      apart = λ q r one two a b h. spaced.spans.apart q r one two (old_address q one a) (old_address r two b) h;
+    kept_inside : (q : ℕ) (other : Chrn) → IsAddressAt (cut_of track p k words) q other → IsInside (cut_of track p k words) q (span_cells other.n)
+    kept_inside q other field = let inside = parted.inside q other (old_address q other field) in omega (arith, lengths)
+
+    kept_spans : HasSpans track → HasSpans (cut_of track p k words)
+    kept_spans spans = record {
+      inside = kept_inside;
+      apart = λ q r one two a b h. spans.apart q r one two (old_address q one a) (old_address r two b) h;
     }
 
     kept_gaps : HasCleanGaps (cut_of track p k words)
     kept_gaps q r other field low high mark =
         let after = cut_of track p k words in
         let was = old_address q other field in
-        let given = λ (same : AreSame track after r 16). spaced.gaps q r other was low high (same_cells_at track after r 16 r same (omega arith) (omega arith) ∙ mark) in
+        let given = λ (same : AreSame track after r 16). parted.gaps q r other was low high (same_cells_at track after r 16 r same (omega arith) (omega arith) ∙ mark) in
         elim (cases_order q p) [
           | inl e ↦ given (same_before r 16 (omega arith))
           | inr (inl h) ↦
-              let far = spaced.spans.apart q p other key was here h in
+              let far = parted.ended q p other key was here h in
               given (same_before r 16 (omega arith))
           | inr (inr h) ↦
-              let far = spaced.spans.apart p q key other here was h in
-              given (same_behind r 16 (omega (arith, behind_end, in_span)))
+              let far = parted.ended p q key other here was h in
+              given (same_behind r 16 (omega (arith, behind_end)))
         ]
 
     same_end : (q : ℕ) (other : Chrn) → IsAddressAt track q other → q ≡ p → window_end q other.n ≡ window_end p key.n
@@ -233,19 +233,30 @@ module _ (track : List ℕ) (p : ℕ) (key : Chrn) (words : List ℕ) (k : ℕ) 
     kept_ends q r other field low high mark =
         let after = cut_of track p k words in
         let was = old_address q other field in
-        let given = λ (same : AreSame track after r 16). spaced.ends q r other was low high (same_cells_at track after r 16 r same (omega arith) (omega arith) ∙ mark) in
+        let given = λ (same : AreSame track after r 16). parted.ends q r other was low high (same_cells_at track after r 16 r same (omega arith) (omega arith) ∙ mark) in
         elim (cases_order q p) [
           | inl e ↦ given (same_behind r 16 (omega (arith, behind_end, same_end q other was e)))
           | inr (inl h) ↦
-              let far = spaced.spans.apart q p other key was here h in
+              let far = parted.ended q p other key was here h in
               given (same_before r 16 (omega arith))
           | inr (inr h) ↦
-              let far = spaced.spans.apart p q key other here was h in
-              given (same_behind r 16 (omega (arith, behind_end, in_span)))
+              let far = parted.ended p q key other here was h in
+              given (same_behind r 16 (omega (arith, behind_end)))
         ]
 
-    pub kept_spaced : IsSpaced (cut_of track p k words)
-    kept_spaced = record { plain = kept_plain; coded = kept_sizes; spans = kept_spans; gaps = kept_gaps; ends = kept_ends }
+    pub kept_parted : IsParted (cut_of track p k words)
+    kept_parted = record {
+      plain = kept_plain;
+      coded = kept_sizes;
+      inside = kept_inside;
+      ended = λ q r one two a b h. parted.ended q r one two (old_address q one a) (old_address r two b) h;
+      looked = λ q r one two a b h. parted.looked q r one two (old_address q one a) (old_address r two b) h;
+      gaps = kept_gaps;
+      ends = kept_ends;
+    }
+
+    pub kept_spaced : IsSpaced track → IsSpaced (cut_of track p k words)
+    kept_spaced spaced = record { plain = kept_plain; coded = kept_sizes; spans = kept_spans spaced.spans; gaps = kept_gaps; ends = kept_ends }
 
     pub kept_regular : (c h : ℕ) → IsRegular track c h → IsRegular (cut_of track p k words) c h
     kept_regular c h regular = record {
@@ -256,7 +267,7 @@ module _ (track : List ℕ) (p : ℕ) (key : Chrn) (words : List ℕ) (k : ℕ) 
         head = λ q other a. regular.keys.head q other (old_address q other a);
         coded = kept_sizes;
       };
-      spans = kept_spans;
+      spans = kept_spans regular.spans;
       gaps = kept_gaps;
       ends = kept_ends;
     }
@@ -266,11 +277,11 @@ module _ (track : List ℕ) (p : ℕ) (key : Chrn) (words : List ℕ) (k : ℕ) 
       elim (cases_order q p) [
         | inl e ↦ absurd (not e)
         | inr (inl h) ↦
-            let far = spaced.spans.apart q p other key field here h in
+            let far = parted.looked q p other key field here h in
             same_before q (span_cells other.n) (omega arith)
         | inr (inr h) ↦
-            let far = spaced.spans.apart p q key other here field h in
-            same_behind q (span_cells other.n) (omega (arith, behind_end, in_span))
+            let far = parted.ended p q key other here field h in
+            same_behind q (span_cells other.n) (omega (arith, behind_end))
       ]
 
   -- each other field keeps its look

@@ -9,10 +9,10 @@ use Rattle.track_model.specs.Bytes.{byte_at, legal}
 use Rattle.track_model.specs.Fields.{IsAddressAt}
 use Rattle.track_model.specs.Looks.{LookAt}
 use Rattle.track_model.specs.Windows.{window_place, window_words, window_word, empty_window, cut_of}
-use Rattle.track_model.specs.Regular.{IsSpaced}
 use Rattle.track_model.proofs.Sizes.{content_size_least}
 use Rattle.track_model.proofs.Legals.{legal-nil, legal-cons, no_mark, byte_at-legal}
 use Rattle.track_model.proofs.Cuts.{IsOverlay, cells_put, mark_in, no_mark_before}
+use Rattle.track_model.proofs.Parted.{IsParted}
 
 one_gap : legal false (0x4E ∷ []) ≡ 0x9254 ∷ []
 unfolding legal number
@@ -48,7 +48,7 @@ empty_overlay n = record {
   byte = λ e. let is = empty_byte n in absurd (omega arith);
 }
 
-module _ (track : List ℕ) (p : ℕ) (key : Chrn) (k : ℕ) (spaced : IsSpaced track) (here : IsAddressAt track p key) (all : k ≡ window_words key.n) where
+module _ (track : List ℕ) (p : ℕ) (key : Chrn) (k : ℕ) (parted : IsParted track) (here : IsAddressAt track p key) (all : k ≡ window_words key.n) where
   most : k ≤ length (empty_window key.n)
   most = omega (arith, length-empty_window key.n)
 
@@ -61,15 +61,15 @@ module _ (track : List ℕ) (p : ℕ) (key : Chrn) (k : ℕ) (spaced : IsSpaced 
       let large = content_size_least key.n field.coded.0 in
       let over = empty_overlay key.n in
       elim (cases_lt (window_place p) (q + 16)) [
-        | inr a ↦ no_mark_before track p key (empty_window key.n) k spaced here over most q after a run.first
+        | inr a ↦ no_mark_before track p key (empty_window key.n) k parted here over most q after a run.first
         | inl a ↦
             elim (cases_lt q (window_place p)) [
               | inl b ↦
-                  let found = (mark_in track p key (empty_window key.n) k spaced here over most (q + 16) (omega arith) (omega arith) run.second).0 in
+                  let found = (mark_in track p key (empty_window key.n) k parted here over most (q + 16) (omega arith) (omega arith) run.second).0 in
                   omega arith
               | inr b ↦
                   let place : q ≡ 16 * window_word p + (q - window_place p) = omega arith in
-                  let cells = cells_put track p key (empty_window key.n) k spaced here over most q (q - window_place p) place (omega arith) in
+                  let cells = cells_put track p key (empty_window key.n) k parted here over most q (q - window_place p) place (omega arith) in
                   no_mark_in key.n (q - window_place p) (omega arith) (sym cells ∙ run.first)
             ]
       ]

@@ -13,6 +13,7 @@ pub mod Legals
 pub mod Numbers
 pub mod OwnField
 pub mod OwnLooks
+pub mod Parted
 pub mod Places
 pub mod Recorded
 pub mod Seams

@@ -11,13 +11,13 @@ use Rattle.track_model.specs.Fields.{IsAddressAt, content_size}
 use Rattle.track_model.specs.Looks.{HasDataField}
 use Rattle.track_model.specs.Writing.{sync_and_marks}
 use Rattle.track_model.specs.Windows.{window_word, window_place, window_words, window_end, cut_of}
-use Rattle.track_model.specs.Regular.{IsSpaced}
 use Rattle.track_model.proofs.Places.{cell_in}
 use Rattle.track_model.proofs.Legals.{no_gap}
 use Rattle.track_model.proofs.Written.{length-sync_and_marks}
 use Rattle.track_model.proofs.Splices
 use Rattle.track_model.proofs.WindowMarks.{marked, marks_in, length-marked, byte_in, byte_behind, run_in, word_12, word_13, word_14}
 use Rattle.track_model.proofs.Cuts.{IsOverlay, all_of, fits, mark_in, no_mark_before}
+use Rattle.track_model.proofs.Parted.{IsParted}
 
 -- ---- legal words are not zero
 
@@ -64,7 +64,7 @@ data_overlay deleted rest n sized = record {
 
 -- ---- a whole window of these words
 
-module _ (track : List ℕ) (p : ℕ) (key : Chrn) (k : ℕ) (deleted : Bool) (rest : List ℕ) (spaced : IsSpaced track) (here : IsAddressAt track p key) (sized : length rest ≡ content_size key.n + 2) (all : k ≡ length (marked (data_byte deleted ∷ rest))) where
+module _ (track : List ℕ) (p : ℕ) (key : Chrn) (k : ℕ) (deleted : Bool) (rest : List ℕ) (parted : IsParted track) (here : IsAddressAt track p key) (sized : length rest ≡ content_size key.n + 2) (all : k ≡ length (marked (data_byte deleted ∷ rest))) where
   own_most : k ≤ length (marked (data_byte deleted ∷ rest))
   own_most = omega arith
 
@@ -72,7 +72,7 @@ module _ (track : List ℕ) (p : ℕ) (key : Chrn) (k : ℕ) (deleted : Bool) (r
   own_words = all_of (marked (data_byte deleted ∷ rest)) k all
 
   own_fits : window_word p + length (take k (marked (data_byte deleted ∷ rest))) ≤ length track
-  own_fits = fits track p key (marked (data_byte deleted ∷ rest)) k spaced here (data_overlay deleted rest key.n sized) own_most
+  own_fits = fits track p key (marked (data_byte deleted ∷ rest)) k parted here (data_overlay deleted rest key.n sized) own_most
 
   own_long : k ≡ window_words key.n
   own_long = omega (arith, length-marked (data_byte deleted ∷ rest))
@@ -104,7 +104,7 @@ module _ (track : List ℕ) (p : ℕ) (key : Chrn) (k : ℕ) (deleted : Bool) (r
 
   own_inside : window_end p key.n ≤ 16 * length (cut_of track p k (marked (data_byte deleted ∷ rest)))
   own_inside =
-      let inside = spaced.spans.inside p key here in
+      let inside = parted.inside p key here in
       omega (arith, Splices.length-with_items track (window_word p) (take k (marked (data_byte deleted ∷ rest))) own_fits)
 
   pub own_sound : (m : ℕ) → window_place p + 192 + m ≤ window_end p key.n → IsSound (cut_of track p k (marked (data_byte deleted ∷ rest))) (window_place p + 192) m
@@ -123,21 +123,21 @@ module _ (track : List ℕ) (p : ℕ) (key : Chrn) (k : ℕ) (deleted : Bool) (r
       let words : List ℕ = marked (data_byte deleted ∷ rest) in
       let over = data_overlay deleted rest key.n sized in
       elim (cases_lt (window_place p) (q + 16)) [
-        | inr a ↦ no_mark_before track p key words k spaced here over own_most q low a run.first
+        | inr a ↦ no_mark_before track p key words k parted here over own_most q low a run.first
         | inl a ↦
             elim (cases_lt q (window_place p)) [
               | inl b ↦
-                  let found = (mark_in track p key words k spaced here over own_most (q + 16) (omega arith) (omega (arith, own_long)) run.second).0 in
+                  let found = (mark_in track p key words k parted here over own_most (q + 16) (omega arith) (omega (arith, own_long)) run.second).0 in
                   omega arith
               | inr b ↦
-                  let found = (mark_in track p key words k spaced here over own_most q b (omega (arith, own_long)) run.first).0 in
+                  let found = (mark_in track p key words k parted here over own_most q b (omega (arith, own_long)) run.first).0 in
                   omega arith
             ]
       ]
 
   pub own_field : HasDataField (cut_of track p k (marked (data_byte deleted ∷ rest))) p key.n (window_place p + 192) deleted
   own_field = record {
-    coded = spaced.coded p key here;
+    coded = parted.coded p key here;
     first = record {
       mark = record {
         after = omega arith;

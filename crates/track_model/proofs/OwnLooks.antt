@@ -11,11 +11,11 @@ use Rattle.track_model.specs.Fields.{after_marks, IsAddressAt, content_size, dat
 use Rattle.track_model.specs.Looks.{HasDataField, LookAt}
 use Rattle.track_model.specs.Writing.{check_bytes}
 use Rattle.track_model.specs.Windows.{window_place, cut_of}
-use Rattle.track_model.specs.Regular.{IsSpaced}
 use Rattle.track_model.proofs.WindowMarks.{marked}
 use Rattle.track_model.proofs.OwnField.{own_field, own_rest, own_mark, own_sound}
+use Rattle.track_model.proofs.Parted.{IsParted}
 
-module _ (track : List ℕ) (p : ℕ) (key : Chrn) (k : ℕ) (deleted : Bool) (content : List ℕ) (check : ℕ) (spaced : IsSpaced track) (here : IsAddressAt track p key) (sized : length content ≡ content_size key.n) (bytes : (j : ℕ) → get_or content j 0 < 2 ^ 8) (fits : check < 2 ^ 16) (all : k ≡ length (marked (data_byte deleted ∷ (content ++ check_bytes check)))) where
+module _ (track : List ℕ) (p : ℕ) (key : Chrn) (k : ℕ) (deleted : Bool) (content : List ℕ) (check : ℕ) (parted : IsParted track) (here : IsAddressAt track p key) (sized : length content ≡ content_size key.n) (bytes : (j : ℕ) → get_or content j 0 < 2 ^ 8) (fits : check < 2 ^ 16) (all : k ≡ length (marked (data_byte deleted ∷ (content ++ check_bytes check)))) where
   abbrev after : List ℕ
   after = cut_of track p k (marked (data_byte deleted ∷ (content ++ check_bytes check)))
 
@@ -23,7 +23,7 @@ module _ (track : List ℕ) (p : ℕ) (key : Chrn) (k : ℕ) (deleted : Bool) (c
   rest_sized = omega (arith, length-append content (check_bytes check))
 
   rest_byte : (q j : ℕ) → q ≡ window_place p + 256 + 16 * j → j < length (content ++ check_bytes check) → get_or (content ++ check_bytes check) j 0 < 2 ^ 8 → byte_at after q ≡ get_or (content ++ check_bytes check) j 0
-  rest_byte = own_rest track p key k deleted (content ++ check_bytes check) spaced here rest_sized all
+  rest_byte = own_rest track p key k deleted (content ++ check_bytes check) parted here rest_sized all
 
   pub own_content : (q : ℕ) → q ≡ window_place p + 256 → content ≡ content_at after q key.n
   own_content q e =
@@ -50,11 +50,11 @@ module _ (track : List ℕ) (p : ℕ) (key : Chrn) (k : ℕ) (deleted : Bool) (c
       omega (arith, upper, lower, high, low)
 
   field : HasDataField after p key.n (window_place p + 192) deleted
-  field = own_field track p key k deleted (content ++ check_bytes check) spaced here rest_sized all
+  field = own_field track p key k deleted (content ++ check_bytes check) parted here rest_sized all
 
   checked_bytes : after_marks (byte_at after (window_place p + 192 + 48) ∷ content_at after (window_place p + 192 + 64) key.n) ≡ after_marks (data_byte deleted ∷ content)
   checked_bytes =
-      ap (λ b. after_marks (b ∷ content_at after (window_place p + 192 + 64) key.n)) (own_mark track p key k deleted (content ++ check_bytes check) spaced here rest_sized all)
+      ap (λ b. after_marks (b ∷ content_at after (window_place p + 192 + 64) key.n)) (own_mark track p key k deleted (content ++ check_bytes check) parted here rest_sized all)
       ∙ ap (λ row. after_marks (data_byte deleted ∷ row)) (sym (own_content (window_place p + 192 + 64) (omega arith)))
 
   pub own_found : check ≡ crc (after_marks (data_byte deleted ∷ content)) → LookAt after p key.n (Found deleted (window_place p + 256))
@@ -63,7 +63,7 @@ module _ (track : List ℕ) (p : ℕ) (key : Chrn) (k : ℕ) (deleted : Bool) (c
     field,
     omega arith,
     record {
-      sound = own_sound track p key k deleted (content ++ check_bytes check) spaced here rest_sized all (data_cells key.n) (omega arith);
+      sound = own_sound track p key k deleted (content ++ check_bytes check) parted here rest_sized all (data_cells key.n) (omega arith);
       content_is = refl;
       check = checked (window_place p + 192 + 64 + 16 * content_size key.n) (omega arith) ∙ right ∙ sym (ap crc checked_bytes);
     },

@@ -41,15 +41,15 @@ most-opcode : HasMost spelled_opcode 4
 unfolding spelled_opcode
 most-opcode opcode rest = omega (arith, most-operation, length-flag)
 
-most-transfer : HasMost spelled_transfer 12
+most-transfer : HasMost spelled_transfer 13
 unfolding spelled_transfer
-most-transfer transfer rest = omega (arith, most-opcode, length-byte, length-key)
+most-transfer transfer rest = omega (arith, most-opcode, length-byte, length-key, length-flag)
 
-most-moving : HasMost spelled_moving 17
+most-moving : HasMost spelled_moving 18
 unfolding spelled_moving
 most-moving moving rest = omega (arith, most-transfer, length-word, length-flag)
 
-most-front_stage : HasMost spelled_stage 18
+most-front_stage : HasMost spelled_stage 19
 unfolding spelled_stage
 most-front_stage Through rest = omega arith
 most-front_stage (Collecting opcode) rest = omega (arith, most-opcode)
@@ -59,7 +59,7 @@ most-front_stage (Telling results read) rest = omega (arith, most-results, lengt
 
 most-sequencer : {D : Type 0} (spelled : D → List ℕ → List ℕ) (fits : D → Type 0) (sequencer : Sequencer D) (first second : ℕ) (rest : List ℕ)
     → SequencerFits fits sequencer → IsWithin spelled sequencer.adapter.first first → IsWithin spelled sequencer.adapter.second second
-    → length (spelled_sequencer spelled sequencer rest) ≤ 152 + first + second + length rest
+    → length (spelled_sequencer spelled sequencer rest) ≤ 153 + first + second + length rest
 unfolding spelled_sequencer
 most-sequencer spelled fits sequencer first second rest is one two =
     let last = spelled_flag sequencer.strapped (spelled_flag sequencer.configured rest) in
@@ -113,11 +113,11 @@ most-place places.Index rest = omega arith
 most-place places.Address rest = omega arith
 most-place places.Data rest = omega arith
 
-most-track : HasMost spelled_track 12
+most-track : HasMost spelled_track 13
 unfolding spelled_track
 most-track track rest = omega (arith, length-byte, length-key, length-word, most-place, length-flag)
 
-most-task : HasMost spelled_task 13
+most-task : HasMost spelled_task 14
 unfolding spelled_task
 most-task tasks.Sent rest = omega arith
 most-task (tasks.Sought results) rest = omega (arith, most-results)
@@ -140,10 +140,10 @@ most-stage (stages.Telling answer read) rest = omega (arith, most-answer, length
 pub most-chip : {D : Type 0} (spelled : D → List ℕ → List ℕ) (fits : D → Type 0) (chip : Chip D) (first second : ℕ) (rest : List ℕ)
     → ChipFits fits chip → ((left : List ℕ) → length (spelled chip.behind.adapter.first left) ≤ first + length left)
     → ((left : List ℕ) → length (spelled chip.behind.adapter.second left) ≤ second + length left)
-    → length (spelled_chip spelled chip rest) ≤ 212 + first + second + length rest
+    → length (spelled_chip spelled chip rest) ≤ 213 + first + second + length rest
 unfolding spelled_chip
 most-chip spelled fits chip first second rest is one two =
-    let paced = spelled_flag chip.paced rest in
+    let paced = spelled_flag chip.paced (spelled_byte chip.tape rest) in
     let pace = spelled_option spelled_pace chip.pace paced in
     let keys = spelled_word chip.keys (spelled_flag chip.gated pace) in
     let settings = spelled_settings chip.settings (spelled_flag chip.strapped keys) in

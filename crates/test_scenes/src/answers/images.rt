@@ -1,6 +1,6 @@
 // Files of media: images, ImageDisk files and flat files.
 use super::print::put_bytes;
-use super::{Asked, medium_of, texts};
+use super::{Asked, media, medium_of};
 use flat_files::blank_flat;
 use flop_base::Rate;
 use floppy_jobs::is_verb;
@@ -31,7 +31,7 @@ pub(crate) fn answer(
     } else if is_verb(verb, "flat-place") {
         flat_place(line, out)
     } else {
-        texts::answer(verb, asked, line, out)
+        media::answer(verb, asked, line, out)
     }
 }
 

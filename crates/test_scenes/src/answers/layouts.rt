@@ -81,13 +81,13 @@ fn stream(asked: Asked, line: &mut Line, out: &mut Draft) -> Result<(), Wrong> {
     Ok(())
 }
 
-/// `gap N SECTORS 500` and `gap N SECTORS 250`: the largest gap 3 of such a track
+/// `gap N SECTORS 500 LEAST` and `gap N SECTORS 250 LEAST`: the largest gap 3 of such a track, from LEAST on
 fn gap(line: &mut Line, out: &mut Draft) -> Result<(), Wrong> {
-    let (n, sectors, rate) = (line.byte(), line.byte(), rate(line));
+    let (n, sectors, rate, least) = (line.byte(), line.byte(), rate(line), line.byte());
     if n < 1 || n > 6 {
         return Err(Wrong::Line);
     }
-    match choose_gap(n, sectors, rate) {
+    match choose_gap(n, sectors, rate, least) {
         Some(gap) => {
             out.text("gap");
             out.numbers(&[u64::from(gap)]);

@@ -1,5 +1,6 @@
 use Rattle.std.proofs.Common.{◌≡◌, ◌∙◌, ap, subst, sym}
 use Rattle.std.specs.Prelude.{Err}
+use Rattle.track_format.specs.Gaps.{narrow_gap}
 use Rattle.imagedisk.specs.Found.{HasImage}
 use Rattle.imagedisk.specs.Made.{IsFirstCrowded, IsMediumOf, MakesDisk}
 use Rattle.imagedisk.specs.declared.error.ImdError.{ImdError}
@@ -15,7 +16,7 @@ returns-in-Ok c =
       c.in_ok-sectors.sectors,
       record {
         told = sym c.in_ok-sectors.ensures.told;
-        made = subst (λ (image : ImdImage). IsMediumOf image c.in-Ok.medium) is c.in-Ok.ensures.made;
+        made = subst (λ (image : ImdImage). IsMediumOf narrow_gap image c.in-Ok.medium) is c.in-Ok.ensures.made;
         found = subst (λ (image : ImdImage). HasImage c.in-Ok.medium image) is c.in-Ok.ensures.found;
       },
     )
@@ -24,9 +25,9 @@ pub fault-requires : goal.fault-requires
 fault-requires c = λ cylinder head unfit.
     let is : c.in_ok-image.image ≡ flat_image c.args.bytes.now c.in_ok-sectors.sectors (rate_of c.in_ok-sectors.sectors) =
     c.in_ok-image.ensures.is ∙ ap (flat_image c.args.bytes.now c.in_ok-sectors.sectors) c.rate_of.ensures in
-    let crowded = subst (λ (error : ImdError). MakesDisk c.in_ok-image.image (Err error)) unfit c.in-Err.ensures.made in
+    let crowded = subst (λ (error : ImdError). MakesDisk narrow_gap c.in_ok-image.image (Err error)) unfit c.in-Err.ensures.made in
     not_crowded c.args.bytes.now c.in_ok-sectors.sectors cylinder head crowded.0 c.in_ok-sectors.ensures.ok.0
-    (subst (λ (image : ImdImage). IsFirstCrowded image cylinder head crowded.0) is crowded.1)
+    (subst (λ (image : ImdImage). IsFirstCrowded narrow_gap image cylinder head crowded.0) is crowded.1)
 
 pub returns : goal.returns
 returns c = rw c.fault.ensures tt

@@ -11,7 +11,7 @@ returns c =
     let rate = image.rate in
     let cylinders = c.cylinder_count-cylinders.ensures.value ∙ ap (λ (ts : List ImdTrack). cylinder_count ts) c.as_slice-tracks.ensures in
     let heads = c.head_count-heads.ensures.value ∙ ap (λ (ts : List ImdTrack). head_count ts) c.as_slice-tracks.ensures in
-    begun image c.in_ok-medium.medium
+    λ least. begun least image c.in_ok-medium.medium
     (c.in_ok-medium.ensures
     ∙ ap (λ (n : ℕ). blank_disk n c.head_count-heads.result c.words.result rate) cylinders
     ∙ ap (λ (n : ℕ). blank_disk (cylinder_count image.tracks) n c.words.result rate) heads

@@ -21,6 +21,6 @@ returns c =
     let item = c.index-as_slice-i.result in
     let words = c.deref.result.now in
     let same : item ≡ get_or image.tracks c.args.i item = c.index-as_slice-i.is ∙ ap (λ (ts : List ImdTrack). get_or ts c.args.i item) c.as_slice.ensures in
-    let made = subst (λ (ws : List ℕ). IsMadeTrack image.rate item ws) (sym c.deref.ensures.value) c.in_ok-words.ensures.made in
-    next_first image disk after c.args.i item words c.requires.valid c.requires.there c.requires.first
-    (subst (λ (t : ImdTrack). IsWithTrack disk t.c t.h words after) same c.store_track.ensures) (subst (λ (t : ImdTrack). IsMadeTrack image.rate t words) same made)
+    let made = subst (λ (ws : List ℕ). IsMadeTrack c.args.least image.rate item ws) (sym c.deref.ensures.value) c.in_ok-words.ensures.made in
+    next_first c.args.least image disk after c.args.i item words c.requires.valid c.requires.there c.requires.first
+    (subst (λ (t : ImdTrack). IsWithTrack disk t.c t.h words after) same c.store_track.ensures) (subst (λ (t : ImdTrack). IsMadeTrack c.args.least image.rate t words) same made)

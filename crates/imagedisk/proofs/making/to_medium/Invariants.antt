@@ -2,4 +2,4 @@ use Rattle.imagedisk.specs.Made.{HasFirst}
 use Rattle.imagedisk.proofs.making.to_medium.Given as goal
 
 abbrev pub invariant-loop-i : goal.invariant-loop-i
-invariant-loop-i l = HasFirst l.image l.medium l.i
+invariant-loop-i l = HasFirst l.least l.image l.medium l.i

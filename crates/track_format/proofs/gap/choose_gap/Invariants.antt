@@ -1,4 +1,4 @@
-use Rattle.std.proofs.Common.{◌≡◌, ℕ, ◌+◌, ◌-◌, ◌<◌, ◌≤◌}
+use Rattle.std.proofs.Common.{◌≡◌, ℕ, ◌<◌, ◌≤◌}
 use Rattle.flop_base.specs.Standard.{gap_at, words_at}
 use Rattle.track_format.specs.Gaps.{Suits}
 use Rattle.track_format.proofs.gap.choose_gap.Given as goal
@@ -12,4 +12,4 @@ invariant-loop-gap l = record {
 }
 
 abbrev pub decreases-loop-gap : goal.decreases-loop-gap
-decreases-loop-gap l = l.gap + 1 - 16
+decreases-loop-gap l = l.gap

@@ -18,8 +18,9 @@ returns g c = record {
       let keys = c.load-keys.ensures.gives value.keys _ tt strapped.1 in
       let gated = c.load-gated.ensures.gives value.gated _ tt keys.1 in
       let pace = c.load-pace.ensures.gives value.pace _ (all_fit value.pace) gated.1 in
-      let paced = c.load-paced.ensures.gives value.paced rest tt pace.1 in (
-        rw (behind.0, stage.0, order.0, count.0, interrupts.0, settings.0, strapped.0, keys.0, gated.0, pace.0, paced.0) refl,
-        paced.1,
+      let paced = c.load-paced.ensures.gives value.paced _ tt pace.1 in
+      let tape = c.load-tape.ensures.gives value.tape rest tt paced.1 in (
+        rw (behind.0, stage.0, order.0, count.0, interrupts.0, settings.0, strapped.0, keys.0, gated.0, pace.0, paced.0, tape.0) refl,
+        tape.1,
       );
 }
