@@ -1,6 +1,7 @@
 // Whole commands, their endings and seeks, for a layer in front of the adapter that collects the bytes of commands
 // itself.
-ghost use Rattle.std.specs.Prelude.{◌≡◌};
+ghost use Rattle.std.specs.Prelude.{◌≡◌, ◌≤◌};
+ghost use Rattle.fdc_core.specs.Fields.{ReadsField};
 ghost use Rattle.fdc_core.specs.Listening.{is_executing};
 ghost use Rattle.fdc_core.specs.State.{is_gated};
 ghost use Rattle.fdc_core.specs.Whole.{is_idle, options_with, TakesWhole, ending_told, given_up, mark_of, recalibrated_within, without_seek};
@@ -11,6 +12,7 @@ use drive_model::Inspect;
 use fdc_commands::Accepted;
 use fdc_core::drives::lines;
 use fdc_stages::Ending;
+use flop_base::Chrn;
 
 impl<D: Inspect> DisketteAdapter<D> {
     ghost use Rattle.fdc_adapter.specs.Adapters.{adapter_state, controller_of, lines_at, SameDrives};
@@ -50,6 +52,16 @@ impl<D: Inspect> DisketteAdapter<D> {
     {
         let lines = lines(&self.controller, &self.first, &self.second);
         self.controller.take_accepted(accepted, lines);
+    }
+
+    /// Begins a READ DATA of this sector where its address field has just passed.
+    pub fn read_field(&mut self, head_drive: u8, key: Chrn, last_sector: u8)
+        requires least { 1 ≤ key.n }
+        requires most { key.n ≤ 6 }
+        ensures reads { ReadsField (record { head_drive = head_drive; key = key; last_sector = last_sector }) (controller_of self.old) (controller_of self.new) }
+        ensures drives { SameDrives self.old self.new }
+    {
+        self.controller.read_field(head_drive, key, last_sector);
     }
 
     /// How a data command ended, while the host reads its results. The results are given up, INT falls, and the

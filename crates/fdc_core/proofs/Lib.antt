@@ -17,3 +17,4 @@ pub mod Feeding
 pub mod Given
 mod Taking
 pub mod Coursing
+mod AddressHeard

@@ -21,4 +21,5 @@ pub mod Whole
 pub mod Saving
 pub mod Courses
 pub mod Contents
+pub mod Fields
 pub mod Drives

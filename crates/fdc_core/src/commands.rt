@@ -211,7 +211,7 @@ impl Fdc {
     }
 
     /// The execution of a data command begins.
-    fn begin(&mut self, head_drive: u8, task: Task)
+    pub(crate) fn begin(&mut self, head_drive: u8, task: Task)
         ensures { self.new ≡ begun head_drive task self.old }
     {
         self.data_commands = self.data_commands.saturating_add(1);

@@ -8,6 +8,7 @@ mod controller;
 mod courses;
 mod dma;
 pub mod drives;
+mod fields;
 mod formatting;
 pub mod laws;
 mod ports;

@@ -9,7 +9,9 @@ use Rattle.fdc_commands.specs.Table.{answer, kept}
 use Rattle.fdc_commands.specs.declared.bytes.Accepted.{Accepted}
 use Rattle.fdc_commands.specs.declared.bytes.Accepted.TheVariants.{More, Ready, Invalid}
 use Rattle.fdc_commands.specs.declared.command.Command.TheVariants.{Seek}
+use Rattle.flop_base.specs.declared.key.Chrn.{Chrn}
 use Rattle.fdc_core.specs.Dma.{byte_out, taken_out, taken_in, told_count, to_memory_of}
+use Rattle.fdc_core.specs.Fields.{ReadsField}
 use Rattle.fdc_core.specs.Listening.{is_executing}
 use Rattle.fdc_core.specs.Ports.{value_read, main_status, result_byte, given, resets}
 use Rattle.fdc_core.specs.State.{asks, interrupts, is_gated}
@@ -18,8 +20,9 @@ use Rattle.fdc_core.specs.declared.controller.Fdc.{Fdc}
 use Rattle.fdc_adapter.specs.Adapters.{AdapterState, adapter_state, adapter_with_drive, lines_at, IsNewAdapter, WritesAdapter, Takes, Gives}
 use Rattle.fdc_adapter.specs.declared.adapter.DisketteAdapter.{DisketteAdapter}
 use Rattle.fdc_sequencer.specs.Opcodes.{opcode_of, plain_code}
-use Rattle.fdc_sequencer.specs.Transfers.{transfer_of, command_of, size_of}
+use Rattle.fdc_sequencer.specs.Transfers.{transfer_of, transfer_with, command_of, size_of}
 use Rattle.fdc_sequencer.specs.declared.opcode.Opcode.{Opcode}
+use Rattle.fdc_sequencer.specs.declared.opcode.Operation.TheVariants.{Read}
 use Rattle.fdc_sequencer.specs.declared.sequencer.Sequencer.{Sequencer}
 use Rattle.fdc_sequencer.specs.declared.stage.Moving.{Moving as MovingSector}
 use Rattle.fdc_sequencer.specs.declared.stage.Stage.{Stage}
@@ -184,6 +187,22 @@ pub record SeeksFirst (transfer : Transfer) (old new : Front) : Type 0 where
 abbrev pub StartsIf : Bool → Transfer → Front → Front → Type 0
 StartsIf true transfer old new = SeeksFirst transfer old new
 StartsIf false transfer old new = BeginsSector transfer false false old new
+
+-- a READ DATA of this sector alone
+abbrev pub sector_alone : ℕ → Chrn → Transfer
+sector_alone head_drive key = transfer_with false (record { operation = Read false false; multitrack = false }) head_drive key key.r 0 0
+
+-- the controller reads a sector whose address field has just passed
+pub record ReadsAdapter (transfer : Transfer) (old new : AdapterState) : Type 0 where
+  pub reads : ReadsField (record { head_drive = transfer.head_drive; key = transfer.key; last_sector = transfer.last_sector }) old.controller new.controller
+  pub first : new.first ≡ old.first
+  pub second : new.second ≡ old.second
+
+-- such a sector is moved from now on
+pub record ReadsSector (transfer : Transfer) (old new : Front) : Type 0 where
+  pub between : AdapterState
+  pub reads : ReadsAdapter transfer old.adapter between
+  pub begun : new ≡ record old { adapter = between; stage = Moving (moving_of transfer false false) }
 
 -- a command starts, with a seek if seeks are implied
 abbrev pub Starts : Option Transfer → Front → Front → Type 0

@@ -7,6 +7,7 @@
 
 mod bays;
 mod channel;
+mod field;
 mod moving;
 mod opcode;
 mod ports;

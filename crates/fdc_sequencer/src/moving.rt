@@ -131,7 +131,7 @@ impl<D: Inspect> Sequencer<D> {
 
 impl Moving {
     /// A sector of which no byte has passed.
-    fn of(transfer: Transfer, counted: bool, passed_over: bool) -> Moving
+    pub(crate) fn of(transfer: Transfer, counted: bool, passed_over: bool) -> Moving
         ensures { result ≡ moving_of transfer counted passed_over }
     {
         Moving {
