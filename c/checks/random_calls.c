@@ -379,7 +379,8 @@ static void move_object(void) {
         if (goes(shelf_is[to].is, shelf_is[from].is)) shelf_is[to] = shelf_is[from], shelf_is[from].is = false;
         break;
     default:
-        to = below(4), from = (to + 1 + below(3)) % 4;
+        to = below(4);
+        from = (to + 1 + below(3)) % 4;
         CALL(telwyddus_tray_move(&trays[to], &trays[from]));
         if (goes(tray_is[to].is, tray_is[from].is)) tray_is[to] = tray_is[from], tray_is[from].is = false;
     }
