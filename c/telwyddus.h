@@ -18,10 +18,10 @@
  * does nothing, so freeing a slot twice is harmless.
  *
  * MOVES. telwyddus_controller_move and its like move an object into another slot; the old slot is empty afterwards.
- * So a C++ class with a slot in it can have a move, and may lie in a std::vector: c/examples/moving.cpp has one. You
- * may also move a slot by its bytes, while no call on it runs. Copy it to its new place, and set the old place to all
- * 0 or use it no more. That is sound because nothing outside a slot knows where the slot lies. Never keep both: if
- * you free the copy too, the object is freed twice.
+ * So a C++ class with a slot in it can have a move, and its objects may lie in a std::vector: c/examples/moving.cpp
+ * has such a class. You may also move a slot by its bytes, while no call on it runs. Copy it to its new place, and set
+ * the old place to all 0 or use it no more. That is sound because nothing outside a slot knows where the slot lies.
+ * Never keep both: if you free the copy too, the object is freed twice.
  *
  * WHAT YOU OWE. Pointers aren't null. Only the pointer of a buffer whose length is 0 may be null (the macros at the
  * end of this file allow that). A buffer has the length that you pass with it, and no two pointers of a call
