@@ -1,10 +1,11 @@
 // A class of C++ that holds a controller and has a move, so that controllers may lie in a std::vector. Each is moved
-// in the middle of a command, when the vector grows; the command goes on as if nothing had happened.
+// in the middle of a command, when the vector grows. Then each goes on with its command in a thread of its own.
 #include "telwyddus.h"
 #include <algorithm>
 #include <cstdint>
 #include <cstdio>
 #include <cstdlib>
+#include <thread>
 #include <utility>
 #include <vector>
 
@@ -102,9 +103,13 @@ int main() {
         all.emplace_back();
         begin_seek(all.back());
     }
-    bool do_seek = true;
-    for (std::size_t i = 0; i < all.size(); i++) do_seek = do_seek && seeks(all[i], static_cast<std::uint8_t>(10 * i));
-    check(do_seek, "each controller goes on where the vector has moved it");
+    // Calls on different slots may run at the same time. What each thread found is in a byte of its own.
+    std::vector<char> found(all.size());
+    std::vector<std::thread> threads;
+    for (std::size_t i = 0; i < all.size(); i++)
+        threads.emplace_back([&all, &found, i] { found[i] = seeks(all[i], static_cast<std::uint8_t>(10 * i)); });
+    for (std::thread &thread : threads) thread.join();
+    check(std::count(found.begin(), found.end(), 1) == 9, "each controller goes on where the vector has moved it");
 
     std::reverse(all.begin(), all.end());
     all.erase(all.begin() + 1);
