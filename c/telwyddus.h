@@ -14,9 +14,14 @@
  * through it.
  *
  * SLOTS. A slot holds one object or none. It is yours: it lies on your stack, or in your device's state. Set it to
- * all 0 at first ("= {0}"). Don't write its fields. Don't copy or move it while it holds something: if you free the
- * copy too, the object is freed twice. So a C++ object that has a slot in it has to stay where it is. A call on a
- * slot that holds nothing answers TELWYDDUS_EMPTY and does nothing, so freeing a slot twice is harmless.
+ * all 0 at first ("= {0}"). Don't write its fields. A call on a slot that holds nothing answers TELWYDDUS_EMPTY and
+ * does nothing, so freeing a slot twice is harmless.
+ *
+ * MOVES. telwyddus_controller_move and its like move an object into another slot; the old slot is empty afterwards.
+ * So a C++ class with a slot in it can have a move, and its objects may lie in a std::vector: c/examples/moving.cpp
+ * has such a class. You may also move a slot by its bytes, while no call on it runs. Copy it to its new place, and set
+ * the old place to all 0 or use it no more. That is sound because nothing outside a slot knows where the slot lies.
+ * Never keep both: if you free the copy too, the object is freed twice.
  *
  * WHAT YOU OWE. Pointers aren't null. Only the pointer of a buffer whose length is 0 may be null (the macros at the
  * end of this file allow that). A buffer has the length that you pass with it, and no two pointers of a call
@@ -25,7 +30,8 @@
  * THREADS. Slots are independent of each other: calls on two slots may run at the same time. Calls on one slot have
  * to come one at a time, also the calls that only look (lines, bay, image ..), because each call takes the object
  * out of its slot and puts it back. Use a lock; with a lock a slot may also go to another thread. A call with a tray
- * and an object that its medium goes into is a call on two slots.
+ * and an object that its medium goes into is a call on two slots, and so is a move. The library keeps nothing outside
+ * the slots. What calls at the same time share is malloc, realloc and free, which have to allow that.
  *
  * WHAT YOU GET. Each call answers a code from the list below. If the code is TELWYDDUS_DONE, the call has set what
  * it hands out through pointers. If the code is another one, it has left them as they were, except
@@ -36,8 +42,8 @@
  * After any other code than DONE the object is as it was too, and so are its drives and media, unless the comment of
  * the call says more. Compilers warn if you ignore the code of a call that can fail in a way that you can't foresee.
  *
- * FULL SLOTS. Some calls make something in a slot: new, new_planned, blank, read, read_flat, read_imd, and eject (in
- * the tray). Such a call looks at that slot first. If it holds something already, the answer is TELWYDDUS_FULL,
+ * FULL SLOTS. Some calls make something in a slot: new, new_planned, blank, read, read_flat, read_imd, move, and
+ * eject (in the tray). Such a call looks at that slot first. If it holds something already, the answer is TELWYDDUS_FULL,
  * whatever else is wrong, and the slot stays as it is. So any other code means that the slot was empty. An eject
  * looks at its own object and at the bay even before that: EMPTY, OUT_OF_RANGE.
  *
@@ -126,6 +132,10 @@ TELWYDDUS_NEWS uint32_t telwyddus_tray_write(telwyddus_tray *tray, uint8_t *out,
 
 /* Frees a tray and its medium, if it has one. DONE, EMPTY. */
 TELWYDDUS_CALL uint32_t telwyddus_tray_free(telwyddus_tray *tray);
+
+/* Moves a tray, with its medium, from one slot to another. `to` has to be empty, and `from` is empty afterwards. The
+ * two are different slots. A refusal changes neither. DONE, EMPTY (`from`), FULL (`to`). */
+TELWYDDUS_CALL uint32_t telwyddus_tray_move(telwyddus_tray *to, telwyddus_tray *from);
 
 /* Makes a tray with an unformatted medium of 1 to 80 cylinders and two heads, at 500 or 250 kbit/s. DONE, FULL, NO_MEMORY,
  * OUT_OF_RANGE. */
@@ -248,6 +258,12 @@ TELWYDDUS_NEWS uint32_t telwyddus_controller_new_planned(telwyddus_controller *c
 
 /* Frees a controller with its drives and media. DONE, EMPTY. */
 TELWYDDUS_CALL uint32_t telwyddus_controller_free(telwyddus_controller *controller);
+
+/* Moves a controller from one slot to another, between any two calls, also in the middle of a command. It goes on in
+ * its new slot as it was: with its lines, straps, drives, cables and media, the faults that are still to come, and
+ * what is_written and written_tracks report. `to` has to be empty, and `from` is empty afterwards. The two are
+ * different slots. A refusal changes neither. DONE, EMPTY (`from`), FULL (`to`). */
+TELWYDDUS_CALL uint32_t telwyddus_controller_move(telwyddus_controller *to, telwyddus_controller *from);
 
 /* A strap of your board. If `on` isn't 0, commands that name a cylinder (READ DATA, WRITE DATA, VERIFY, READ TRACK)
  * first seek it, whatever CONFIGURE sets, also after a reset. Their ST0 then has SE (20), as it has where CONFIGURE
@@ -437,6 +453,9 @@ TELWYDDUS_NEWS uint32_t telwyddus_machine_new_planned(telwyddus_machine *machine
 /* Frees a machine with its drives and media. DONE, EMPTY. */
 TELWYDDUS_CALL uint32_t telwyddus_machine_free(telwyddus_machine *machine);
 
+/* Moves a machine from one slot to another, as for the controller. DONE, EMPTY (`from`), FULL (`to`). */
+TELWYDDUS_CALL uint32_t telwyddus_machine_move(telwyddus_machine *to, telwyddus_machine *from);
+
 /* Reads or writes a port, and then makes the device steps of the plan's next gap. DONE, EMPTY. */
 TELWYDDUS_CALL uint32_t telwyddus_machine_inb(telwyddus_machine *machine, uint16_t port, uint8_t *value);
 TELWYDDUS_CALL uint32_t telwyddus_machine_outb(telwyddus_machine *machine, uint16_t port, uint8_t value);
@@ -475,6 +494,10 @@ TELWYDDUS_NEWS uint32_t telwyddus_shelf_new(telwyddus_shelf *shelf);
 /* Frees a shelf with its files. DONE, EMPTY. */
 TELWYDDUS_CALL uint32_t telwyddus_shelf_free(telwyddus_shelf *shelf);
 
+/* Moves a shelf, with its files and its report, from one slot to another, as for the controller. DONE, EMPTY
+ * (`from`), FULL (`to`). */
+TELWYDDUS_CALL uint32_t telwyddus_shelf_move(telwyddus_shelf *to, telwyddus_shelf *from);
+
 /* Stores a file under a name, in place of a file that has this name. Names are UTF-8. DONE, EMPTY, NO_MEMORY,
  * NOT_TEXT. */
 TELWYDDUS_NEWS uint32_t telwyddus_shelf_put(telwyddus_shelf *shelf, const uint8_t *name, size_t name_length,
@@ -512,6 +535,10 @@ TELWYDDUS_NEWS uint32_t telwyddus_disk_new(telwyddus_disk *disk);
 
 /* Frees a disk object with its media. DONE, EMPTY. */
 TELWYDDUS_CALL uint32_t telwyddus_disk_free(telwyddus_disk *disk);
+
+/* Moves a disk object, with its media, from one slot to another, as for the controller. DONE, EMPTY (`from`), FULL
+ * (`to`). */
+TELWYDDUS_CALL uint32_t telwyddus_disk_move(telwyddus_disk *to, telwyddus_disk *from);
 
 /* Puts a medium in, and takes it out, as for the controller. After that the bay isn't acknowledged. */
 TELWYDDUS_NEWS uint32_t telwyddus_disk_insert(telwyddus_disk *disk, uint32_t bay, telwyddus_tray *tray);

@@ -1,6 +1,6 @@
 /* drives - what is done to drives and their media while they turn: the write-protect tab, the shape, single tracks,
  * flat files, and the tracks that were written. It also tries the cable, a new plan, the reset pin, the first bytes
- * of a state, its greatest length, and states without media. It makes its own disk. */
+ * of a state, its greatest length, states without media, and moves to other slots. It makes its own disk. */
 #include "common.h"
 
 enum { WORDS = 12500, SECTOR = 512, SIDE = 18, FLAT = 1474560 };
@@ -228,8 +228,17 @@ static void cables(telwyddus_tray *tray) {
 
 /* ---- the reset pin, and states */
 
+static void dumps(uint8_t dump[10]) {
+    out(0x3F5, 0x0E); /* DUMPREG */
+    for (int i = 0; i < 10; i++) dump[i] = in(0x3F5);
+}
+
 static void pin(void) {
     uint32_t nanoseconds;
+    uint8_t dump[10];
+    check((begin() & 0xF0) == 0x20, "a reset by DOR");
+    dumps(dump);
+    check(dump[6] == SIDE, "DUMPREG keeps EOT of the last read");
     out(0x3F5, 0x94); /* LOCK */
     in(0x3F5);
     out(0x3F3, 0x02);
@@ -240,16 +249,16 @@ static void pin(void) {
     MUST(telwyddus_controller_word_time(&controller, &nanoseconds));
     check(nanoseconds == 32000, "250 kbit/s, as at power-up");
     check((begin() & 0xF0) == 0x20, "and it works");
-    out(0x3F5, 0x0E); /* DUMPREG */
-    uint8_t dump[10];
-    for (int i = 0; i < 10; i++) dump[i] = in(0x3F5);
+    dumps(dump);
     check((dump[7] & 0x80) == 0, "LOCK is gone");
+    check(dump[6] == 0, "and so is EOT");
 }
 
 static void states(void) {
     static const uint8_t name[8] = {'T', 'E', 'L', 'W', 'Y', 'D', 'D', 3};
     telwyddus_controller other = {0};
     size_t length = 0;
+    uint32_t nanoseconds;
     check(telwyddus_controller_save(&controller, NULL, 0, &length) == TELWYDDUS_TOO_SHORT, "a state's length");
     uint8_t *bytes = (uint8_t *)malloc(length);
     MUST(telwyddus_controller_save(&controller, bytes, length, &length));
@@ -257,7 +266,12 @@ static void states(void) {
     bytes[7]++;
     check(telwyddus_controller_restore(&other, bytes, length, &lines) == TELWYDDUS_BAD_STATE, "another form is none");
     bytes[7]--;
+    MUST(telwyddus_controller_new(&other));
+    MUST(telwyddus_controller_word_time(&other, &nanoseconds));
+    check(nanoseconds == 32000, "a new one is at 250 kbit/s");
     MUST(telwyddus_controller_restore(&other, bytes, length, &lines));
+    MUST(telwyddus_controller_word_time(&other, &nanoseconds));
+    check(nanoseconds == 16000, "a restore may change the word time");
     MUST(telwyddus_controller_free(&other));
     free(bytes);
 }
@@ -311,7 +325,7 @@ static void take(uint8_t *data, size_t from, size_t to, uint8_t results[7]) {
 }
 
 static void goes_on_bare(void) {
-    static const uint8_t name[8] = {'T', 'E', 'L', 'W', 'Y', 'D', 'B', 2};
+    static const uint8_t name[8] = {'T', 'E', 'L', 'W', 'Y', 'D', 'B', 3};
     uint8_t one[SECTOR], two[SECTOR], first[7], second[7];
     size_t length;
     for (int i = 0; i < 9; i++) out(0x3F5, READ[i]);
@@ -381,6 +395,43 @@ static void bare(void) {
     MUST(telwyddus_controller_free(&other));
 }
 
+/* ---- moves to other slots */
+
+/* The whole state of a controller. */
+static uint8_t *whole_of(telwyddus_controller *of, size_t *length) {
+    check(telwyddus_controller_save(of, NULL, 0, length) == TELWYDDUS_TOO_SHORT, "a whole state's length");
+    uint8_t *bytes = (uint8_t *)malloc(*length);
+    MUST(telwyddus_controller_save(of, bytes, *length, length));
+    return bytes;
+}
+
+/* A controller moves when half of a command is sent: by a call, and back by its bytes. The state has its order,
+ * drives, media, written tracks and faults. */
+static void moves(void) {
+    telwyddus_controller other = {0}, third = {0};
+    uint8_t sector[SECTOR], results[7], is_lines = 0x55;
+    size_t before, behind;
+    check(telwyddus_controller_move(&other, &third) == TELWYDDUS_EMPTY, "there is nothing to move");
+    for (int i = 0; i < 5; i++) out(0x3F5, READ[i]);
+    uint8_t *was = whole_of(&controller, &before);
+    MUST(telwyddus_controller_new(&third));
+    check(telwyddus_controller_move(&controller, &third) == TELWYDDUS_FULL, "a full slot takes none");
+    MUST(telwyddus_controller_free(&third));
+    check(telwyddus_controller_move(&controller, &third) == TELWYDDUS_FULL, "and says so before it looks at the other");
+    MUST(telwyddus_controller_move(&other, &controller));
+    check(telwyddus_controller_lines(&controller, &is_lines) == TELWYDDUS_EMPTY && is_lines == 0x55, "its old slot is empty");
+    uint8_t *is = whole_of(&other, &behind);
+    check(before == behind && memcmp(was, is, before) == 0, "and it is as it was");
+    memcpy(&controller, &other, sizeof other);
+    memset(&other, 0, sizeof other);
+    check(telwyddus_controller_free(&other) == TELWYDDUS_EMPTY, "it is moved back by its bytes");
+    for (int i = 5; i < 9; i++) out(0x3F5, READ[i]);
+    take(sector, 0, SECTOR, results);
+    check(memcmp(sector, flat, SECTOR) == 0 && (results[0] & 0xC0) == 0, "and its command goes on");
+    free(was);
+    free(is);
+}
+
 int main(void) {
     telwyddus_tray tray = {0};
     flat = (uint8_t *)malloc(FLAT);
@@ -401,6 +452,7 @@ int main(void) {
     states();
     longest();
     bare();
+    moves();
     MUST(telwyddus_tray_free(&tray));
     MUST(telwyddus_controller_free(&controller));
     free(flat);

@@ -355,6 +355,37 @@ static void end(void) {
     }
 }
 
+/* What a move between two slots answers: the one that it goes to is looked at first. */
+static bool goes(bool to, bool from) { return wanted(to ? TELWYDDUS_FULL : missing(from)); }
+
+/* Moves an object from one slot to another. */
+static void move_object(void) {
+    unsigned to = below(2), from = 1 - to;
+    switch (below(5)) {
+    case 0:
+        CALL(telwyddus_controller_move(&controllers[to], &controllers[from]));
+        if (goes(controller_is[to].is, controller_is[from].is)) controller_is[to] = controller_is[from], controller_is[from].is = false;
+        break;
+    case 1:
+        CALL(telwyddus_machine_move(&machines[to], &machines[from]));
+        if (goes(machine_is[to].is, machine_is[from].is)) machine_is[to] = machine_is[from], machine_is[from].is = false;
+        break;
+    case 2:
+        CALL(telwyddus_disk_move(&disks[to], &disks[from]));
+        if (goes(disk_is[to].is, disk_is[from].is)) disk_is[to] = disk_is[from], disk_is[from].is = false;
+        break;
+    case 3:
+        CALL(telwyddus_shelf_move(&shelves[to], &shelves[from]));
+        if (goes(shelf_is[to].is, shelf_is[from].is)) shelf_is[to] = shelf_is[from], shelf_is[from].is = false;
+        break;
+    default:
+        to = below(4);
+        from = (to + 1 + below(3)) % 4;
+        CALL(telwyddus_tray_move(&trays[to], &trays[from]));
+        if (goes(tray_is[to].is, tray_is[from].is)) tray_is[to] = tray_is[from], tray_is[from].is = false;
+    }
+}
+
 /* ---- the controller: ports, steps, the channel */
 
 static void write_port(uint16_t port, uint8_t value) {
@@ -855,7 +886,7 @@ static void use_disk(void) {
 /* ---- all of it */
 
 typedef struct { void (*make)(void); unsigned weight; } Part;
-static const Part parts[] = {{drive, 250}, {drive_machine, 150}, {look, 600}, {rig, 120}, {medium_calls, 200}, {move_medium, 300}, {make, 200}, {end, 40}, {tray_blank, 60}, {tray_read, 60}, {tray_free, 60},
+static const Part parts[] = {{drive, 250}, {drive_machine, 150}, {look, 600}, {rig, 120}, {medium_calls, 200}, {move_medium, 300}, {make, 200}, {end, 40}, {move_object, 40}, {tray_blank, 60}, {tray_read, 60}, {tray_free, 60},
     {tray_write, 60}, {tray_read_imd, 4}, {tray_read_flat, 1}, {tray_read_flat_as, 4}, {image, 20}, {move_state, 12}, {use_shelf, 40}, {use_disk, 12}};
 
 static void make_part(void) {

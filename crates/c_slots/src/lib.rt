@@ -15,8 +15,10 @@ pub use disk::DiskSlot;
 use drive_model::ScriptDrive;
 use fdc_chip::Chip;
 pub use machine::MachineSlot;
+use memory_files::RunShelf;
 use pc_bus::MachineOf;
 use raw_image::Medium;
+use sector_desk::SectorDesk;
 pub use shelf::ShelfSlot;
 pub use tray::TraySlot;
 

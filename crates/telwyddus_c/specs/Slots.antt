@@ -27,6 +27,12 @@ Fills {V} made code old new =
 abbrev pub Frees : {V : Type 0} → ℕ → Option V → Option V → Type 0
 Frees code old new = DoneOr 1 code (IsSome old × (new ≡ None)) ((old ≡ None) × (new ≡ None))
 
+-- what a slot holds goes into another slot: code 0. If the other slot holds something already, the code is 2, and if
+-- there is nothing to move, it is 1. Then both slots stay
+abbrev pub Moves : {V : Type 0} → (code : ℕ) → (from left to got : Option V) → Type 0
+Moves code from left to got =
+    FullOr code to got (left ≡ from) (DoneOr 1 code (IsSome from × (left ≡ None) × (got ≡ from)) ((from ≡ None) × (left ≡ None) × (got ≡ None)))
+
 -- a bay is 0 or 1. For any other number the code is 4, and all stays
 pub record InBay (bay code : ℕ) (stays served : Type 0) : Type 0 where
   pub out_of_range : 1 < bay → (code ≡ 4) × stays

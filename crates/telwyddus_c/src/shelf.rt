@@ -3,7 +3,7 @@ ghost use Rattle.std.specs.Prelude.{◌≡◌, ⊤};
 ghost use Rattle.flop_base.specs.Shelf.{file_at};
 ghost use Rattle.memory_files.specs.Shelves.{outside_in, files_in};
 ghost use Rattle.telwyddus_c.specs.Shelves.{IsBare, Puts, Gets, RunsWords, HandsOut};
-ghost use Rattle.telwyddus_c.specs.Slots.{Fills, Frees, Serves};
+ghost use Rattle.telwyddus_c.specs.Slots.{Fills, Frees, Moves, Serves};
 
 use crate::buffer::write_bytes;
 use crate::code::{DONE, EMPTY, FULL, NO_FILE, NO_MEMORY, NOT_TEXT};
@@ -35,6 +35,25 @@ pub extern "C" fn telwyddus_shelf_free(alloc: Global, slot: &mut ShelfSlot) -> u
         None => EMPTY,
         Some(_shelf) => DONE,
     }
+}
+
+/// Moves the shelf, with its files, into a slot that is empty.
+#[unsafe(no_mangle)]
+pub extern "C" fn telwyddus_shelf_move(
+    alloc: Global,
+    to: &mut ShelfSlot,
+    from: &mut ShelfSlot,
+) -> u32
+    ensures { Moves result from.old.held.shelf from.new.held.shelf to.old.held.shelf to.new.held.shelf }
+{
+    if to.is_full() {
+        return FULL;
+    }
+    let Some(shelf) = from.take(alloc) else {
+        return EMPTY;
+    };
+    to.put(shelf);
+    DONE
 }
 
 /// Places a file, in place of one of the same name.

@@ -1,6 +1,6 @@
 // Media outside drives.
 ghost use Rattle.std.specs.Prelude.{◌≡◌};
-ghost use Rattle.telwyddus_c.specs.Slots.{Frees, Serves};
+ghost use Rattle.telwyddus_c.specs.Slots.{Frees, Moves, Serves};
 ghost use Rattle.telwyddus_c.specs.Images.{ReadsImage, WritesImage};
 
 use crate::blank::fill;
@@ -53,4 +53,19 @@ pub extern "C" fn telwyddus_tray_free(alloc: Global, slot: &mut TraySlot) -> u32
         None => EMPTY,
         Some(_tray) => DONE,
     }
+}
+
+/// Moves a tray, with its medium, into a slot that is empty.
+#[unsafe(no_mangle)]
+pub extern "C" fn telwyddus_tray_move(alloc: Global, to: &mut TraySlot, from: &mut TraySlot) -> u32
+    ensures { Moves result from.old.held.tray from.new.held.tray to.old.held.tray to.new.held.tray }
+{
+    if to.is_full() {
+        return FULL;
+    }
+    let Some(tray) = from.take(alloc) else {
+        return EMPTY;
+    };
+    to.put(tray);
+    DONE
 }

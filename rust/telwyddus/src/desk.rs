@@ -35,40 +35,40 @@ impl Desk {
     /// A desk with two empty bays.
     pub fn new() -> Result<Self> {
         let mut made = Desk { slot: Slot::empty() };
-        done(unsafe { ffi::telwyddus_disk_new(&mut *made.slot) })?;
+        done(unsafe { ffi::telwyddus_disk_new(&mut made.slot) })?;
         Ok(made)
     }
 
     /// Puts a medium in. If it is refused, its tray comes back.
     pub fn insert(&mut self, bay: Bay, tray: Tray) -> std::result::Result<(), NotInserted> {
-        inserted(tray, |tray| unsafe { ffi::telwyddus_disk_insert(&mut *self.slot, bay as u32, tray) })
+        inserted(tray, |tray| unsafe { ffi::telwyddus_disk_insert(&mut self.slot, bay as u32, tray) })
     }
 
     /// Takes a medium out.
     pub fn eject(&mut self, bay: Bay) -> Result<Tray> {
-        ejected(|tray| unsafe { ffi::telwyddus_disk_eject(&mut *self.slot, bay as u32, tray) })
+        ejected(|tray| unsafe { ffi::telwyddus_disk_eject(&mut self.slot, bay as u32, tray) })
     }
 
     /// Acknowledges the medium in a bay, and finds its rate.
     pub fn acknowledge(&mut self, bay: Bay) -> Result<()> {
-        done(unsafe { ffi::telwyddus_disk_acknowledge(&mut *self.slot, bay as u32) })
+        done(unsafe { ffi::telwyddus_disk_acknowledge(&mut self.slot, bay as u32) })
     }
 
     /// Sets the rate of an acknowledged bay, 500 or 250 kbit/s.
     pub fn set_rate(&mut self, bay: Bay, kilobits: u16) -> Result<()> {
-        done(unsafe { ffi::telwyddus_disk_set_rate(&mut *self.slot, bay as u32, kilobits) })
+        done(unsafe { ffi::telwyddus_disk_set_rate(&mut self.slot, bay as u32, kilobits) })
     }
 
     /// Formats a track in the standard layout of the bay's rate.
     pub fn format(&mut self, bay: Bay, c: u8, h: u8) -> Result<()> {
-        done(unsafe { ffi::telwyddus_disk_format(&mut *self.slot, bay as u32, c, h) })
+        done(unsafe { ffi::telwyddus_disk_format(&mut self.slot, bay as u32, c, h) })
     }
 
     /// The bytes of a sector, and whether it is marked deleted.
     pub fn read(&mut self, bay: Bay, key: Key) -> Result<(Vec<u8>, bool)> {
         let (mut out, mut deleted) = (vec![0; 128 << key.n.min(6)], 0);
         done(unsafe {
-            ffi::telwyddus_disk_read(&mut *self.slot, bay as u32, key.c, key.h, key.r, key.n, out.as_mut_ptr(), out.len(), &mut deleted)
+            ffi::telwyddus_disk_read(&mut self.slot, bay as u32, key.c, key.h, key.r, key.n, out.as_mut_ptr(), out.len(), &mut deleted)
         })?;
         Ok((out, deleted != 0))
     }
@@ -76,7 +76,7 @@ impl Desk {
     /// Writes a sector, and reads it back.
     pub fn write(&mut self, bay: Bay, key: Key, bytes: &[u8], deleted: bool) -> Result<()> {
         done(unsafe {
-            ffi::telwyddus_disk_write(&mut *self.slot, bay as u32, key.c, key.h, key.r, key.n, bytes.as_ptr(), bytes.len(), deleted.into())
+            ffi::telwyddus_disk_write(&mut self.slot, bay as u32, key.c, key.h, key.r, key.n, bytes.as_ptr(), bytes.len(), deleted.into())
         })
     }
 }

@@ -29,7 +29,7 @@ impl From<NotInserted> for Error {
 
 /// Puts the medium of a tray in by a call. The tray is freed if that is done.
 pub(crate) fn inserted(mut tray: Tray, call: impl FnOnce(*mut Slot) -> u32) -> std::result::Result<(), NotInserted> {
-    match done(call(&mut *tray.slot)) {
+    match done(call(&mut tray.slot)) {
         Ok(()) => Ok(()),
         Err(error) => Err(NotInserted { error, tray }),
     }
@@ -38,6 +38,6 @@ pub(crate) fn inserted(mut tray: Tray, call: impl FnOnce(*mut Slot) -> u32) -> s
 /// Takes a medium out by a call that fills a tray.
 pub(crate) fn ejected(call: impl FnOnce(*mut Slot) -> u32) -> Result<Tray> {
     let mut tray = Tray::empty();
-    done(call(&mut *tray.slot))?;
+    done(call(&mut tray.slot))?;
     Ok(tray)
 }

@@ -2,7 +2,8 @@
 
 use std::os::raw::c_void;
 
-/// A place for an object. It begins all 0, and isn't written, copied or moved while it holds something.
+/// A place for an object. It begins all 0, and isn't written or copied while it holds something. A move of Rust moves
+/// its bytes, which the header allows ("MOVES"): nothing outside a slot knows where it lies.
 #[repr(C)]
 pub struct Slot {
     at: *mut c_void,
@@ -10,9 +11,9 @@ pub struct Slot {
 }
 
 impl Slot {
-    /// An empty slot in a place of its own, which stays where it is.
-    pub fn empty() -> Box<Self> {
-        Box::new(Slot { at: std::ptr::null_mut(), tag: 0 })
+    /// An empty slot.
+    pub fn empty() -> Self {
+        Slot { at: std::ptr::null_mut(), tag: 0 }
     }
 }
 
@@ -32,6 +33,8 @@ extern "C" {
     pub fn telwyddus_tray_read(tray: *mut Slot, bytes: *const u8, length: usize) -> u32;
     pub fn telwyddus_tray_write(tray: *mut Slot, out: *mut u8, room: usize, length: *mut usize) -> u32;
     pub fn telwyddus_tray_free(tray: *mut Slot) -> u32;
+    #[allow(dead_code)] // Rust moves the slot itself.
+    pub fn telwyddus_tray_move(to: *mut Slot, from: *mut Slot) -> u32;
     pub fn telwyddus_tray_blank(tray: *mut Slot, cylinders: u8, kilobits: u16) -> u32;
     pub fn telwyddus_tray_read_flat(tray: *mut Slot, bytes: *const u8, length: usize) -> u32;
     pub fn telwyddus_tray_read_flat_as(tray: *mut Slot, bytes: *const u8, length: usize, cylinders: u8, heads: u8, sectors: u8, n: u8, kilobits: u16) -> u32;
@@ -47,6 +50,8 @@ extern "C" {
     pub fn telwyddus_controller_new(controller: *mut Slot) -> u32;
     pub fn telwyddus_controller_new_planned(controller: *mut Slot, plan: *const u8, length: usize, line: *mut usize) -> u32;
     pub fn telwyddus_controller_free(controller: *mut Slot) -> u32;
+    #[allow(dead_code)] // Rust moves the slot itself.
+    pub fn telwyddus_controller_move(to: *mut Slot, from: *mut Slot) -> u32;
     pub fn telwyddus_controller_strap_seeks(controller: *mut Slot, on: u8) -> u32;
     pub fn telwyddus_controller_strap_steps(controller: *mut Slot, on: u8) -> u32;
     pub fn telwyddus_controller_read(controller: *mut Slot, port: u16, value: *mut u8, lines: *mut u8) -> u32;
@@ -83,6 +88,8 @@ extern "C" {
     pub fn telwyddus_machine_new(machine: *mut Slot) -> u32;
     pub fn telwyddus_machine_new_planned(machine: *mut Slot, plan: *const u8, length: usize, line: *mut usize) -> u32;
     pub fn telwyddus_machine_free(machine: *mut Slot) -> u32;
+    #[allow(dead_code)] // Rust moves the slot itself.
+    pub fn telwyddus_machine_move(to: *mut Slot, from: *mut Slot) -> u32;
     pub fn telwyddus_machine_inb(machine: *mut Slot, port: u16, value: *mut u8) -> u32;
     pub fn telwyddus_machine_outb(machine: *mut Slot, port: u16, value: u8) -> u32;
     pub fn telwyddus_machine_wait(machine: *mut Slot, steps: u32) -> u32;
@@ -96,12 +103,16 @@ extern "C" {
     pub fn telwyddus_machine_restore(machine: *mut Slot, bytes: *const u8, length: usize) -> u32;
     pub fn telwyddus_shelf_new(shelf: *mut Slot) -> u32;
     pub fn telwyddus_shelf_free(shelf: *mut Slot) -> u32;
+    #[allow(dead_code)] // Rust moves the slot itself.
+    pub fn telwyddus_shelf_move(to: *mut Slot, from: *mut Slot) -> u32;
     pub fn telwyddus_shelf_put(shelf: *mut Slot, name: *const u8, name_length: usize, bytes: *const u8, length: usize) -> u32;
     pub fn telwyddus_shelf_get(shelf: *mut Slot, name: *const u8, name_length: usize, out: *mut u8, room: usize, length: *mut usize) -> u32;
     pub fn telwyddus_shelf_run(shelf: *mut Slot, words: *const u8, length: usize, status: *mut u32) -> u32;
     pub fn telwyddus_shelf_report(shelf: *mut Slot, out: *mut u8, room: usize, length: *mut usize) -> u32;
     pub fn telwyddus_disk_new(disk: *mut Slot) -> u32;
     pub fn telwyddus_disk_free(disk: *mut Slot) -> u32;
+    #[allow(dead_code)] // Rust moves the slot itself.
+    pub fn telwyddus_disk_move(to: *mut Slot, from: *mut Slot) -> u32;
     pub fn telwyddus_disk_insert(disk: *mut Slot, bay: u32, tray: *mut Slot) -> u32;
     pub fn telwyddus_disk_eject(disk: *mut Slot, bay: u32, tray: *mut Slot) -> u32;
     pub fn telwyddus_disk_acknowledge(disk: *mut Slot, bay: u32) -> u32;

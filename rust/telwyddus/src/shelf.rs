@@ -23,18 +23,18 @@ impl Shelf {
     /// A store with no file.
     pub fn new() -> Result<Self> {
         let mut made = Shelf { slot: Slot::empty() };
-        done(unsafe { ffi::telwyddus_shelf_new(&mut *made.slot) })?;
+        done(unsafe { ffi::telwyddus_shelf_new(&mut made.slot) })?;
         Ok(made)
     }
 
     /// Stores a file under a name, in place of a file that has this name.
     pub fn put(&mut self, name: &str, bytes: &[u8]) -> Result<()> {
-        done(unsafe { ffi::telwyddus_shelf_put(&mut *self.slot, name.as_ptr(), name.len(), bytes.as_ptr(), bytes.len()) })
+        done(unsafe { ffi::telwyddus_shelf_put(&mut self.slot, name.as_ptr(), name.len(), bytes.as_ptr(), bytes.len()) })
     }
 
     /// The bytes of a file.
     pub fn get(&mut self, name: &str) -> Result<Vec<u8>> {
-        taken(|out, room, length| unsafe { ffi::telwyddus_shelf_get(&mut *self.slot, name.as_ptr(), name.len(), out, room, length) })
+        taken(|out, room, length| unsafe { ffi::telwyddus_shelf_get(&mut self.slot, name.as_ptr(), name.len(), out, room, length) })
     }
 
     /// Runs the program with these arguments, and gives its exit status. An argument with a line feed is refused with
@@ -44,13 +44,13 @@ impl Shelf {
             return Err(Error::NotText);
         }
         let (words, mut status) = (words.join("\n"), 0);
-        done(unsafe { ffi::telwyddus_shelf_run(&mut *self.slot, words.as_ptr(), words.len(), &mut status) })?;
+        done(unsafe { ffi::telwyddus_shelf_run(&mut self.slot, words.as_ptr(), words.len(), &mut status) })?;
         Ok(status)
     }
 
     /// What runs printed since the last report.
     pub fn report(&mut self) -> Result<String> {
-        let bytes = taken(|out, room, length| unsafe { ffi::telwyddus_shelf_report(&mut *self.slot, out, room, length) })?;
+        let bytes = taken(|out, room, length| unsafe { ffi::telwyddus_shelf_report(&mut self.slot, out, room, length) })?;
         Ok(String::from_utf8_lossy(&bytes).into_owned())
     }
 }

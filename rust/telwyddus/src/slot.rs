@@ -2,7 +2,7 @@
 
 use crate::error::{done, Error, Result};
 
-/// Makes the type of an object: a slot in a place of its own, which is freed when the value is dropped.
+/// Makes the type of an object: a slot, which is freed when the value is dropped.
 ///
 /// The library takes an object out of its slot and puts it back in each call, also in those that only look. So each
 /// method of such a type takes `&mut self`. Slots are independent of each other, and a slot may go to another thread.
@@ -10,7 +10,7 @@ macro_rules! object {
     ($(#[$doc:meta])* $name:ident, $free:ident) => {
         $(#[$doc])*
         pub struct $name {
-            pub(crate) slot: Box<crate::ffi::Slot>,
+            pub(crate) slot: crate::ffi::Slot,
         }
 
         // SAFETY: The library has no state besides its slots, and no slot belongs to a thread ("THREADS" of the header).
@@ -19,7 +19,7 @@ macro_rules! object {
         impl Drop for $name {
             fn drop(&mut self) {
                 // SAFETY: The slot is empty or holds the object, and is in nobody else's hands.
-                unsafe { crate::ffi::$free(&mut *self.slot) };
+                unsafe { crate::ffi::$free(&mut self.slot) };
             }
         }
 

@@ -68,7 +68,7 @@ impl Tray {
 
     fn made(call: impl FnOnce(*mut Slot) -> u32) -> Result<Self> {
         let mut tray = Tray::empty();
-        done(call(&mut *tray.slot))?;
+        done(call(&mut tray.slot))?;
         Ok(tray)
     }
 
@@ -102,13 +102,13 @@ impl Tray {
 
     /// Its image file.
     pub fn image(&mut self) -> Result<Vec<u8>> {
-        taken(|out, room, length| unsafe { ffi::telwyddus_tray_write(&mut *self.slot, out, room, length) })
+        taken(|out, room, length| unsafe { ffi::telwyddus_tray_write(&mut self.slot, out, room, length) })
     }
 
     /// Its flat sector file.
     pub fn flat(&mut self) -> Result<Vec<u8>> {
         let (mut cylinder, mut head) = (255, 255);
-        let made = taken(|out, room, length| unsafe { ffi::telwyddus_tray_write_flat(&mut *self.slot, out, room, length, &mut cylinder, &mut head) });
+        let made = taken(|out, room, length| unsafe { ffi::telwyddus_tray_write_flat(&mut self.slot, out, room, length, &mut cylinder, &mut head) });
         fitting(made, cylinder, head)
     }
 
@@ -117,7 +117,7 @@ impl Tray {
         let FlatForm { cylinders, heads, sectors, n, kilobits } = form;
         let (mut cylinder, mut head) = (255, 255);
         let made = taken(|out, room, length| unsafe {
-            ffi::telwyddus_tray_write_flat_as(&mut *self.slot, cylinders, heads, sectors, n, kilobits, out, room, length, &mut cylinder, &mut head)
+            ffi::telwyddus_tray_write_flat_as(&mut self.slot, cylinders, heads, sectors, n, kilobits, out, room, length, &mut cylinder, &mut head)
         });
         fitting(made, cylinder, head)
     }
@@ -125,35 +125,35 @@ impl Tray {
     /// Its ImageDisk file.
     pub fn imd(&mut self) -> Result<Vec<u8>> {
         let (mut cylinder, mut head) = (255, 255);
-        let made = taken(|out, room, length| unsafe { ffi::telwyddus_tray_write_imd(&mut *self.slot, out, room, length, &mut cylinder, &mut head) });
+        let made = taken(|out, room, length| unsafe { ffi::telwyddus_tray_write_imd(&mut self.slot, out, room, length, &mut cylinder, &mut head) });
         fitting(made, cylinder, head)
     }
 
     /// All that the medium is, except its cells.
     pub fn shape(&mut self) -> Shape {
         let mut shape = ffi::Shape::default();
-        must(unsafe { ffi::telwyddus_tray_shape(&mut *self.slot, &mut shape) });
+        must(unsafe { ffi::telwyddus_tray_shape(&mut self.slot, &mut shape) });
         Shape::of(shape)
     }
 
     /// Moves the write-protect tab.
     pub fn protect(&mut self, on: bool) {
-        must(unsafe { ffi::telwyddus_tray_protect(&mut *self.slot, on.into()) });
+        must(unsafe { ffi::telwyddus_tray_protect(&mut self.slot, on.into()) });
     }
 
     /// The words of a track, each of 16 cells, the first in the highest bit.
     pub fn track(&mut self, cylinder: u8, head: u8) -> Result<Vec<u16>> {
-        taken(|out, room, length| unsafe { ffi::telwyddus_tray_track(&mut *self.slot, cylinder, head, out, room, length) })
+        taken(|out, room, length| unsafe { ffi::telwyddus_tray_track(&mut self.slot, cylinder, head, out, room, length) })
     }
 
     /// Replaces the words of a track by exactly as many.
     pub fn set_track(&mut self, cylinder: u8, head: u8, words: &[u16]) -> Result<()> {
-        done(unsafe { ffi::telwyddus_tray_set_track(&mut *self.slot, cylinder, head, words.as_ptr(), words.len()) })
+        done(unsafe { ffi::telwyddus_tray_set_track(&mut self.slot, cylinder, head, words.as_ptr(), words.len()) })
     }
 
     /// Its address fields, in the order of cylinder, head and place, each with what a look at it finds.
     pub fn survey(&mut self) -> Result<Vec<Field>> {
-        let bytes = taken(|out, room, length| unsafe { ffi::telwyddus_tray_survey(&mut *self.slot, out, room, length) })?;
+        let bytes = taken(|out, room, length| unsafe { ffi::telwyddus_tray_survey(&mut self.slot, out, room, length) })?;
         bytes.chunks_exact(11).map(field_of).collect()
     }
 }

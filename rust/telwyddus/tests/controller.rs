@@ -46,6 +46,25 @@ fn a_sector_is_written_and_its_track_is_named() {
     assert_eq!(controller.eject(Bay::Zero).unwrap_err(), Error::NoMedium);
 }
 
+/// A vector moves what it has when it grows: here each controller, with the first bytes of its SEEK.
+#[test]
+fn controllers_move_in_the_middle_of_a_command() {
+    let mut all = Vec::new();
+    for _ in 0..9 {
+        let mut controller = Controller::new().unwrap();
+        start(&mut controller);
+        controller.write(0x3F5, 0x0F);
+        controller.write(0x3F5, 0x00);
+        all.push(controller);
+    }
+    for (at, controller) in all.iter_mut().enumerate() {
+        controller.write(0x3F5, 10 * at as u8);
+        controller.run(1000);
+        controller.write(0x3F5, 0x08);
+        assert_eq!((controller.read(0x3F5), controller.read(0x3F5)), (0x20, 10 * at as u8));
+    }
+}
+
 #[test]
 fn a_planned_dropout_is_met_twice_and_then_no_more() {
     let (mut controller, read) = (begun(), [0x46, 0, 0, 0, 1, 2, 1, 0x1B, 0xFF]);

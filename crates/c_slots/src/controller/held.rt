@@ -1,6 +1,7 @@
 // A pointer that owns a controller, or nothing.
 ghost use Rattle.std.specs.Prelude.{◌≡◌, None, Some, Option};
-ghost use Rattle.c_slots.specs.Controllers.{ControllerValue, held_owns, held_coded};
+ghost use Rattle.c_slots.specs.Controllers.{ControllerValue, controller_row};
+ghost use Rattle.c_slots.specs.Holders.{held_owns, held_coded};
 
 use crate::WholeController;
 use crate::loose::Loose;
@@ -14,11 +15,11 @@ use std::ptr::null_mut;
 pub struct Held {
     at: *mut (),
     pub alloc: Global,
-    pub ghost controller: { Option ControllerValue } by { held_coded },
+    pub ghost controller: { Option ControllerValue } by { held_coded controller_row },
 }
 
 impl Model for Held {
-    ghost also_owns = { λ h. held_owns h.alloc h.at h.controller };
+    ghost also_owns = { λ h. held_owns controller_row h.alloc h.at h.controller };
 }
 
 impl Held {

@@ -1,7 +1,7 @@
 // What C keeps: a controller or nothing.
 ghost use Rattle.std.specs.Prelude.{◌≡◌, ◌==◌, None, Some, Option};
 ghost use Rattle.std.specs.Option.{is_some};
-ghost use Rattle.c_slots.specs.Controllers.{boxed};
+ghost use Rattle.c_slots.specs.Holders.{boxed};
 
 use crate::WholeController;
 use crate::controller::held::Held;

@@ -1,9 +1,11 @@
+// Written by tools/slots. Change src/controller/held.rt, of which this is a copy.
 // A pointer that owns a desk, or nothing.
 ghost use Rattle.std.specs.Prelude.{◌≡◌, None, Some, Option};
-ghost use Rattle.c_slots.specs.Disks.{DeskValue, held_owns, held_coded};
+ghost use Rattle.c_slots.specs.Disks.{DeskValue, desk_row};
+ghost use Rattle.c_slots.specs.Holders.{held_owns, held_coded};
 
+use crate::SectorDesk;
 use crate::loose::Loose;
-use sector_desk::SectorDesk;
 use std::alloc::Global;
 use std::marker::Model;
 use std::ptr::null_mut;
@@ -14,11 +16,11 @@ use std::ptr::null_mut;
 pub struct Held {
     at: *mut (),
     pub alloc: Global,
-    pub ghost desk: { Option DeskValue } by { held_coded },
+    pub ghost desk: { Option DeskValue } by { held_coded desk_row },
 }
 
 impl Model for Held {
-    ghost also_owns = { λ h. held_owns h.alloc h.at h.desk };
+    ghost also_owns = { λ h. held_owns desk_row h.alloc h.at h.desk };
 }
 
 impl Held {

@@ -1,6 +1,8 @@
+// Written by tools/slots. Change src/controller/held.rt, of which this is a copy.
 // A pointer that owns a machine, or nothing.
 ghost use Rattle.std.specs.Prelude.{◌≡◌, None, Some, Option};
-ghost use Rattle.c_slots.specs.Machines.{MachineValue, held_owns, held_coded};
+ghost use Rattle.c_slots.specs.Machines.{MachineValue, machine_row};
+ghost use Rattle.c_slots.specs.Holders.{held_owns, held_coded};
 
 use crate::BenchMachine;
 use crate::loose::Loose;
@@ -14,11 +16,11 @@ use std::ptr::null_mut;
 pub struct Held {
     at: *mut (),
     pub alloc: Global,
-    pub ghost machine: { Option MachineValue } by { held_coded },
+    pub ghost machine: { Option MachineValue } by { held_coded machine_row },
 }
 
 impl Model for Held {
-    ghost also_owns = { λ h. held_owns h.alloc h.at h.machine };
+    ghost also_owns = { λ h. held_owns machine_row h.alloc h.at h.machine };
 }
 
 impl Held {

@@ -1,7 +1,8 @@
+// Written by tools/slots. Change src/controller/slot.rt, of which this is a copy.
 // What C keeps: a machine or nothing.
 ghost use Rattle.std.specs.Prelude.{◌≡◌, ◌==◌, None, Some, Option};
 ghost use Rattle.std.specs.Option.{is_some};
-ghost use Rattle.c_slots.specs.Machines.{boxed};
+ghost use Rattle.c_slots.specs.Holders.{boxed};
 
 use crate::BenchMachine;
 use crate::machine::held::Held;

@@ -1,9 +1,11 @@
+// Written by tools/slots. Change src/controller/held.rt, of which this is a copy.
 // A pointer that owns a shelf, or nothing.
 ghost use Rattle.std.specs.Prelude.{◌≡◌, None, Some, Option};
-ghost use Rattle.c_slots.specs.Shelves.{ShelfValue, held_owns, held_coded};
+ghost use Rattle.c_slots.specs.Shelves.{ShelfValue, shelf_row};
+ghost use Rattle.c_slots.specs.Holders.{held_owns, held_coded};
 
+use crate::RunShelf;
 use crate::loose::Loose;
-use memory_files::RunShelf;
 use std::alloc::Global;
 use std::marker::Model;
 use std::ptr::null_mut;
@@ -14,11 +16,11 @@ use std::ptr::null_mut;
 pub struct Held {
     at: *mut (),
     pub alloc: Global,
-    pub ghost shelf: { Option ShelfValue } by { held_coded },
+    pub ghost shelf: { Option ShelfValue } by { held_coded shelf_row },
 }
 
 impl Model for Held {
-    ghost also_owns = { λ h. held_owns h.alloc h.at h.shelf };
+    ghost also_owns = { λ h. held_owns shelf_row h.alloc h.at h.shelf };
 }
 
 impl Held {

@@ -1,10 +1,11 @@
+// Written by tools/slots. Change src/controller/slot.rt, of which this is a copy.
 // What C keeps: a shelf or nothing.
 ghost use Rattle.std.specs.Prelude.{◌≡◌, ◌==◌, None, Some, Option};
 ghost use Rattle.std.specs.Option.{is_some};
-ghost use Rattle.c_slots.specs.Shelves.{boxed};
+ghost use Rattle.c_slots.specs.Holders.{boxed};
 
+use crate::RunShelf;
 use crate::shelf::held::Held;
-use memory_files::RunShelf;
 use std::alloc::Global;
 use std::mem;
 

@@ -1,6 +1,8 @@
+// Written by tools/slots. Change src/controller/held.rt, of which this is a copy.
 // A pointer that owns a tray, or nothing.
 ghost use Rattle.std.specs.Prelude.{◌≡◌, None, Some, Option};
-ghost use Rattle.c_slots.specs.Trays.{TrayValue, held_owns, held_coded};
+ghost use Rattle.c_slots.specs.Trays.{TrayValue, tray_row};
+ghost use Rattle.c_slots.specs.Holders.{held_owns, held_coded};
 
 use crate::MediumTray;
 use crate::loose::Loose;
@@ -14,11 +16,11 @@ use std::ptr::null_mut;
 pub struct Held {
     at: *mut (),
     pub alloc: Global,
-    pub ghost tray: { Option TrayValue } by { held_coded },
+    pub ghost tray: { Option TrayValue } by { held_coded tray_row },
 }
 
 impl Model for Held {
-    ghost also_owns = { λ h. held_owns h.alloc h.at h.tray };
+    ghost also_owns = { λ h. held_owns tray_row h.alloc h.at h.tray };
 }
 
 impl Held {

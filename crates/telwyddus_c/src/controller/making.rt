@@ -3,7 +3,7 @@ ghost use Rattle.fault_plan.specs.Plan.{lists_of};
 ghost use Rattle.telwyddus_c.specs.Controllers.{IsPlain};
 ghost use Rattle.telwyddus_c.specs.Drives.{IsPlanned};
 ghost use Rattle.telwyddus_c.specs.Plans.{FillsPlanned};
-ghost use Rattle.telwyddus_c.specs.Slots.{Fills, Frees};
+ghost use Rattle.telwyddus_c.specs.Slots.{Fills, Frees, Moves};
 
 use crate::code::{BAD_PLAN, DONE, EMPTY, FULL, NO_MEMORY};
 use crate::controller::drives::replan;
@@ -88,4 +88,23 @@ pub extern "C" fn telwyddus_controller_free(alloc: Global, slot: &mut Controller
         None => EMPTY,
         Some(_controller) => DONE,
     }
+}
+
+/// Moves the controller, with its drives and media, into a slot that is empty.
+#[unsafe(no_mangle)]
+pub extern "C" fn telwyddus_controller_move(
+    alloc: Global,
+    to: &mut ControllerSlot,
+    from: &mut ControllerSlot,
+) -> u32
+    ensures { Moves result from.old.held.controller from.new.held.controller to.old.held.controller to.new.held.controller }
+{
+    if to.is_full() {
+        return FULL;
+    }
+    let Some(controller) = from.take(alloc) else {
+        return EMPTY;
+    };
+    to.put(controller);
+    DONE
 }

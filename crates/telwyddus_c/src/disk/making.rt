@@ -1,6 +1,6 @@
 // The desk's making.
 ghost use Rattle.telwyddus_c.specs.Disks.{IsBareDesk};
-ghost use Rattle.telwyddus_c.specs.Slots.{Fills, Frees};
+ghost use Rattle.telwyddus_c.specs.Slots.{Fills, Frees, Moves};
 
 use crate::code::{DONE, EMPTY, FULL, NO_MEMORY};
 use c_slots::DiskSlot;
@@ -34,4 +34,19 @@ pub extern "C" fn telwyddus_disk_free(alloc: Global, slot: &mut DiskSlot) -> u32
         None => EMPTY,
         Some(_desk) => DONE,
     }
+}
+
+/// Moves the desk, with its media, into a slot that is empty.
+#[unsafe(no_mangle)]
+pub extern "C" fn telwyddus_disk_move(alloc: Global, to: &mut DiskSlot, from: &mut DiskSlot) -> u32
+    ensures { Moves result from.old.held.desk from.new.held.desk to.old.held.desk to.new.held.desk }
+{
+    if to.is_full() {
+        return FULL;
+    }
+    let Some(desk) = from.take(alloc) else {
+        return EMPTY;
+    };
+    to.put(desk);
+    DONE
 }

@@ -2,7 +2,7 @@
 ghost use Rattle.std.specs.Prelude.{◌≡◌};
 ghost use Rattle.telwyddus_c.specs.Machines.{IsPlain, IsPlanned};
 ghost use Rattle.telwyddus_c.specs.Plans.{FillsPlanned};
-ghost use Rattle.telwyddus_c.specs.Slots.{Fills, Frees};
+ghost use Rattle.telwyddus_c.specs.Slots.{Fills, Frees, Moves};
 
 use crate::code::{BAD_PLAN, DONE, EMPTY, FULL, NO_MEMORY};
 use c_slots::MachineSlot;
@@ -81,4 +81,23 @@ pub extern "C" fn telwyddus_machine_free(alloc: Global, slot: &mut MachineSlot) 
         None => EMPTY,
         Some(_machine) => DONE,
     }
+}
+
+/// Moves the machine, with its drives and media, into a slot that is empty.
+#[unsafe(no_mangle)]
+pub extern "C" fn telwyddus_machine_move(
+    alloc: Global,
+    to: &mut MachineSlot,
+    from: &mut MachineSlot,
+) -> u32
+    ensures { Moves result from.old.held.machine from.new.held.machine to.old.held.machine to.new.held.machine }
+{
+    if to.is_full() {
+        return FULL;
+    }
+    let Some(machine) = from.take(alloc) else {
+        return EMPTY;
+    };
+    to.put(machine);
+    DONE
 }

@@ -1,27 +1,15 @@
-use Rattle.std.specs.Prelude.{Option, None, Some}
-use base.Shift.{Keyless}
-use mir.Raw.{raw}
-use denote.Memory.{lone}
-use denote.RawPtr.{Ptr}
+-- A holder may cross threads, as what it owns may.
 use denote.Struct.Struct.{exits_of}
 use denote.Struct.Owning.{shape, fields, to}
 use denote.Param.Send.{IsSend, AllSend, owning_send, struct_send, sendable}
-use Rattle.std.proofs.Crossing as heap
 use Rattle.std.proofs.alloc.Global.TheSendSync as handle
-use Rattle.std.specs.Global.{Global}
-use Rattle.fdc_chip.proofs.chip.Chip.TheSendSync.{the_send as whole_send}
-use Rattle.c_bay_drive.proofs.bay.BayDrive.TheSendSync.{the_send as drive_send}
-use Rattle.c_bay_drive.specs.contracts.bay.BayDrive.{the_row as drive_row}
-use Rattle.c_slots.proofs.Crossing.{quiet, lies}
-use Rattle.c_slots.specs.Controllers.{ControllerValue, controller_row, held_owns}
+use Rattle.c_slots.proofs.Crossing.{quiet, keyless}
+use Rattle.c_slots.proofs.Rows.{controller_send}
+use Rattle.c_slots.specs.Controllers.{controller_row}
 use Rattle.c_slots.specs.contracts.controller.held.Held.{the_row, the_type}
-
-keyless : (a : Global) (p : Ptr) (o : Option ControllerValue) → Keyless (held_owns a p o)
-keyless a p None = tt
-keyless a p (Some x) = (lies controller_row (whole_send drive_row drive_send) p x, heap.frees.frees a (raw (lone controller_row.mir)) p)
 
 pub send : IsSend the_row
 send =
     let all : AllSend (fields the_type) = (search sendable, (handle.the_field_send, tt)) in
-    owning_send the_type all (λ d. keyless d.alloc d.at d.controller)
+    owning_send the_type all (λ d. keyless controller_row controller_send d.alloc d.at d.controller)
     (λ k. quiet (to the_type) (exits_of k (fields the_type)) ((struct_send (shape the_type) all).leaving k))

@@ -32,7 +32,7 @@ use denote.Triple.Walked.{says, Stays, stay_dropped, walk_of, ends_at, Goes-drop
 use Rattle.std.proofs.alloc.Calls.{α, handle_tells}
 use Rattle.std.proofs.ResultValues.{and_tt}
 use Rattle.std.specs.contracts.alloc.Global as Heap
-use Rattle.c_slots.proofs.ControllerBox.{E}
+use Rattle.c_slots.proofs.Rows.{controller_box as E}
 use Rattle.c_slots.specs.contracts.controller.held.Held as held
 use Rattle.c_slots.specs.contracts.controller.held.Held.empty as F
 use Rattle.c_slots.specs.contracts.controller.held.Held.empty.Key.{name as #self}

@@ -1,3 +1,4 @@
+-- Written by tools/slots. Change proofs/controller/held/Held/empty/Proof.antt, of which this is a copy.
 -- `empty` owns nothing beside the handle.
 use Rattle.std.specs.Prelude.{None}
 use mathlib.Core.Path.{refl, sym, subst}
@@ -32,7 +33,7 @@ use denote.Triple.Walked.{says, Stays, stay_dropped, walk_of, ends_at, Goes-drop
 use Rattle.std.proofs.alloc.Calls.{α, handle_tells}
 use Rattle.std.proofs.ResultValues.{and_tt}
 use Rattle.std.specs.contracts.alloc.Global as Heap
-use Rattle.c_slots.proofs.DiskBox.{E}
+use Rattle.c_slots.proofs.Rows.{desk_box as E}
 use Rattle.c_slots.specs.contracts.disk.held.Held as held
 use Rattle.c_slots.specs.contracts.disk.held.Held.empty as F
 use Rattle.c_slots.specs.contracts.disk.held.Held.empty.Key.{name as #self}

@@ -1,3 +1,4 @@
+-- Written by tools/slots. Change proofs/controller/slot/ControllerSlot/into_box/Answers.antt, of which this is a copy.
 use Rattle.std.proofs.Common.{◌≡◌, ◌∙◌, refl, sym, true}
 use Rattle.std.specs.Prelude.{◌==◌}
 use Rattle.c_slots.proofs.Options.{some_in}

@@ -1,3 +1,4 @@
+-- Written by tools/slots. Change proofs/controller/held/Held/into_loose/Proof.antt, of which this is a copy.
 -- `into_loose` moves two fields, and what they own goes with them.
 use Rattle.std.specs.Prelude.{◌≡◌, Option, Some}
 use Rattle.c_slots.specs.Trays.{TrayValue}
@@ -20,18 +21,21 @@ use types.Part.{whole, sub, agg}
 use types.Run.{stop, fld, no_more, and_then, of_opd, returns, enter}
 use types.ByLocal.{alloc_all, pass_all, free_all, look_at, get, get_in, sets}
 use denote.Exit.{yes}
-use denote.Signature.{type_at}
+use denote.Signature.{Slot, plain, type_at}
 use denote.Steps.{heard, nothing}
 use denote.Triple.Spec.{triple_of}
 use denote.Triple.Table.{entered}
 use denote.Triple.Walked.{says, Stays, stay_dropped, walk_of, ends_at, Goes-dropped, walk_Meets}
 use Rattle.std.proofs.BoxSteps.Form.{D, word, box_typed}
 use Rattle.std.proofs.BoxSteps.Steps.{box_out, box_in}
-use Rattle.c_slots.proofs.TrayBox.{E, FromHeld as From}
+use Rattle.c_slots.proofs.Rows.{tray_box as E}
 use Rattle.c_slots.specs.contracts.tray.held.Held.into_loose as F
 use Rattle.c_slots.specs.contracts.tray.held.Held.into_loose.Key.{name as #self}
 use Rattle.c_slots.proofs.tray.held.Held.into_loose.Statement as stated
 use Rattle.c_slots.proofs.tray.held.Held.into_loose.Code as code
+
+abbrev From : Slot 0
+From = plain (λ _. held.the_row)
 
 abbrev stayed : Stays (F.ended).signature.params (F.ended).kept
 stayed = (stay_dropped From yes, tt)

@@ -1,3 +1,4 @@
+-- Written by tools/slots. Change proofs/controller/held/Held/of_loose/Proof.antt, of which this is a copy.
 -- `of_loose` moves two fields, and what they own goes with them.
 use Rattle.std.specs.Prelude.{Some}
 use mathlib.Core.Path.{refl, sym, subst}
@@ -18,18 +19,25 @@ use types.Part.{whole, sub, agg}
 use types.Run.{stop, fld, no_more, and_then, of_opd, returns, enter}
 use types.ByLocal.{alloc_all, pass_all, free_all, look_at, get, get_in, sets}
 use denote.Exit.{yes}
-use denote.Signature.{type_at}
+use denote.Signature.{Slot, plain, type_at}
 use denote.Steps.{nothing}
 use denote.Triple.Spec.{triple_of}
 use denote.Triple.Table.{entered}
 use denote.Triple.Walked.{says, Stays, stay_dropped, walk_of, ends_at, Goes-dropped, walk_Meets}
 use Rattle.std.proofs.BoxSteps.Form.{D, B, word, box_typed}
 use Rattle.std.proofs.BoxSteps.Steps.{box_out, box_in}
-use Rattle.c_slots.proofs.TrayBox.{E, FromLoose as From}
+use Rattle.c_slots.proofs.Rows.{tray_box as E}
+use Rattle.c_slots.specs.Trays.{tray_row}
+use Rattle.c_slots.specs.contracts.loose.Loose as loose
+use Rattle.std.specs.contracts.alloc.Global as Heap
+use Rattle.std.specs.contracts.prelude.GlobalAllocator.TheImpl.{ghosts}
 use Rattle.c_slots.specs.contracts.tray.held.Held.of_loose as F
 use Rattle.c_slots.specs.contracts.tray.held.Held.of_loose.Key.{name as #self}
 use Rattle.c_slots.proofs.tray.held.Held.of_loose.Statement as stated
 use Rattle.c_slots.proofs.tray.held.Held.of_loose.Code as code
+
+abbrev From : Slot 0
+From = plain (λ _. loose.the_row tray_row Heap.the_row ghosts)
 
 abbrev stayed : Stays (F.ended).signature.params (F.ended).kept
 stayed = (stay_dropped From yes, tt)
