@@ -260,7 +260,9 @@ def take(rt, folder, log=None):
     held = [] if log else rt.rtlib.lock(found)
     new, lacking = 0, []
     for crate in found:
-        if crate.name not in told or ours.lacks_below(crate) or not is_newer(crate.rlib, crate.folder):
+        # `rt check` leaves a stamp beside a library. It gets such a library back at the end of `rt ci`, in place of the other.
+        is_of_check = os.path.isfile(f"{os.path.dirname(crate.rlib)}/stamp")
+        if crate.name not in told or is_of_check or ours.lacks_below(crate) or not is_newer(crate.rlib, crate.folder):
             lacking.append(crate.name)
         else:
             new += ours.put(crate, crate.rlib)
