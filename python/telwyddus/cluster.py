@@ -2,6 +2,7 @@
 files under the same paths."""
 from __future__ import annotations
 
+import asyncio
 import importlib
 import logging
 from collections.abc import Callable, Iterator, Sequence
@@ -14,8 +15,8 @@ from .problems import Problem
 
 Task = TypeVar("Task")
 Answer = TypeVar("Answer")
-# How long a scheduler may take to answer, in seconds.
-TIMEOUT = 10
+# How long a scheduler may take to answer, and all its workers, in seconds.
+TIMEOUT, WORKERS_TIMEOUT = 10, 120
 INSTALL = "Debian has it: apt install python3-distributed"
 
 
@@ -63,9 +64,11 @@ def connected(scheduler: str) -> Iterator[tuple[Any, Any]]:
 def check_workers(client: Any, scheduler: str) -> None:
     """Refuses a cluster without workers, and one whose workers don't have this package and its library."""
     try:
-        found = client.run(version_there)
+        found = client.run(version_there, callback_timeout=WORKERS_TIMEOUT)
     except ModuleNotFoundError as fault:
         raise Problem(f"The workers of {scheduler} don't have the package {fault.name}. Install telwyddus on each of them.") from fault
+    except (asyncio.TimeoutError, TimeoutError) as fault:
+        raise Problem(f"A worker of {scheduler} hasn't answered for {WORKERS_TIMEOUT} seconds. End the workers that hang, and run the same command again.") from fault
     if not found:
         raise Problem(f"{scheduler} has no workers. Start some: dask-worker {scheduler}")
     for worker, number in found.items():

@@ -2,11 +2,15 @@
 
 The images are computed by tools/disks.py from the plain definitions, or made by mtools. Where a program from outside
 knows a format (mtools, libdsk, MAME's floptool, ddrescue), that program judges what the package wrote.
+
+No test may hang: one that takes too long fails, with its name and the place where it waits.
 """
 from __future__ import annotations
 
+import faulthandler
 import json
 import os
+import signal
 import subprocess
 from collections.abc import Callable, Iterator, Sequence
 from pathlib import Path
@@ -16,6 +20,35 @@ import disks
 import pytest
 
 import telwyddus.command
+
+# How many seconds a test may take, with what it starts and ends. The longest takes some twenty on a fast machine. If it
+# catches the signal that says so, it gets another one after AGAIN seconds. If it still goes on after LAST more, perhaps
+# where no signal is seen, its process prints where all threads are, and ends.
+LONGEST, AGAIN, LAST = int(os.environ.get("TELWYDDUS_LONGEST_TEST", "180")), 15, 60
+# A copy of standard error, where the places of threads go: later pytest keeps what is written there for itself.
+places = pytest.StashKey[int]()
+
+
+def pytest_configure(config: pytest.Config) -> None:
+    config.stash[places] = os.dup(2)
+
+
+@pytest.hookimpl(hookwrapper=True, tryfirst=True)
+def pytest_runtest_protocol(item: pytest.Item) -> Iterator[None]:
+    """Fails a test that takes too long."""
+
+    def fail(*_: object) -> None:
+        pytest.fail(f"{item.nodeid} took longer than {LONGEST} seconds")
+
+    before = signal.signal(signal.SIGALRM, fail)
+    signal.setitimer(signal.ITIMER_REAL, LONGEST, AGAIN)
+    faulthandler.dump_traceback_later(LONGEST + LAST, exit=True, file=item.config.stash[places])
+    try:
+        yield
+    finally:
+        faulthandler.cancel_dump_traceback_later()
+        signal.setitimer(signal.ITIMER_REAL, 0)
+        signal.signal(signal.SIGALRM, before)
 
 
 class Answer(NamedTuple):

@@ -187,3 +187,26 @@ def test_what_a_part_leaves_running_is_killed() -> None:
     assert lines_of(gate())[1][-1] == closing()
     child = Path(f"/proc/{int(Path('child').read_text())}")
     assert not child.exists() or child.joinpath("stat").read_text().split()[2] == "Z"
+
+
+def shorten(longest: int, together: int) -> None:
+    """Lets parts take less time than in the gate."""
+    text = GATE.read_text()
+    assert text.count("LONGEST, ALL = 1200, 3000\n") == 1
+    Path("top/tools/gate").write_text(text.replace("LONGEST, ALL = 1200, 3000\n", f"LONGEST, ALL = {longest}, {together}\n"))
+    subprocess.run(["git", "-c", "user.name=a", "-c", "user.email=a@b", "commit", "-qam", "shorter"], cwd="top", check=True)
+
+
+def test_a_part_that_hangs_fails() -> None:
+    shorten(3, 600)
+    stand_in("rust/check", "echo begun; sleep 300")
+    status, lines = lines_of(gate())
+    assert status == 1 and lines[-1] == closing(1) and lines.count("begun") == 2
+    assert sum(line.startswith("again   Rust: it took too long, ") for line in lines) == sum(line.startswith("FAILED  Rust: it took too long, ") for line in lines) == 1
+
+
+def test_all_parts_together_have_a_limit() -> None:
+    shorten(300, 6)
+    stand_in("tools/check", "sleep 300")
+    status, lines = lines_of(gate())
+    assert status == 1 and lines[-1] == closing(1) and any(line.startswith("FAILED  C: it took too long, 0 s") for line in lines)
