@@ -1,13 +1,17 @@
 #!/usr/bin/env python3
 """tools/targets.py NATIVE.a TARGET=LIBRARY..: compares what the programs in C print on other processors, byte by byte.
 
-NATIVE.a is the archive for x86-64. TARGET is aarch64, whose LIBRARY is an archive that runs under qemu-user, or wasm32,
-whose LIBRARY is MODULE.wasm.o, which runs in node. `tools/archive --target` makes all of them.
+NATIVE.a is the archive for x86-64. `tools/archive --target` makes the others. The targets are
 
-The programs are those of c/examples, c/checks and bench. For x86-64 and aarch64 gcc compiles them with c/heap.c. For
-wasm32 the kit's clang does, with the small C library of c/wasm and its heap. The script wants gcc, for aarch64 also
-Debian's gcc-aarch64-linux-gnu, libc6-dev-arm64-cross and qemu-user, and for wasm32 node. CROSS names another root in
-which Debian's cross compiler was unpacked.
+    aarch64=LIBRARY.a         under qemu-user. gcc compiles the programs, with c/heap.c
+    wasm32=MODULE.wasm.o      in node. The kit's clang compiles the programs, with the small C library of c/wasm and its
+                              heap
+    clang=NATIVE.a            on x86-64 again, where clang compiles the programs and c/heap.c in place of gcc
+
+The programs are those of c/examples, c/checks and bench. They print the same with each compiler only if they draw their
+random numbers in a fixed order, so tools/draws.py looks for that first. The script wants gcc and the kit, for aarch64
+also Debian's gcc-aarch64-linux-gnu, libc6-dev-arm64-cross and qemu-user, for wasm32 node, and for clang Debian's clang.
+CROSS names another root in which Debian's cross compiler was unpacked.
 """
 import argparse
 import concurrent.futures
@@ -24,8 +28,10 @@ import time
 sys.dont_write_bytecode = True
 TOP = pathlib.Path(__file__).resolve().parent.parent
 sys.path.insert(0, str(TOP / "tools"))
+import draws  # noqa: E402
 from retarget import CLANG, TRIPLE, tool  # noqa: E402
 
+TARGETS = ("aarch64", "wasm32", "clang")
 WASM = TOP / "c" / "wasm"
 ALONE = ("starved", "random_calls")     # they have a heap of their own
 # On wasm32 the library keeps pointers in eight bytes, in slots and in the answers of a heap too.
@@ -51,7 +57,7 @@ def done(words, **more):
 
 def runs(check, room):
     """The runs: a name, a program, and its arguments. Their files are made in a folder."""
-    found = [(name, name, []) for name in "first convert several commands by_port drivers drives device".split()]
+    found = [(name, name, []) for name in "first convert several commands by_port drivers drives dense device".split()]
     found += [("speed " + " ".join(words), "speed", words) for words in (["idle"], ["block"], ["bytes"], ["block", "fifo"])]
     for rate, c, h, r in ((500, 3, 1, 7), (250, 2, 0, 9)):
         before, wanted, content, after = check.sector_case(room, rate, c, h, r)
@@ -107,8 +113,8 @@ def wide_sources(room):
 
 def builder(target, room):
     """What builds a program for a target, and what it is run by."""
-    if target == "x86_64":
-        return lambda *words: for_linux("gcc", [], *words), []
+    if target in ("x86_64", "clang"):
+        return lambda *words: for_linux("gcc" if target == "x86_64" else "clang", [], *words), []
     if target == "aarch64":
         cross = os.environ.get("CROSS", "")
         compiler = f"{cross}/usr/bin/aarch64-linux-gnu-gcc-12" if cross else "aarch64-linux-gnu-gcc"
@@ -128,6 +134,8 @@ def output_of(words):
 def compared(native, libraries, jobs=2):
     """Runs all programs over all libraries. Says of each run whether it is the same as on x86-64, and what was seen."""
     check = tools_check()
+    count, places = draws.found()
+    yield count > 0 and not places, f"no program of {count} draws two random numbers in an open order{''.join('; but ' + it for it in places)}"
     with tempfile.TemporaryDirectory() as folder, concurrent.futures.ThreadPoolExecutor(jobs) as pool:
         room = pathlib.Path(folder)
         sources = {name: pathlib.Path(path) for name, path in check.sources().items()}
@@ -150,12 +158,12 @@ def compared(native, libraries, jobs=2):
 def main():
     words = argparse.ArgumentParser(description=__doc__.splitlines()[0])
     words.add_argument("native", metavar="NATIVE.a")
-    words.add_argument("libraries", metavar="TARGET=LIBRARY", nargs="+")
+    words.add_argument("libraries", metavar="TARGET=LIBRARY", nargs="+", help=f"a target of {', '.join(TARGETS)}, and its library")
     words.add_argument("--jobs", type=int, default=2, help="how many programs run at once")
     given = words.parse_args()
     libraries = dict(it.split("=", 1) for it in given.libraries)
     for target, path in {"x86_64": given.native, **libraries}.items():
-        if target not in ("x86_64", "aarch64", "wasm32") or not os.path.isfile(path):
+        if target not in ("x86_64", *TARGETS) or not os.path.isfile(path):
             words.error(f"{target}={path}: no such target, or no such file")
     failed = 0
     for is_same, what in compared(given.native, libraries, given.jobs):

@@ -458,7 +458,8 @@ static void hold(int bay, int cylinder, int head) {
 /* What commands set, and a RELATIVE SEEK. */
 static void set_and_tell(int bay) {
     const uint8_t lock[] = {(uint8_t)(below(2) ? 0x94 : 0x14)}, perpendicular[] = {0x12, (uint8_t)below(256)}, dump[] = {0x0E};
-    const uint8_t relative[] = {(uint8_t)(below(2) ? 0x8F : 0xCF), (uint8_t)bay, (uint8_t)below(20)};
+    /* The way has a draw of its own: C leaves open in which order it evaluates the values of an array. */
+    const uint8_t way = (uint8_t)(below(2) ? 0x8F : 0xCF), relative[] = {way, (uint8_t)bay, (uint8_t)below(20)};
     command(lock, 1);
     command(perpendicular, 2);
     command(dump, 1);
