@@ -183,7 +183,7 @@ LooksOn track old new = SendsOn (identifying track.unit) (track_at (record track
 abbrev pub sector_met : Chrn → Track → Chrn
 sector_met key track = record key { n = track.key.n }
 
--- the READ TRACK reads the data field behind the address field that was met, in the same turn
+-- the READ TRACK reads the data field of the address field that was met, in the same turn
 abbrev pub ReadsOn : Track → Chrn → ChipState → ChipState → Type 0
 ReadsOn track key old new =
     let set = track_at (met_key key track) old in

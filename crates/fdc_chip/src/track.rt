@@ -1,5 +1,5 @@
 // READ TRACK: the sectors of a track, one after the other from the index pulse on. A READ ID hears the address field of
-// each. A READ DATA then reads the data field behind it, in the same turn.
+// each. A READ DATA then reads its data field, in the same turn.
 ghost use Rattle.std.specs.Prelude.{◌≡◌, ◌≤◌, ◌==◌, ◌&&◌, not, bit_and};
 ghost use Rattle.fdc_chip.specs.Chips.{chip_state};
 ghost use Rattle.fdc_chip.specs.Doing.{is_size};
@@ -156,7 +156,7 @@ impl<D: Inspect> Chip<D> {
         self.send(&[READ_ID, track.unit]);
     }
 
-    /// Reads the data field behind the address field that was met. The address field ended in this very device step.
+    /// Reads the data field of the address field that was met. The address field ended in this very device step.
     fn read_on(&mut self, track: Track, key: Chrn)
         requires least { 1 ≤ track.key.n }
         requires most { track.key.n ≤ 6 }
