@@ -654,6 +654,26 @@ static void count_between(void) {
     expect_result(passed == 512 && asked == 0, "04 00 00 06 01 01 02", "with a terminal count between two sectors no byte more is asked for");
 }
 
+/* From the first byte to the results READ TRACK takes less than a turn. It takes as many bytes of each sector as its own
+ * N says. */
+static void one_turn(void) {
+    size_t passed = 0;
+    long first = 0, last = 0;
+    seek(&guest, 2);
+    say("42 00 02 00 01 02 12 1B FF");
+    for (long i = 0; i < 100000 && !is_int(); i++) {
+        make_steps(&guest, 1);
+        if (passed == 0) first = i;
+        last = i;
+        for (; has_line(&guest, TELWYDDUS_DRQ); passed++) MUST(telwyddus_controller_dack_read(&guest.controller, buffer, &guest.lines));
+    }
+    finish(&guest);
+    expect_result(passed == 18 * 512 && last - first < 12500, "40 80 00 02 00 01 02", "18 sectors pass in one turn");
+    memset(buffer, 0, sizeof buffer);
+    does("42 00 02 00 01 01 03 1B FF", ENDLESS, 3 * 256, "40 A4 20 02 00 01 01", "READ TRACK with an N that is less than the sectors': DE and DD");
+    for (int r = 1; r <= 3; r++) expect(memcmp(buffer + 256 * (r - 1), sector(2, 0, r), 256) == 0, "the first bytes of each");
+}
+
 /* Standard tracks: a whole one, and one whose ninth content is damaged. */
 static void whole_track(void) {
     seek(&guest, 2);
@@ -704,6 +724,7 @@ int main(void) {
     verify_marks();
     track();
     count_between();
+    one_turn();
     whole_track();
     track_fails();
     expect_no_more();

@@ -240,8 +240,8 @@ static inline void reckon_sectors(Model *model, const uint8_t *sent, size_t coun
     out->result[0] |= (uint8_t)seek_end;
 }
 
-/* READ TRACK of a formatted track whose sector IDs are intact: as many sectors as EOT says, from the index on, over
- * and over. */
+/* READ TRACK of a formatted track whose sector IDs are intact, with the N of its sectors: as many sectors as EOT says,
+ * from the index on, over and over. */
 static inline void reckon_track(Model *model, const uint8_t *sent, size_t count, Outcome *out) {
     int most = sent[EOT] == 0 ? 256 : sent[EOT], is_met = 0, st1 = 0, st2 = 0, is_counted = 0;
     int seek_end = begin_sectors(model, sent);

@@ -7,10 +7,10 @@ use Rattle.fdc_registers.specs.St0.{abnormal, seek_end}
 use Rattle.fdc_registers.specs.St1.{end_of_cylinder, overrun, no_data, missing_mark}
 use Rattle.fdc_registers.specs.St2.{wrong_cylinder, bad_cylinder}
 use Rattle.fdc_commands.specs.declared.results.Results.{Results}
-use Rattle.fdc_sequencer.specs.Fronts.{Front, after_reading, value_outside, with_seeks}
-use Rattle.fdc_chip.specs.Chips.{ChipState, with_front}
+use Rattle.fdc_sequencer.specs.Fronts.{Front, ReadsSector, after_reading, sector_alone, value_outside, with_seeks}
+use Rattle.fdc_chip.specs.Chips.{ChipState, KeepsRest, with_front}
 use Rattle.fdc_chip.specs.Codes.{has_bit, has_multitrack}
-use Rattle.fdc_chip.specs.Doing.{SendsOn, told, identifying, is_size, reading_one}
+use Rattle.fdc_chip.specs.Doing.{SendsOn, told, identifying, is_size}
 use Rattle.fdc_chip.specs.declared.answer.Answer.TheVariants as answer
 use Rattle.fdc_chip.specs.declared.order.Order.{Order}
 use Rattle.fdc_chip.specs.declared.stage.Place.{Place}
@@ -179,21 +179,26 @@ track_at track old = record old { front = with_seeks false old.front; stage = Bu
 abbrev pub LooksOn : Track → ChipState → ChipState → Type 0
 LooksOn track old new = SendsOn (identifying track.unit) (track_at (record track { place = Address }) old) new
 
--- the READ TRACK reads the sector of the address field that was met
+-- the sector of an address field, with as many bytes as the command says
+abbrev pub sector_met : Chrn → Track → Chrn
+sector_met key track = record key { n = track.key.n }
+
+-- the READ TRACK reads the data field of the address field that was met, in the same turn
 abbrev pub ReadsOn : Track → Chrn → ChipState → ChipState → Type 0
 ReadsOn track key old new =
-    SendsOn (reading_one track.unit key old.order.gap old.order.length) (track_at (met_key key track) old) new
+    let set = track_at (met_key key track) old in
+    ReadsSector (sector_alone track.unit (sector_met key track)) set.front new.front × KeepsRest set new
 
 -- the search for the absent sector has ended with the index pulse. The Bool says whether it saw no address mark
 abbrev pub EndsIndex : Bool → Track → ChipState → ChipState → Type 0
 EndsIndex true track old new = new ≡ track_told (with_fault missing_mark track) old
 EndsIndex false track old new = LooksOn track old new
 
--- why no sector is read: ND for a size code that doesn't exist, or else why no address field was met
+-- why no sector is read: why no address field was met, or else ND
 abbrev pub unread : Results → ℕ
 unread results = if results.st1.0 == 0 then no_data else results.st1.0
 
--- an address field was met whose sector has an existing size code (true), or not
+-- an address field was met, and its sector is read (true), or none was met
 abbrev pub EndsAddressIf : Bool → Results → Track → ChipState → ChipState → Type 0
 EndsAddressIf true results track old new = ReadsOn track results.key old new
 EndsAddressIf false results track old new = new ≡ track_told (with_fault (unread results) track) old
@@ -201,7 +206,7 @@ EndsAddressIf false results track old new = new ≡ track_told (with_fault (unre
 -- a READ ID of the READ TRACK ended. The first Bool says whether the terminal count came between two sectors
 abbrev pub EndsAddress : Bool → Results → Track → ChipState → ChipState → Type 0
 EndsAddress true results track old new = new ≡ track_told track old
-EndsAddress false results track old new = EndsAddressIf ((results.st1.0 == 0) && is_size results.key.n) results track old new
+EndsAddress false results track old new = EndsAddressIf ((results.st1.0 == 0) && is_size track.key.n) results track old new
 
 -- whether the READ TRACK ends after this sector. Otherwise it looks for the next one
 abbrev pub is_over : Results → Track → Bool

@@ -1,5 +1,5 @@
 // Data commands. The inner controller is given those that this medium can have. For the others it searches instead.
-ghost use Rattle.std.specs.Prelude.{◌≡◌, ◌≤◌, ◌*◌};
+ghost use Rattle.std.specs.Prelude.{◌≡◌, ◌≤◌, ◌*◌, true};
 ghost use Rattle.fdc_sequencer.specs.Transfers.{size_of};
 ghost use Rattle.fdc_chip.specs.Chips.{chip_state};
 ghost use Rattle.fdc_chip.specs.Doing.{SendsOn, Begins, Remembers, Refuses, BeginsReadId, Formats, FormatsIf, Transfers, TransfersIf, Verifies, ReadsTrack, with_last, with_keys, implies, sectors_of_track, sought_if, is_size, no_key, sectors_to, sectors_verified, verifying, track_begun, absent_key, reading_one};
@@ -42,7 +42,8 @@ const NO_KEY: Chrn = Chrn {
 
 /// Whether a field of this medium can have a size code.
 pub(crate) fn is_size(n: u8) -> bool
-    ensures { result ≡ is_size n }
+    ensures value { result ≡ is_size n }
+    ensures bounds { result ≡ true → (1 ≤ n) × (n ≤ 6) }
 {
     1 <= n && n <= 6
 }

@@ -1,12 +1,11 @@
-// READ TRACK: the sectors of a track, one after the other from the index pulse on. Each is read by a READ ID, and then
-// by a READ DATA of the sector ID that the READ ID heard.
-ghost use Rattle.std.specs.Prelude.{◌≡◌, ◌==◌, ◌&&◌, not, bit_and};
+// READ TRACK: the sectors of a track, one after the other from the index pulse on. A READ ID hears the address field of
+// each. A READ DATA then reads its data field, in the same turn.
+ghost use Rattle.std.specs.Prelude.{◌≡◌, ◌≤◌, ◌==◌, ◌&&◌, not, bit_and};
 ghost use Rattle.fdc_chip.specs.Chips.{chip_state};
 ghost use Rattle.fdc_chip.specs.Doing.{is_size};
-ghost use Rattle.fdc_chip.specs.Ending.{without_one, is_same_key, met_key, track_faults, results_of_track, with_fault, track_told, track_at, is_over, unread, LooksOn, ReadsOn, EndsAt};
+ghost use Rattle.fdc_chip.specs.Ending.{without_one, is_same_key, met_key, sector_met, track_faults, results_of_track, with_fault, track_told, track_at, is_over, unread, LooksOn, ReadsOn, EndsAt};
 
 use crate::chip::Chip;
-use crate::order::Order;
 use crate::stage::{Place, Stage, Task, Track};
 use crate::starting::is_size;
 use drive_model::Inspect;
@@ -23,7 +22,7 @@ const UNIT: u8 = 0x07;
 /// All of ST1 but EN.
 const WITHOUT_END: u8 = 0x7F;
 
-/// Why no sector is read after an address field, or why no field was met: ND for a size code that doesn't exist.
+/// Why no sector is read: why no address field was met, or else ND.
 fn unread(results: Results) -> St1
     ensures { result.0 ≡ unread results }
 {
@@ -61,6 +60,16 @@ impl Track {
             place: Place::Data,
             met: self.met || is_same_key(key, self.key),
             ..self
+        }
+    }
+
+    /// The sector of an address field. It has as many bytes as the command says, whatever the field says.
+    fn sector_met(self, key: Chrn) -> Chrn
+        ensures { result ≡ sector_met key self }
+    {
+        Chrn {
+            n: self.key.n,
+            ..key
         }
     }
 
@@ -147,17 +156,14 @@ impl<D: Inspect> Chip<D> {
         self.send(&[READ_ID, track.unit]);
     }
 
-    /// Reads the sector of the address field that was met.
+    /// Reads the data field of the address field that was met. The address field ended in this very device step.
     fn read_on(&mut self, track: Track, key: Chrn)
+        requires least { 1 ≤ track.key.n }
+        requires most { track.key.n ≤ 6 }
         ensures { ReadsOn track key (chip_state D.state self.old) (chip_state D.state self.new) }
     {
-        let order = Order {
-            unit: track.unit,
-            ..self.order
-        };
-        let bytes = order.reading_one(key).bytes();
         self.go_on(track.met_key(key));
-        self.send(&bytes);
+        self.behind.read_field(track.unit, track.sector_met(key));
     }
 
     /// Goes on after a part of the READ TRACK ended with these results.
@@ -175,7 +181,7 @@ impl<D: Inspect> Chip<D> {
             Place::Address => {
                 if track.counted {
                     self.tell_track(track);
-                } else if results.st1.bits() == 0 && is_size(results.key.n) {
+                } else if results.st1.bits() == 0 && is_size(track.key.n) {
                     self.read_on(track, results.key);
                 } else {
                     self.tell_track(track.with_fault(unread(results)));

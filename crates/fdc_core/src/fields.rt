@@ -90,8 +90,8 @@ fn reading_field(key: Chrn, last_sector: u8) -> Task
 }
 
 impl Fdc {
-    /// Begins a READ DATA of this sector where its address field has just passed: the data field behind it is read in
-    /// the same turn. The controller stands as if it had begun with that field, whose last word was the one before.
+    /// Begins a READ DATA of this sector where its address field has just passed. Its data field is read in the same
+    /// turn. The controller stands as if it had begun with that address field, whose last word was the one before.
     pub fn read_field(&mut self, head_drive: u8, key: Chrn, last_sector: u8)
         requires { IsSizeCode key.n }
         ensures { ReadsField (record { head_drive = head_drive; key = key; last_sector = last_sector }) self.old self.new }

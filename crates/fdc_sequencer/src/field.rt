@@ -31,8 +31,8 @@ fn sector_alone(head_drive: u8, key: Chrn) -> Transfer
 }
 
 impl<D: Inspect> Sequencer<D> {
-    /// Begins a READ DATA of this sector alone where its address field has just passed. The data field behind it is read
-    /// in the same turn.
+    /// Begins a READ DATA of this sector alone where its address field has just passed. Its data field is read in the
+    /// same turn.
     pub fn read_field(&mut self, head_drive: u8, key: Chrn)
         requires least { 1 ≤ key.n }
         requires most { key.n ≤ 6 }

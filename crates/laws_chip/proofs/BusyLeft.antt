@@ -262,7 +262,7 @@ sector_tracks false results track old new works is = told_none new works (ap (λ
 
 address_tracks : (b : Bool) (results : Results) (track : Track) (old new : ChipState) → has_command new.stage ≡ true → EndsAddress b results track old new → IsTracking new
 address_tracks true results track old new works is = told_none new works (ap (λ (chip : ChipState). has_command chip.stage) is)
-address_tracks false results track old new works ends = sector_tracks ((results.st1.0 == 0) && is_size results.key.n) results track old new works ends
+address_tracks false results track old new works ends = sector_tracks ((results.st1.0 == 0) && is_size track.key.n) results track old new works ends
 
 data_tracks : (b : Bool) (track : Track) (old new : ChipState) → has_command new.stage ≡ true → EndsData b track old new → IsTracking new
 data_tracks true track old new works is = told_none new works (ap (λ (chip : ChipState). has_command chip.stage) is)

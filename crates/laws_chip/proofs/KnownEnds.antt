@@ -255,7 +255,7 @@ sector_front false results track old new idle is = ap (λ (chip : ChipState). ch
 
 address_front : (b : Bool) (results : Results) (track : Track) (old new : ChipState) → is_busy new.stage ≡ false → EndsAddress b results track old new → new.front ≡ old.front
 address_front true results track old new idle is = ap (λ (chip : ChipState). chip.front) is
-address_front false results track old new idle ends = sector_front ((results.st1.0 == 0) && is_size results.key.n) results track old new idle ends
+address_front false results track old new idle ends = sector_front ((results.st1.0 == 0) && is_size track.key.n) results track old new idle ends
 
 data_front : (b : Bool) (track : Track) (old new : ChipState) → is_busy new.stage ≡ false → EndsData b track old new → new.front ≡ old.front
 data_front true track old new idle is = ap (λ (chip : ChipState). chip.front) is

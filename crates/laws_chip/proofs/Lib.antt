@@ -5,6 +5,7 @@ mod Standing
 mod Sending
 mod FirstSectors
 mod NineBytes
+mod FieldsRead
 mod CommandsBegun
 mod Rests
 mod Singles

@@ -205,12 +205,13 @@ index_poll true track old new is none = ap to_come is ∙ none
 index_poll false track old new (sends, rest) none = sends_poll (identifying track.unit) (with_seeks false old.front) new.front sends none
 
 met_poll : (met : Bool) (results : Results) (track : Track) (old new : ChipState) → EndsAddressIf met results track old new → to_come old ≡ false → to_come new ≡ false
-met_poll true results track old new (sends, rest) none = sends_poll (reading_one track.unit results.key old.order.gap old.order.length) (with_seeks false old.front) new.front sends none
+met_poll true results track old new (reads, rest) none =
+    (ap (λ (front : Front). awaits_poll front) reads.begun ∙ ap (λ (fdc : Fdc). fdc.poll_due) reads.reads.reads.2) ∙ none
 met_poll false results track old new is none = ap to_come is ∙ none
 
 address_poll : (counted : Bool) (results : Results) (track : Track) (old new : ChipState) → EndsAddress counted results track old new → to_come old ≡ false → to_come new ≡ false
 address_poll true results track old new is none = ap to_come is ∙ none
-address_poll false results track old new ends none = met_poll ((results.st1.0 == 0) && is_size results.key.n) results track old new ends none
+address_poll false results track old new ends none = met_poll ((results.st1.0 == 0) && is_size track.key.n) results track old new ends none
 
 data_poll : (over : Bool) (track : Track) (old new : ChipState) → EndsData over track old new → to_come old ≡ false → to_come new ≡ false
 data_poll true track old new is none = ap to_come is ∙ none

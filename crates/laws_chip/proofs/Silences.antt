@@ -45,7 +45,7 @@ sector_goes false results track old new is = tells _ old new is
 
 address_goes : (b : Bool) (results : Results) (track : Track) (old new : ChipState) → EndsAddress b results track old new → IsBusyOrTells new
 address_goes true results track old new is = tells _ old new is
-address_goes false results track old new ends = sector_goes ((results.st1.0 == 0) && is_size results.key.n) results track old new ends
+address_goes false results track old new ends = sector_goes ((results.st1.0 == 0) && is_size track.key.n) results track old new ends
 
 data_goes : (b : Bool) (track : Track) (old new : ChipState) → EndsData b track old new → IsBusyOrTells new
 data_goes true track old new is = tells _ old new is

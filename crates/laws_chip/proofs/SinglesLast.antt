@@ -75,7 +75,7 @@ sector_leaves false results track old new is same = other_kind 7 5 new refl (ap 
 
 address_leaves : (b : Bool) (results : Results) (track : Track) (old new : ChipState) → EndsAddress b results track old new → stage_kind new.stage ≡ 5 → ⊥
 address_leaves true results track old new is same = other_kind 7 5 new refl (ap (λ (chip : ChipState). stage_kind chip.stage) is) same
-address_leaves false results track old new ends same = sector_leaves ((results.st1.0 == 0) && is_size results.key.n) results track old new ends same
+address_leaves false results track old new ends same = sector_leaves ((results.st1.0 == 0) && is_size track.key.n) results track old new ends same
 
 data_leaves : (b : Bool) (track : Track) (old new : ChipState) → EndsData b track old new → stage_kind new.stage ≡ 6 → ⊥
 data_leaves true track old new is same = other_kind 7 6 new refl (ap (λ (chip : ChipState). stage_kind chip.stage) is) same

@@ -7,12 +7,11 @@ use Rattle.fdc_commands.specs.declared.results.Results.{Results}
 use Rattle.fdc_core.specs.State.{is_held}
 use Rattle.fdc_sequencer.specs.Fronts.{Front, TakesFront, interrupts_outside, told_front, with_seeks}
 use Rattle.fdc_sequencer.specs.Moves.{StepsFront}
-use Rattle.fdc_sequencer.specs.Opcodes.{opcode_of}
 use Rattle.fdc_sequencer.specs.Senses.{is_ready as is_ready_behind}
 use Rattle.fdc_chip.specs.Chips.{ChipState, asks_chip, interrupts_chip, with_front}
 use Rattle.fdc_chip.specs.Codes.{code_of}
-use Rattle.fdc_chip.specs.Doing.{SendsOn, drained, identifying, implies, is_size, moves_heads, moving, reading_one}
-use Rattle.fdc_chip.specs.Ending.{Ends, EndsAddress, EndsAddressIf, EndsAt, EndsData, EndsIf, EndsIndex, EndsSent, LooksOn, MayEnd, ReadsOn, has_results, is_over, looks_for_cylinder, met_key, results_behind, results_taken, told_results, track_at, unit_of, verified, without_one}
+use Rattle.fdc_chip.specs.Doing.{SendsOn, drained, identifying, implies, is_size, moves_heads, moving}
+use Rattle.fdc_chip.specs.Ending.{Ends, EndsAddress, EndsAddressIf, EndsAt, EndsData, EndsIf, EndsIndex, EndsSent, LooksOn, MayEnd, ReadsOn, has_results, is_over, looks_for_cylinder, met_key, results_behind, results_taken, sector_met, told_results, track_at, unit_of, verified, without_one}
 use Rattle.fdc_chip.specs.Paces.{EndsAt as EndsPace, GoesOnIf, Paces, PulsesIf, is_due, is_over as is_over_pace, stepped}
 use Rattle.fdc_chip.specs.Settings.{step_words}
 use Rattle.fdc_chip.specs.Steps.{Follows, FollowsTask, RunsChip, RunsChipWith, StepsChip, Swallows, SwallowsAs, SwallowsBy}
@@ -25,14 +24,15 @@ use Rattle.fdc_chip.specs.declared.stage.Task.{Task}
 use Rattle.fdc_chip.specs.declared.stage.Task.TheVariants as task
 use Rattle.fdc_chip.specs.declared.stage.Track.{Track}
 use Rattle.laws_chip.specs.Sound.{ExecutesBehind, IsBusyAt, IsBusyWith, IsSound, RestsBehind, ServesBehind}
-use Rattle.laws_chip.proofs.Attended.{attended_sound, done_sound, given_moves, one_order, recalibrated_rests, some_of}
+use Rattle.laws_chip.proofs.Attended.{attended_sound, done_sound, given_moves, recalibrated_rests}
 use Rattle.laws_chip.proofs.Channels.{IsOverBehind, counts_busy, counts_front_base, counts_over, takes_busy, takes_front_base, takes_over}
 use Rattle.laws_chip.proofs.CommandsBegun.{sought_stands}
+use Rattle.laws_chip.proofs.FieldsRead.{field_serves}
 use Rattle.laws_chip.proofs.FirstSectors.{IsBase}
 use Rattle.laws_chip.proofs.PassedOn.{none_wait}
 use Rattle.laws_chip.proofs.Rests.{IsResting, base_on, base_same, drained_rests, front_rests, stands_rests}
 use Rattle.laws_chip.proofs.Sending.{id_obeyed}
-use Rattle.laws_chip.proofs.ServedSteps.{order_serves, serves_step, tells_shown, tells_taken}
+use Rattle.laws_chip.proofs.ServedSteps.{serves_step, tells_shown, tells_taken}
 use Rattle.laws_chip.proofs.Singles.{executes_none, executes_step, id_executes, waits_shown, waits_taken}
 use Rattle.laws_chip.proofs.SoundParts.{IsBasis, at_rest, basis_busy, basis_front, basis_same, busy_at, is_busy, is_ready, rests_at, sound_basis, stays_sound}
 use Rattle.laws_chip.proofs.Standing.{Stands, heads_stand, ready_free}
@@ -44,20 +44,12 @@ told_sound : (results : Results) (old new : ChipState) → IsBasis old → Stand
 told_sound results old new basis stands is =
     done_sound old (told_results results old) new basis (stands_rests old.front stands) (record { front = refl; count = refl; order = refl }) refl is
 
--- the inner controller is given READ ID, or a READ DATA of one sector
+-- the inner controller is given READ ID
 id_given : (what : Task) (unit : ℕ) (set new : ChipState) → IsBasis set → Stands set.front → set.stage ≡ Busy what → (ExecutesBehind new.front → IsBusyWith what new.front) → SendsOn (identifying unit) set new → IsSound new
 id_given what unit set new basis stands at busy (sends, rest) =
     let obeyed = id_obeyed unit set.front new.front stands sends in
     let (executes, base) = id_executes unit set.front new.front stands obeyed in
     basis_busy new what (basis_same set new basis base (ap (λ (chip : ChipState). chip.count) rest) (ap (λ (chip : ChipState). chip.order) rest)) (busy executes)
-    (ap (λ (chip : ChipState). chip.stage) rest ∙ at)
-
-sector_given : (what : Task) (unit : ℕ) (key : Chrn) (gap length : ℕ) (set new : ChipState) → IsBasis set → Stands set.front → set.stage ≡ Busy what → is_size key.n ≡ true
-    → (ServesBehind new.front → IsBusyWith what new.front) → SendsOn (reading_one unit key gap length) set new → IsSound new
-sector_given what unit key gap length set new basis stands at sized busy (sends, rest) =
-    let (opcode, served) = some_of (opcode_of 0x46) refl in
-    let (serves, base) = order_serves opcode (one_order unit key gap length) set.front new.front stands served sized sends in
-    basis_busy new what (basis_same set new basis base (ap (λ (chip : ChipState). chip.count) rest) (ap (λ (chip : ChipState). chip.order) rest)) (busy serves)
     (ap (λ (chip : ChipState). chip.stage) rest ∙ at)
 
 -- the chip with what is then under way
@@ -72,10 +64,13 @@ looks_sound track old new basis stands looks =
     let next : Track = record track { place = Address } in
     id_given (task.Track next) track.unit (track_at next old) new (track_basis next old basis) (sought_stands false old.front stands) refl (λ executes. executes) looks
 
-reads_sound : (track : Track) (key : Chrn) (old new : ChipState) → IsBasis old → Stands old.front → is_size key.n ≡ true → ReadsOn track key old new → IsSound new
-reads_sound track key old new basis stands sized reads =
-    sector_given (task.Track (met_key key track)) track.unit key old.order.gap old.order.length (track_at (met_key key track) old) new (track_basis (met_key key track) old basis)
-    (sought_stands false old.front stands) refl sized (λ serves. serves) reads
+reads_sound : (track : Track) (key : Chrn) (old new : ChipState) → IsBasis old → Stands old.front → is_size track.key.n ≡ true → ReadsOn track key old new → IsSound new
+reads_sound track key old new basis stands sized (reads, rest) =
+    let met : Track = met_key key track in
+    let set = track_at met old in
+    let (serves, base) = field_serves track.unit (sector_met key track) set.front new.front (sought_stands false old.front stands) sized reads in
+    basis_busy new (task.Track met) (basis_same set new (track_basis met old basis) base (ap (λ (chip : ChipState). chip.count) rest) (ap (λ (chip : ChipState). chip.order) rest)) serves
+    (ap (λ (chip : ChipState). chip.stage) rest)
 
 sent_sound : (b : Bool) (results : Results) (old new : ChipState) → IsBasis old → Stands old.front → EndsSent b results old new → IsSound new
 sent_sound true results old new basis stands looks =
@@ -87,13 +82,13 @@ index_sound : (b : Bool) (track : Track) (old new : ChipState) → IsBasis old �
 index_sound true track old new basis stands is = told_sound _ old new basis stands is
 index_sound false track old new basis stands looks = looks_sound track old new basis stands looks
 
-met_sound : (b : Bool) (results : Results) (track : Track) (old new : ChipState) → IsBasis old → Stands old.front → ((results.st1.0 == 0) && is_size results.key.n) ≡ b → EndsAddressIf b results track old new → IsSound new
-met_sound true results track old new basis stands met reads = reads_sound track results.key old new basis stands (and_parts (results.st1.0 == 0) (is_size results.key.n) met).1 reads
+met_sound : (b : Bool) (results : Results) (track : Track) (old new : ChipState) → IsBasis old → Stands old.front → ((results.st1.0 == 0) && is_size track.key.n) ≡ b → EndsAddressIf b results track old new → IsSound new
+met_sound true results track old new basis stands met reads = reads_sound track results.key old new basis stands (and_parts (results.st1.0 == 0) (is_size track.key.n) met).1 reads
 met_sound false results track old new basis stands met is = told_sound _ old new basis stands is
 
 address_sound : (b : Bool) (results : Results) (track : Track) (old new : ChipState) → IsBasis old → Stands old.front → EndsAddress b results track old new → IsSound new
 address_sound true results track old new basis stands is = told_sound _ old new basis stands is
-address_sound false results track old new basis stands ends = met_sound ((results.st1.0 == 0) && is_size results.key.n) results track old new basis stands refl ends
+address_sound false results track old new basis stands ends = met_sound ((results.st1.0 == 0) && is_size track.key.n) results track old new basis stands refl ends
 
 data_sound : (b : Bool) (track : Track) (old new : ChipState) → IsBasis old → Stands old.front → EndsData b track old new → IsSound new
 data_sound true track old new basis stands is = told_sound _ old new basis stands is

@@ -1,25 +1,24 @@
 -- A READ TRACK ends: it looks for the index, and each sector that it reads leaves one fewer.
 use Rattle.std.proofs.Common.{◌≡◌, inl, inr, ℕ, zero, suc, ◌+◌, ◌-◌, ◌*◌, ◌%◌, ◌<◌, ◌≤◌, Bool, true, false, not, ◌&&◌, ◌||◌, ◌==◌, if◌then◌else◌, Option, List, [], ◌∷◌, bit_and, refl, sym, ◌∙◌, ap, subst, arith}
-use Rattle.std.proofs.lemmas.Bool.{and_parts, eqb-false, eqb-true, false≢true}
+use Rattle.std.proofs.lemmas.Bool.{eqb-false, eqb-true, false≢true}
 use Rattle.flop_base.specs.declared.key.Chrn.{Chrn}
 use Rattle.fdc_registers.specs.St1.{missing_mark, overrun}
 use Rattle.fdc_commands.specs.declared.results.Results.{Results}
 use Rattle.fdc_core.specs.Ports.{resets}
 use Rattle.fdc_core.specs.Ranges.{IsInRange}
 use Rattle.fdc_core.specs.Steps.{steps_left}
-use Rattle.fdc_sequencer.specs.Fronts.{Front, WritesFront, implies_seeks, with_seeks}
+use Rattle.fdc_sequencer.specs.Fronts.{Front, ReadsSector, WritesFront, implies_seeks, sector_alone, with_seeks}
 use Rattle.fdc_sequencer.specs.Moves.{StepsFront}
 use Rattle.fdc_sequencer.specs.Transfers.{is_last}
 use Rattle.fdc_sequencer.specs.declared.opcode.Opcode.{Opcode}
 use Rattle.fdc_sequencer.specs.declared.opcode.Operation.TheVariants.{Read}
-use Rattle.fdc_sequencer.specs.declared.stage.Stage.TheVariants.{Collecting}
 use Rattle.laws_sequencer.specs.Calls as behind
 use Rattle.laws_sequencer.specs.Lasting as lasting
 use Rattle.laws_sequencer.specs.Lasting.{HasRecords, is_under_way, most_steps}
-use Rattle.laws_sequencer.proofs.Lasted.{Lasts, call_lasts, calls_last, first_lasts, lasts_some, unsought_last}
+use Rattle.laws_sequencer.proofs.Lasted.{Lasts, call_lasts, calls_last, field_lasts, first_lasts, lasts_some}
 use Rattle.fdc_chip.specs.Chips.{ChipState, is_data, passes_by_channel, passes_by_port, with_front}
 use Rattle.fdc_chip.specs.Doing.{Obeys, Sends, TransfersIf, absent_key, implies, is_size, reading_one, sectors_of_track, track_begun, with_last}
-use Rattle.fdc_chip.specs.Ending.{EndsAddress, EndsAddressIf, EndsAt, EndsData, EndsIf, EndsIndex, LooksOn, ReadsOn, has_results, is_over, met_key, results_behind, results_taken, without_one}
+use Rattle.fdc_chip.specs.Ending.{EndsAddress, EndsAddressIf, EndsAt, EndsData, EndsIf, EndsIndex, LooksOn, ReadsOn, has_results, is_over, met_key, results_behind, results_taken, sector_met, without_one}
 use Rattle.fdc_chip.specs.Ports.{GivesChipIf, GivesIf, ReadsAt, ReadsChip, ReadsIf, TakesByte, TakesIf, count_told, counted_if, latched_by, reset_if, value_behind}
 use Rattle.fdc_chip.specs.Steps.{Follows, StepsChip}
 use Rattle.fdc_chip.specs.declared.code.Code.TheVariants.{ReadTrack}
@@ -35,11 +34,9 @@ use Rattle.laws_chip.specs.Calls.{Call, Does, is_step, steps_in, steps_of}
 use Rattle.laws_chip.specs.Lasting.{AreTracked, IsTracking, most_track_steps}
 use Rattle.laws_chip.specs.Sound.{IsBusyAt, IsSound, ServesBehind}
 use Rattle.laws_chip.proofs.Attended.{one_order}
-use Rattle.laws_chip.proofs.CommandsBegun.{sought_sent, sought_stands}
-use Rattle.laws_chip.proofs.FirstSectors.{base_held}
+use Rattle.laws_chip.proofs.CommandsBegun.{sought_sent}
 use Rattle.laws_chip.proofs.NineBytes.{order_begins}
 use Rattle.laws_chip.proofs.ServedSteps.{serves_step, tells_shown}
-use Rattle.laws_chip.proofs.Singles.{executes_none, executes_step, waits_taken}
 use Rattle.laws_chip.proofs.SinglesLast.{kind_of, left_most, left_some, place_kind, single_call, stage_kind, step_fewer}
 use Rattle.laws_chip.proofs.SoundCalls.{call_sound}
 use Rattle.laws_chip.proofs.SoundParts.{IsBasis, busy_at, is_busy, is_ready, sound_basis}
@@ -142,13 +139,10 @@ first_sector unit key gap length set new stands sized sends range =
     let first = transfer_sent (implies_seeks set) read_one order in
     subst (λ n. Lasts n new) (one_sector (implies_seeks set) unit key gap length) (first_lasts begins.byte first begins.start new begins.last (one_records (implies_seeks set) unit key gap length) begins.writes begins.stays range)
 
--- a sector for which no seek is implied
-sector_lasts : (unit : ℕ) (key : Chrn) (gap length : ℕ) (set new : Front) → Stands set → implies_seeks set ≡ false → is_size key.n ≡ true → Sends (reading_one unit key gap length) set new → Lasts 65792 new
-sector_lasts unit key gap length set new stands none sized sends =
-    let order = one_order unit key gap length in
-    let (begins, carried, starts) = order_begins read_one order set new stands refl sized sends in
-    let whole : Front = record set { stage = Collecting read_one; bytes = [] } in
-    subst (λ n. Lasts n new) (one_sector (implies_seeks set) unit key gap length) (unsought_last (transfer_sent (implies_seeks set) read_one order) whole new (one_records (implies_seeks set) unit key gap length) none begins.stays starts)
+-- a sector whose address field has just passed
+field_sector_lasts : (unit : ℕ) (key : Chrn) (set new : Front) → ReadsSector (sector_alone unit key) set new → Lasts 65792 new
+field_sector_lasts unit key set new reads =
+    subst (λ n. Lasts n new) (one_sector false unit key 0 0) (field_lasts (sector_alone unit key) set new (one_records false unit key 0 0) reads)
 
 -- ---- what comes of results
 
@@ -167,16 +161,12 @@ looks_leave n track old new some spent (sends, rest) =
     }
 
 -- the sector of the address field is read
-reads_leave : (n : ℕ) (track : Track) (key : Chrn) (old new : ChipState) → Stands old.front → is_size key.n ≡ true → 1 ≤ track.left → SpentAt Address n track.left → IsTracking new → ReadsOn track key old new → Leaves (n - 1) new
-reads_leave n track key old new stands sized some spent tracks (sends, rest) = record {
+reads_leave : (n : ℕ) (track : Track) (key : Chrn) (old new : ChipState) → 1 ≤ track.left → SpentAt Address n track.left → ReadsOn track key old new → Leaves (n - 1) new
+reads_leave n track key old new some spent (reads, rest) = record {
   track = met_key key track;
   at = ap (λ (chip : ChipState). chip.stage) rest;
   some = some;
-  leaves = (
-    65792,
-    sector_lasts track.unit key old.order.gap old.order.length (with_seeks false old.front) new.front (sought_stands false old.front stands) refl sized sends,
-    spent,
-  );
+  leaves = (65792, field_sector_lasts track.unit (sector_met key track) (with_seeks false old.front) new.front reads, spent);
 }
 
 -- a command that gives its results isn't under way
@@ -187,15 +177,13 @@ index_leaves : (b : Bool) (n : ℕ) (track : Track) (old new : ChipState) → 1 
 index_leaves true n track old new some spent tracks is = told_none new tracks (ap (λ (chip : ChipState). is_busy chip.stage) is)
 index_leaves false n track old new some spent tracks looks = looks_leave n track old new some spent looks
 
-met_leaves : (b : Bool) (n : ℕ) (results : Results) (track : Track) (old new : ChipState) → Stands old.front → 1 ≤ track.left → SpentAt Address n track.left → IsTracking new
-    → ((results.st1.0 == 0) && is_size results.key.n) ≡ b → EndsAddressIf b results track old new → Leaves (n - 1) new
-met_leaves true n results track old new stands some spent tracks met reads =
-    reads_leave n track results.key old new stands (and_parts (results.st1.0 == 0) (is_size results.key.n) met).1 some spent tracks reads
-met_leaves false n results track old new stands some spent tracks met is = told_none new tracks (ap (λ (chip : ChipState). is_busy chip.stage) is)
+met_leaves : (b : Bool) (n : ℕ) (results : Results) (track : Track) (old new : ChipState) → 1 ≤ track.left → SpentAt Address n track.left → IsTracking new → EndsAddressIf b results track old new → Leaves (n - 1) new
+met_leaves true n results track old new some spent tracks reads = reads_leave n track results.key old new some spent reads
+met_leaves false n results track old new some spent tracks is = told_none new tracks (ap (λ (chip : ChipState). is_busy chip.stage) is)
 
-address_leaves : (b : Bool) (n : ℕ) (results : Results) (track : Track) (old new : ChipState) → Stands old.front → 1 ≤ track.left → SpentAt Address n track.left → IsTracking new → EndsAddress b results track old new → Leaves (n - 1) new
-address_leaves true n results track old new stands some spent tracks is = told_none new tracks (ap (λ (chip : ChipState). is_busy chip.stage) is)
-address_leaves false n results track old new stands some spent tracks ends = met_leaves ((results.st1.0 == 0) && is_size results.key.n) n results track old new stands some spent tracks refl ends
+address_leaves : (b : Bool) (n : ℕ) (results : Results) (track : Track) (old new : ChipState) → 1 ≤ track.left → SpentAt Address n track.left → IsTracking new → EndsAddress b results track old new → Leaves (n - 1) new
+address_leaves true n results track old new some spent tracks is = told_none new tracks (ap (λ (chip : ChipState). is_busy chip.stage) is)
+address_leaves false n results track old new some spent tracks ends = met_leaves ((results.st1.0 == 0) && is_size track.key.n) n results track old new some spent tracks ends
 
 -- the sector was one of those that were left, and it isn't the last
 one_fewer : (n left : ℕ) → 1 ≤ left → 131328 * left ≤ n - 1 + 131328 → 131328 * (left - 1) ≤ n - 1
@@ -219,24 +207,10 @@ data_leaves false n results track old new some spent tracks over looks =
 
 -- ---- a device step
 
--- the inner controller is free once the results of READ ID were taken
-free_taken : (old : ChipState) (between : Front) → IsBasis old → StepsFront old.front between → IsBusyAt Address old.front → has_results between ≡ true → Stands (results_taken between)
-free_taken old between basis step executes waits =
-    let (goes, base) = executes_step old.front between step basis.whole executes in
-    let free = base_held old.front.adapter.controller between.adapter.controller base ∙ basis.free in
-    elim goes [
-      | inl still ↦ absurd (false≢true (sym (executes_none between free still) ∙ waits))
-      | inr over ↦ (waits_taken between free base.command (base.non_dma ∙ basis.by_dma) over).0
-    ]
-
-place_leaves : (place : Place) (n : ℕ) (track : Track) (results : Results) (old : ChipState) (between : Front) (new : ChipState) → IsBasis old → StepsFront old.front between → has_results between ≡ true
-    → IsBusyAt place old.front → 1 ≤ track.left → SpentAt place n track.left → IsTracking new → EndsAt place track results (with_front (results_taken between) old) new → Leaves (n - 1) new
-place_leaves Index n track results old between new basis step waits busy some spent tracks ends =
-    index_leaves (not (bit_and results.st1.0 missing_mark == 0)) n track (with_front (results_taken between) old) new some spent tracks ends
-place_leaves Address n track results old between new basis step waits busy some spent tracks ends =
-    address_leaves track.counted n results track (with_front (results_taken between) old) new (free_taken old between basis step busy waits) some spent tracks ends
-place_leaves Data n track results old between new basis step waits busy some spent tracks ends =
-    data_leaves (is_over results (without_one results track)) n results track (with_front (results_taken between) old) new some spent tracks refl ends
+place_leaves : (place : Place) (n : ℕ) (track : Track) (results : Results) (old new : ChipState) → 1 ≤ track.left → SpentAt place n track.left → IsTracking new → EndsAt place track results old new → Leaves (n - 1) new
+place_leaves Index n track results old new some spent tracks ends = index_leaves (not (bit_and results.st1.0 missing_mark == 0)) n track old new some spent tracks ends
+place_leaves Address n track results old new some spent tracks ends = address_leaves track.counted n results track old new some spent tracks ends
+place_leaves Data n track results old new some spent tracks ends = data_leaves (is_over results (without_one results track)) n results track old new some spent tracks refl ends
 
 step_leaves : (n : ℕ) (old new : ChipState) → IsSound old → Leaves n old → StepsChip old new → IsTracking new → Leaves (n - 1) new
 step_leaves n old new sound was step tracks =
@@ -250,7 +224,7 @@ step_leaves n old new sound was step tracks =
 
     by_end : (b : Bool) → has_results step.between ≡ b → EndsIf b (task.Track was.track) (with_front step.between old) new → Leaves (n - 1) new
     by_end true waits ends =
-        place_leaves was.track.place n was.track (results_behind step.between) old step.between new basis step.steps waits busy was.some
+        place_leaves was.track.place n was.track (results_behind step.between) (with_front (results_taken step.between) (with_front step.between old)) new was.some
         (spent_at was.track.place n was.track.left old.front busy was.some was.leaves) tracks ends
     by_end false silent is = subst (Leaves (n - 1)) (sym is) (record {
       track = was.track;

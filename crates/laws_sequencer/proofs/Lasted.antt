@@ -27,7 +27,7 @@ use Rattle.fdc_core.specs.Whole.{TakesWhole, ending_told, is_idle, mark_of}
 use Rattle.fdc_core.specs.declared.controller.Fdc.{Fdc}
 use Rattle.fdc_core.specs.declared.controller.Lines.{Lines}
 use Rattle.fdc_adapter.specs.Adapters.{AdapterState, StepsAdapter, WritesAdapter, lines_at, selected_at}
-use Rattle.fdc_sequencer.specs.Fronts.{BeginsSector, CollectsAs, Front, GivesAt, SeeksFirst, Starts, StartsIf, TakesAt, TakesByte, WritesFront, begun_if, byte_given, count_told, passed_one, reset_if, told_if}
+use Rattle.fdc_sequencer.specs.Fronts.{BeginsSector, CollectsAs, Front, GivesAt, ReadsSector, SeeksFirst, Starts, StartsIf, TakesAt, TakesByte, WritesFront, begun_if, byte_given, count_told, passed_one, reset_if, told_if}
 use Rattle.fdc_sequencer.specs.Moves.{EndsIf, EndsSector, FollowsStep, MovesOn, SeeksOn, goes_on, has_met_other, is_unwanted, judged_if, passed_over_if, results_behind, results_failed, would_go_on}
 use Rattle.fdc_sequencer.specs.Transfers.{is_last, next_of}
 use Rattle.fdc_sequencer.specs.declared.opcode.Operation.{Operation}
@@ -406,10 +406,11 @@ starts_last first old new bytes range stays starts = by_seek first.seeks starts
     by_seek true seeks = by_idle seeks (is_idle seeks.between.controller) refl seeks.begun
     by_seek false begins = begins_lasts (most_steps first) first false false old new bytes (moved_first (sectors_from first)) stays begins
 
--- where no seek is implied, the controller's numbers play no part
-pub unsought_last : (first : Transfer) (old new : Front) → HasRecords first → first.seeks ≡ false → (new.stage ≡ Through → ⊥) → Starts (Some first) old new → Lasts (most_steps first) new
-unsought_last first old new bytes none stays starts =
-    begins_lasts (most_steps first) first false false old new bytes (moved_first (sectors_from first)) stays (subst (λ b. StartsIf b first old new) none starts)
+-- a sector whose address field has just passed
+pub field_lasts : (at : Transfer) (old new : Front) → HasRecords at → ReadsSector at old new → Lasts (most_steps at) new
+field_lasts at old new bytes reads =
+    let counted : IsCounted reads.between.controller.phase = subst (λ (fdc : Fdc). IsCounted fdc.phase) (sym reads.reads.reads.2) (omega arith) in
+    subst (Lasts (most_steps at)) (sym reads.begun) (begun_within false (most_steps at) at reads.between bytes (moved_first (sectors_from at)) counted)
 
 -- the last byte of a command starts it
 first_starts : (byte : ℕ) (first : Transfer) (start begun : Front) → IsLastByte byte first start → WritesFront 0x3F5 byte start begun → Starts (Some first) (record start { bytes = [] }) begun

@@ -12,6 +12,7 @@ use Rattle.fdc_commands.specs.declared.command.Command.TheVariants.{ReadData, Se
 use Rattle.fdc_stages.specs.History.{Past, begun as new_past}
 use Rattle.fdc_core.specs.Commands.{BeginsData, Obeys, TakesAs, answered}
 use Rattle.fdc_core.specs.Dma.{told_count}
+use Rattle.fdc_core.specs.Fields.{ReadsField, address_words, heard_words}
 use Rattle.fdc_core.specs.Heard.{MayRead}
 use Rattle.fdc_phases.specs.Heard.{Sent, told_in}
 use Rattle.fdc_core.specs.Listening.{is_executing}
@@ -23,7 +24,7 @@ use Rattle.fdc_core.specs.declared.controller.Fdc.{Fdc}
 use Rattle.fdc_core.specs.declared.controller.Lines.{Lines}
 use Rattle.fdc_phases.specs.declared.phases.Phase.TheVariants.{Result}
 use Rattle.fdc_adapter.specs.Adapters.{AdapterState}
-use Rattle.fdc_sequencer.specs.Fronts.{told_if, moving_of}
+use Rattle.fdc_sequencer.specs.Fronts.{moving_of, sector_alone, told_if}
 use Rattle.laws_sequencer.specs.Serving.{Accounts, Carries, IsFree, IsOfOther, MayMove, bytes_moved, sent_of}
 use Rattle.fdc_sequencer.specs.Transfers.{command_for, command_of, is_skipping, size_of}
 use Rattle.fdc_sequencer.specs.declared.opcode.Operation.{Operation}
@@ -234,4 +235,22 @@ begun_carries operation met at false between begun = record {
   free = begun.free;
   accounts = begun_accounts operation met at false (mark_of between.controller) begun.sized;
   passes = λ skips other. absurd (begun_mark operation (sent_of at) between.controller begun.moves skips other);
+}
+
+-- ---- a sector whose address field has just passed
+
+-- the words of the address field are what was heard
+pub field_carries : (head_drive : ℕ) (key : Chrn) (old new : Fdc) → IsSizeCode key.n → IsFree old → ReadsField (sent_of (sector_alone head_drive key)) old new
+    → Carries (Read false false) false (moving_of (sector_alone head_drive key) false false) (heard_words (address_words key)) new
+field_carries head_drive key old new sized free (task, is, after) = record {
+  moves = subst (MayRead (heard_words (address_words key)) (sent_of (sector_alone head_drive key))) (sym after) is;
+  busy = ap (λ fdc. is_executing fdc.phase) after;
+  free = subst IsFree (sym after) (record { rests = free.rests; by_dma = free.by_dma });
+  accounts = record {
+    sized = sized;
+    bytes = inl (refl, refl, zero-add (size_of key.n) ∙ size_is key.n sized);
+    clean = λ skips other. refl;
+    told = sym (size_some key.n sized);
+  };
+  passes = λ skips other. absurd (false≢true skips);
 }
