@@ -106,8 +106,8 @@ static const Case marks[] = {
 static const Case bad_checks[] = {
     {"SK 1, its check is bad: it is passed over all the same", {READ | SK, 0, 9, 0, 3, 2, 18, GAP}, 5 * 512, 5 * 512, {0x20, 0, 0x40, 9, 0, 9, 2}},
     {"and where it is the last", {READ | SK, 0, 9, 0, 5, 2, 5, GAP}, 512, 0, {0x60, 0x80, 0x40, 9, 0, 5, 2}},
-    {"SK 0, its check is bad: DE", {READ, 0, 9, 0, 3, 2, 18, GAP}, 6 * 512, 3 * 512, {0x60, 0x20, 0x20, 9, 0, 5, 2}},
-    {"READ DELETED of it, SK 1: DE", {READ_DELETED | SK, 0, 9, 0, 5, 2, 18, GAP}, 512, 512, {0x60, 0x20, 0x20, 9, 0, 5, 2}},
+    {"SK 0, its check is bad: DE, DD and CM", {READ, 0, 9, 0, 3, 2, 18, GAP}, 6 * 512, 3 * 512, {0x60, 0x20, 0x60, 9, 0, 5, 2}},
+    {"READ DELETED of it, SK 1: DE and DD, without CM", {READ_DELETED | SK, 0, 9, 0, 5, 2, 18, GAP}, 512, 512, {0x60, 0x20, 0x20, 9, 0, 5, 2}},
 };
 
 static int is_all(const uint8_t *bytes, size_t count, uint8_t value) {

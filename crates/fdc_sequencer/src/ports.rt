@@ -51,7 +51,9 @@ impl<D: Inspect> Sequencer<D> {
         match self.stage {
             Stage::Through => self.adapter.read(STATUS),
             Stage::Collecting { .. } => Msr(self.adapter.read(STATUS)).union(Msr::BUSY).bits(),
-            Stage::Seeking { transfer, .. } => Msr::BUSY.union(drive_bit(transfer.head_drive)).bits(),
+            Stage::Seeking { transfer, .. } => Msr::BUSY
+                .union(drive_bit(transfer.head_drive))
+                .bits(),
             Stage::Moving { .. } => Msr::BUSY.bits(),
             Stage::Telling { .. } => Msr::RQM.union(Msr::DIO).union(Msr::BUSY).bits(),
         }
