@@ -216,7 +216,7 @@ static inline int reckon_sector(Model *model, Course *course, size_t count, cons
     int is_bad = sector->has_bad_content && !is_writing(at) && !is_over;
     if (!is_over && (at[0] & KIND) != OF_VERIFY) pass_sector(sector, at, count, given, out);
     if (is_bad) {
-        seven(out, at, 0x40, 0x20, 0x20 | course->cm, at + KEY);
+        seven(out, at, 0x40, 0x20, 0x20 | course->cm | (is_other ? 0x40 : 0), at + KEY);
         return 1;
     }
     if (!is_over && course->left > 0) course->left--;

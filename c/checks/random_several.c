@@ -170,14 +170,16 @@ static void reckon(const Command *command_sent, uint8_t *place, Wanted *wanted) 
         if (!over) wanted->passed += single.passed;
         if (failed) {
             ends[1]++;
-            tell(wanted, &at, &at, 0x40, single.result[1], single.result[2] | (met ? 0x40 : 0));
+            /* CM of the single READ DATA says that its sector is deleted. Here it says that a mark isn't a wanted one. */
+            int is_met = met || (wrong && has_bad_check);
+            tell(wanted, &at, &at, 0x40, single.result[1], (single.result[2] & ~0x40) | (is_met ? 0x40 : 0));
             return;
         }
         sectors++;
         passed_over += over;
         damaged += has_bad_check;
         met |= wrong;
-        if (!is_write(&at) && !has_bad_check) need(((single.result[2] & 0x40) != 0) == mark_at(&at), "the mark is the one that was written");
+        if (!is_write(&at)) need(((single.result[2] & 0x40) != 0) == mark_at(&at), "the mark is the one that was written");
         behind = at;
         go_on(&behind);
         if ((!over && wanted->passed == at.count) || (wrong && !skips)) {

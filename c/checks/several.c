@@ -106,8 +106,8 @@ static const Case marks[] = {
 static const Case bad_checks[] = {
     {"SK 1, its check is bad: it is passed over all the same", {READ | SK, 0, 9, 0, 3, 2, 18, GAP}, 5 * 512, 5 * 512, {0x20, 0, 0x40, 9, 0, 9, 2}},
     {"and where it is the last", {READ | SK, 0, 9, 0, 5, 2, 5, GAP}, 512, 0, {0x60, 0x80, 0x40, 9, 0, 5, 2}},
-    {"SK 0, its check is bad: DE", {READ, 0, 9, 0, 3, 2, 18, GAP}, 6 * 512, 3 * 512, {0x60, 0x20, 0x20, 9, 0, 5, 2}},
-    {"READ DELETED of it, SK 1: DE", {READ_DELETED | SK, 0, 9, 0, 5, 2, 18, GAP}, 512, 512, {0x60, 0x20, 0x20, 9, 0, 5, 2}},
+    {"SK 0, its check is bad: DE, DD and CM", {READ, 0, 9, 0, 3, 2, 18, GAP}, 6 * 512, 3 * 512, {0x60, 0x20, 0x60, 9, 0, 5, 2}},
+    {"READ DELETED of it, SK 1: DE and DD, without CM", {READ_DELETED | SK, 0, 9, 0, 5, 2, 18, GAP}, 512, 512, {0x60, 0x20, 0x20, 9, 0, 5, 2}},
 };
 
 static int is_all(const uint8_t *bytes, size_t count, uint8_t value) {
@@ -415,6 +415,30 @@ static uint32_t flat_code(uint8_t *c, uint8_t *h) {
     return code;
 }
 
+/* 21 sectors of 512 bytes with so much gap 3: what a FORMAT answers. */
+static void tight(uint8_t gap, const uint8_t *told, const char *what) {
+    const uint8_t bytes[] = {FORMAT, 4, 2, 21, gap, 0xF6};
+    for (uint8_t r = 1; r <= 21; r++) {
+        const uint8_t key[] = {34, 1, r, 2};
+        memcpy(buffer + 4 * (r - 1), key, 4);
+    }
+    seek(&guest, 34);
+    channel(&guest, buffer, 4 * 21);
+    command(&guest, bytes, 6);
+    check(guest.results == 7 && memcmp(guest.result, told, 7) == 0, what);
+}
+
+/* Before the first sector there are 146 words, and each sector has 574 and its gap. With a gap of 15 the index comes
+ * right after the last sector's CRC, on word 12,500. */
+static void tight_tracks(void) {
+    static const Case last = {"the last of them is read", {READ, 4, 34, 1, 21, 2, 21, GAP}, 512, 512, {0x24, 0, 0, 35, 1, 1, 2}};
+    static const uint8_t whole[] = {0x04, 0, 0, 34, 1, 21, 2}, done[] = {0x04, 0, 0, 0, 0, 0, 0}, cut[] = {0x44, 0x01, 0x01, 0, 0, 0, 0};
+    tight(16, cut, "21 sectors with a gap of 16 don't fit");
+    tight(14, whole, "with 14 they fit, gaps and all");
+    tight(15, done, "with 15 the index cuts the gap after the last sector alone");
+    try_one(&last);
+}
+
 static void flat_files(void) {
     static const Case last = {"the last of 21 sectors is read", {READ, 4, 33, 1, 21, 2, 21, GAP}, 512, 512, {0x24, 0, 0, 34, 1, 1, 2}};
     uint8_t c = 0, h = 0;
@@ -449,6 +473,8 @@ int main(void) {
     step_times(1);
     held();
     configure(&guest, FIFO_OFF | EIS);
+    tight_tracks();
+    format(34, 1, 18, 0x6C);
     flat_files();
     protect();
     MUST(telwyddus_controller_free(&guest.controller));

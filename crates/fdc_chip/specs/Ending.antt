@@ -1,16 +1,21 @@
 -- How what the inner controller executes ends, and what comes of it.
-use Rattle.std.specs.Prelude.{◌≡◌, ℕ, ◌+◌, ◌-◌, ◌%◌, Bool, true, false, not, ◌==◌, ◌&&◌, ◌||◌, if◌then◌else◌, bit_and}
+use Rattle.std.specs.Prelude.{◌≡◌, ℕ, ◌+◌, ◌-◌, ◌*◌, ◌%◌, nat_le, Bool, true, false, not, ◌==◌, ◌&&◌, ◌||◌, Option, Some, None, if◌then◌else◌, bit_and}
 use Rattle.std.specs.Int.Bits.{bit_xor}
 use Rattle.std.specs.Int.RustNames.{bit_or}
 use Rattle.flop_base.specs.declared.key.Chrn.{Chrn}
+use Rattle.raw_image.specs.Disk.{Disk}
 use Rattle.fdc_registers.specs.St0.{abnormal, seek_end}
 use Rattle.fdc_registers.specs.St1.{end_of_cylinder, overrun, no_data, missing_mark}
-use Rattle.fdc_registers.specs.St2.{wrong_cylinder, bad_cylinder}
+use Rattle.fdc_registers.specs.St2.{wrong_cylinder, bad_cylinder, missing_data_mark}
 use Rattle.fdc_commands.specs.declared.results.Results.{Results}
+use Rattle.fdc_adapter.specs.Adapters.{drive_at, selected_at}
+use Rattle.fdc_sequencer.specs.Senses.{is_through}
+use Rattle.fdc_sequencer.specs.Transfers.{size_of}
 use Rattle.fdc_sequencer.specs.Fronts.{Front, ReadsSector, after_reading, sector_alone, value_outside, with_seeks}
 use Rattle.fdc_chip.specs.Chips.{ChipState, KeepsRest, with_front}
 use Rattle.fdc_chip.specs.Codes.{has_bit, has_multitrack}
 use Rattle.fdc_chip.specs.Doing.{SendsOn, told, identifying, is_size}
+use Rattle.fdc_chip.specs.Orders.{is_format}
 use Rattle.fdc_chip.specs.declared.answer.Answer.TheVariants as answer
 use Rattle.fdc_chip.specs.declared.order.Order.{Order}
 use Rattle.fdc_chip.specs.declared.stage.Place.{Place}
@@ -56,6 +61,46 @@ results_taken front = behind_one (behind_six front)
 -- results wait to be read
 abbrev pub has_results : Front → Bool
 has_results front = bit_and (value_outside 0x3F4 front) 0xC0 == 0xC0
+
+-- ---- FORMAT TRACK
+
+-- the words of the layout: 146 before the first sector, and in each sector its content, gap 3 and 62 others
+abbrev pub layout_words : Order → ℕ
+layout_words order = 146 + order.key.h * (62 + size_of order.key.c + order.key.r)
+
+-- the words of a track of the medium that is in a drive, or 0 if none is in
+abbrev pub words_in : Option Disk → ℕ
+words_in None = 0
+words_in (Some disk) = disk.words_per_track
+
+-- all sectors of the layout fit on the track, and gap 3 of the last one may be cut
+abbrev pub fits_but_gap : Order → ℕ → Bool
+fits_but_gap order words = nat_le (layout_words order) (words + order.key.r)
+
+-- all its sectors fit on the medium in the drive that DOR selects
+abbrev pub fits_selected : ChipState → Bool
+fits_selected chip = let bay = selected_at chip.front.adapter in
+    nat_le bay 1 && fits_but_gap chip.order (words_in (drive_at chip.front.adapter bay).medium)
+
+-- the inner controller itself executed a FORMAT TRACK, all of whose sectors fit
+abbrev pub has_room : ChipState → Bool
+has_room chip = is_format chip.order && (is_through chip.front.stage && fits_selected chip)
+
+-- the index came before the whole layout was written
+abbrev pub says_cut : Results → Bool
+says_cut results = (results.st1.0 == missing_mark) && (results.st2.0 == missing_data_mark)
+
+-- these results, with IC 00 and without an error
+abbrev pub as_done : Results → Results
+as_done results = record results { st0 = record { 0 = bit_and results.st0.0 0x3F }; st1 = record { 0 = 0 }; st2 = record { 0 = 0 } }
+
+abbrev pub done_if : Bool → Results → Results
+done_if room results = if room && says_cut results then as_done results else results
+
+-- the results that wait, as the chip judges them: a FORMAT TRACK is done if the index cut nothing but gap 3 of its last
+-- sector
+abbrev pub results_judged : ChipState → Results
+results_judged chip = done_if (has_room chip) (results_behind chip.front)
 
 -- ---- what is reported
 
@@ -237,7 +282,7 @@ Ends (task.Verify _) results old new = let told = verified old.order results in 
 Ends (task.Track track) results old new = EndsAt track.place track results old new
 
 abbrev pub EndsIf : Bool → Task → ChipState → ChipState → Type 0
-EndsIf true task old new = Ends task (results_behind old.front) (with_front (results_taken old.front) old) new
+EndsIf true task old new = Ends task (results_judged old) (with_front (results_taken old.front) old) new
 EndsIf false task old new = new ≡ old
 
 -- if results of the task wait, they are taken, and `Ends` says what comes of them

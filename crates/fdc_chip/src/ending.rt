@@ -145,7 +145,7 @@ impl<D: Inspect> Chip<D> {
     }
 
     /// Takes all seven bytes of the results.
-    fn take_results(&mut self) -> Results
+    pub(crate) fn take_results(&mut self) -> Results
         ensures results { result ≡ results_behind (chip_state D.state self.old).front }
         ensures after { chip_state D.state self.new ≡ with_front (results_taken (chip_state D.state self.old).front) (chip_state D.state self.old) }
     {
@@ -177,7 +177,7 @@ impl<D: Inspect> Chip<D> {
         ensures { MayEnd task (chip_state D.state self.old) (chip_state D.state self.new) }
     {
         if self.has_results() {
-            let results = self.take_results();
+            let results = self.take_judged();
             self.end(task, results);
         }
     }

@@ -14,6 +14,7 @@ mod chip;
 mod code;
 mod doing;
 mod ending;
+mod formatted;
 mod interrupts;
 mod moving;
 mod order;

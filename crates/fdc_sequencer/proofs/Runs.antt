@@ -95,13 +95,14 @@ under_way_step : (front : Front) (mid : AdapterState) → IsUnderWay front → S
 under_way_step front mid under steps holds =
     let new : Front = record front { adapter = mid } in
     let wanted : is_unwanted under.moving (mark_of mid.controller) ≡ false = ap (is_unwanted under.moving) holds.mark ∙ under.wanted in
-    let moves : MovesOn None under.moving new new = ap (λ unwanted. passed_over_if unwanted under.moving new) (sym wanted) in
+    let was = mark_of front.adapter.controller in
+    let moves : MovesOn was None under.moving new new = ap (λ unwanted. passed_over_if unwanted under.moving new) (sym wanted) in
     let goes : ending_told mid.controller ≡ None = holds.ended ∙ under.goes in
     record {
       between = mid;
       steps = steps;
-      follows = subst (λ (stage : Stage). FollowsStep stage new new) (sym under.at)
-          (subst (λ ending. MovesOn (judged_if under.moving ending) under.moving new new) (sym goes) moves);
+      follows = subst (λ (stage : Stage). FollowsStep was stage new new) (sym under.at)
+          (subst (λ ending. MovesOn was (judged_if under.moving ending) under.moving new new) (sym goes) moves);
     }
 
 under_way_along : (front : Front) (mid : AdapterState) → IsUnderWay front → HoldsLines front.adapter.controller mid.controller

@@ -1,8 +1,9 @@
 -- Device steps of a front in which nothing is done.
-use Rattle.std.proofs.Common.{◌≡◌, true, sym, ap, ◌∙◌, subst}
+use Rattle.std.proofs.Common.{◌≡◌, Bool, Option, true, sym, ap, ◌∙◌, subst}
 use Rattle.std.proofs.lemmas.Bool.{true≢false}
 use Rattle.fdc_adapter.specs.Adapters.{AdapterState}
 use Rattle.fdc_adapter.specs.Still.{Stands}
+use Rattle.fdc_core.specs.Whole.{mark_of}
 use Rattle.fdc_sequencer.specs.Fronts.{Front, KeepsFront}
 use Rattle.fdc_sequencer.specs.Moves.{FollowsStep, StepsFront}
 use Rattle.fdc_sequencer.specs.Still.{StandsFront, rests_at}
@@ -10,16 +11,16 @@ use Rattle.fdc_sequencer.specs.declared.stage.Stage.{Stage}
 use Rattle.fdc_sequencer.specs.declared.stage.Stage.TheVariants.{Through, Collecting, Seeking, Moving, Telling}
 
 -- nothing is done after the adapter's step
-follows_none : (stage : Stage) (old new : Front) → rests_at stage ≡ true → FollowsStep stage old new → new ≡ old
-follows_none Through old new rests follows = follows
-follows_none (Collecting opcode) old new rests follows = follows
-follows_none (Telling results read) old new rests follows = follows
-follows_none (Seeking transfer counted) old new rests follows = absurd (true≢false (sym rests))
-follows_none (Moving moving) old new rests follows = absurd (true≢false (sym rests))
+follows_none : (mark : Option Bool) (stage : Stage) (old new : Front) → rests_at stage ≡ true → FollowsStep mark stage old new → new ≡ old
+follows_none mark Through old new rests follows = follows
+follows_none mark (Collecting opcode) old new rests follows = follows
+follows_none mark (Telling results read) old new rests follows = follows
+follows_none mark (Seeking transfer counted) old new rests follows = absurd (true≢false (sym rests))
+follows_none mark (Moving moving) old new rests follows = absurd (true≢false (sym rests))
 
 -- the device step is the adapter's alone
 rests_on : (old new : Front) (step : StepsFront old new) → rests_at old.stage ≡ true → new ≡ record old { adapter = step.between }
-rests_on old new step rests = follows_none old.stage (record old { adapter = step.between }) new rests step.follows
+rests_on old new step rests = follows_none (mark_of old.adapter.controller) old.stage (record old { adapter = step.between }) new rests step.follows
 
 -- if that step leaves the controller as it is, all but the drives stays
 adapter_stands : (front old : Front) (between : AdapterState) → KeepsFront front old → between.controller ≡ front.adapter.controller → KeepsFront front (record old { adapter = between })

@@ -9,6 +9,7 @@ use Rattle.fdc_core.specs.Whole.{ending_told, given_up, mark_of, without_seek}
 use Rattle.fdc_adapter.specs.Adapters.{AdapterState, StepsAdapter}
 use Rattle.fdc_sequencer.specs.Fronts.{Front, with_controller, told_if, BeginsSector, interrupts_outside, asks_outside}
 use Rattle.fdc_sequencer.specs.Transfers.{next_of, is_last, is_other, other_mark, is_skipping, results_told, size_of}
+use Rattle.fdc_sequencer.specs.declared.opcode.Operation.{Operation}
 use Rattle.fdc_sequencer.specs.declared.stage.Moving.{Moving as MovingSector}
 use Rattle.fdc_sequencer.specs.declared.stage.Stage.{Stage}
 use Rattle.fdc_sequencer.specs.declared.stage.Stage.TheVariants.{Seeking, Moving, Telling}
@@ -37,9 +38,18 @@ results_behind moving deleted = let at = moving.transfer in
     if would_go_on moving deleted then results_told NoCount at at.key (has_met_other moving deleted)
     else results_told (Done false) at (next_of at).key (has_met_other moving deleted)
 
--- the results of a failure, with the sector ID as it was sent
-abbrev pub results_failed : MovingSector → Ending → Results
-results_failed moving ending = results_told ending moving.transfer moving.transfer.key moving.passed_over
+-- a field whose CRC is wrong has this mark, and the mark isn't wanted
+abbrev pub is_bad_other : Operation → Ending → Option Bool → Bool
+is_bad_other operation BadCheck (Some deleted) = is_other operation deleted
+is_bad_other operation _ _ = false
+
+-- a field with the mark that isn't wanted was met before this one, or it is this one, whose CRC is wrong
+abbrev pub has_failed_other : Option Bool → MovingSector → Ending → Bool
+has_failed_other mark moving ending = moving.passed_over || is_bad_other moving.transfer.opcode.operation ending mark
+
+-- the results of a failure at a field with this mark, with the sector ID as it was sent
+abbrev pub results_failed : Option Bool → MovingSector → Ending → Results
+results_failed mark moving ending = results_told ending moving.transfer moving.transfer.key (has_failed_other mark moving ending)
 
 abbrev pub EndsIf : Bool → MovingSector → Bool → Front → Front → Type 0
 EndsIf true moving deleted old new = BeginsSector (next_of moving.transfer) false (has_met_other moving deleted) old new
@@ -55,10 +65,11 @@ abbrev pub judged_if : MovingSector → Option Ending → Option Ending
 judged_if moving None = None
 judged_if moving (Some ending) = Some (judged moving ending)
 
--- what the front does when the controller's own command for a sector has this ending, as it is judged
-abbrev pub EndsSector : MovingSector → Ending → Front → Front → Type 0
-EndsSector moving (Done deleted) old new = EndsIf (goes_on moving deleted) moving deleted old new
-EndsSector moving ending old new = new ≡ record old { stage = Telling (results_failed moving ending) 0 }
+-- what the front does when the controller's own command for a sector has this ending, as it is judged. This mark of the
+-- field was known before that
+abbrev pub EndsSector : Option Bool → MovingSector → Ending → Front → Front → Type 0
+EndsSector mark moving (Done deleted) old new = EndsIf (goes_on moving deleted) moving deleted old new
+EndsSector mark moving ending old new = new ≡ record old { stage = Telling (results_failed mark moving ending) 0 }
 
 -- ---- device steps
 
@@ -76,11 +87,11 @@ passed_over_if true moving old =
 passed_over_if false moving old = old
 
 -- what the front does after the controller's step, while a sector is moved. The controller's own command has this
--- ending, as it is judged, or it goes on
-abbrev pub MovesOn : Option Ending → MovingSector → Front → Front → Type 0
-MovesOn (Some ending) moving old new =
-    EndsSector moving ending (record old { adapter = with_controller (given_up old.adapter.controller) old.adapter }) new
-MovesOn None moving old new = new ≡ passed_over_if (is_unwanted moving (mark_of old.adapter.controller)) moving old
+-- ending, as it is judged, or it goes on. This mark of the field was known before the step
+abbrev pub MovesOn : Option Bool → Option Ending → MovingSector → Front → Front → Type 0
+MovesOn mark (Some ending) moving old new =
+    EndsSector mark moving ending (record old { adapter = with_controller (given_up old.adapter.controller) old.adapter }) new
+MovesOn mark None moving old new = new ≡ passed_over_if (is_unwanted moving (mark_of old.adapter.controller)) moving old
 
 -- what the front does after the controller's step, while the heads seek
 abbrev pub SeeksOn : Bool → Transfer → Bool → Front → Front → Type 0
@@ -88,16 +99,17 @@ SeeksOn true transfer counted old new =
     BeginsSector transfer counted false (record old { adapter = with_controller (without_seek old.adapter.controller) old.adapter }) new
 SeeksOn false transfer counted old new = new ≡ old
 
-abbrev pub FollowsStep : Stage → Front → Front → Type 0
-FollowsStep (Seeking transfer counted) old new = SeeksOn (has_ended_seek old.adapter.controller.seeks) transfer counted old new
-FollowsStep (Moving moving) old new = MovesOn (judged_if moving (ending_told old.adapter.controller)) moving old new
-FollowsStep _ old new = new ≡ old
+-- what the front does after the controller's step, before which this mark of a field was known
+abbrev pub FollowsStep : Option Bool → Stage → Front → Front → Type 0
+FollowsStep mark (Seeking transfer counted) old new = SeeksOn (has_ended_seek old.adapter.controller.seeks) transfer counted old new
+FollowsStep mark (Moving moving) old new = MovesOn mark (judged_if moving (ending_told old.adapter.controller)) moving old new
+FollowsStep mark _ old new = new ≡ old
 
 -- one device step: that of the adapter, and what the front does after it
 pub record StepsFront (old new : Front) : Type 0 where
   pub between : AdapterState
   pub steps : StepsAdapter old.adapter between
-  pub follows : FollowsStep old.stage (record old { adapter = between }) new
+  pub follows : FollowsStep (mark_of old.adapter.controller) old.stage (record old { adapter = between }) new
 
 -- ---- many steps
 

@@ -1,11 +1,16 @@
 -- The controller of the sequencer, for a layer in front of the sequencer that keeps the results of seeks itself.
-use Rattle.std.specs.Prelude.{ℕ, Bool, false, Option, None}
+use Rattle.std.specs.Prelude.{ℕ, Bool, true, false, Option, None}
 use Rattle.fdc_adapter.specs.Senses.{pending_result, after_result}
 use Rattle.fdc_core.specs.Whole.{is_idle, recalibrated_within}
 use Rattle.fdc_core.specs.declared.controller.Fdc.{Fdc}
 use Rattle.fdc_sequencer.specs.Fronts.{Front, with_controller}
 use Rattle.fdc_sequencer.specs.declared.stage.Stage.{Stage}
 use Rattle.fdc_sequencer.specs.declared.stage.Stage.TheVariants.{Through}
+
+-- each access is the controller's: no command of several sectors comes, is under way or gives results
+abbrev pub is_through : Stage → Bool
+is_through Through = true
+is_through _ = false
 
 -- no command of several sectors is under way, and the controller takes the first byte of a command
 abbrev pub is_ready_at : Stage → Fdc → Bool

@@ -5,7 +5,7 @@ ghost use Rattle.fdc_core.specs.Whole.{ending_told};
 ghost use Rattle.fdc_commands.specs.Seeking.{has_ended_seek};
 ghost use Rattle.fdc_core.specs.Listening.{is_executing};
 ghost use Rattle.fdc_sequencer.specs.Fronts.{front_state, adapter_of, told_if, begun_if, BeginsSector, moving_of};
-ghost use Rattle.fdc_sequencer.specs.Moves.{StepsFront, FollowsStep, MovesOn, EndsSector, SeeksOn, passed_over_if, would_go_on, goes_on, is_unwanted, judged, judged_if, results_behind, results_failed, has_met_other};
+ghost use Rattle.fdc_sequencer.specs.Moves.{StepsFront, FollowsStep, MovesOn, EndsSector, SeeksOn, passed_over_if, would_go_on, goes_on, is_unwanted, judged, judged_if, results_behind, results_failed, has_met_other, has_failed_other, is_bad_other};
 
 use crate::sequencer::Sequencer;
 use crate::stage::{Moving, Stage};
@@ -19,17 +19,19 @@ impl<D: Inspect> Sequencer<D> {
     pub fn step(&mut self)
         ensures { StepsFront (front_state D.state self.old) (front_state D.state self.new) }
     {
+        // The mark is known until the step in which the command ends, and no longer after it.
+        let mark = self.adapter.mark();
         self.adapter.step();
-        self.follow_step();
+        self.follow_step(mark);
     }
 
-    /// Does what has to be done after the adapter's step.
-    fn follow_step(&mut self)
-        ensures { FollowsStep self.old.stage (front_state D.state self.old) (front_state D.state self.new) }
+    /// Does what has to be done after the adapter's step, before which this mark of a field was known.
+    fn follow_step(&mut self, mark: Option<bool>)
+        ensures { FollowsStep mark self.old.stage (front_state D.state self.old) (front_state D.state self.new) }
     {
         match self.stage {
             Stage::Seeking { transfer, counted } => self.follow_seek(transfer, counted),
-            Stage::Moving { moving } => self.follow_sector(moving),
+            Stage::Moving { moving } => self.follow_sector(mark, moving),
             _ => {}
         }
     }
@@ -44,12 +46,12 @@ impl<D: Inspect> Sequencer<D> {
     }
 
     /// Begins the next sector or gives the results, if this sector ended. If it didn't, a field whose mark isn't wanted
-    /// may have been met, which is then passed over.
-    fn follow_sector(&mut self, moving: Moving)
-        ensures { MovesOn (judged_if moving (ending_told (controller_of (adapter_of self.old)))) moving (front_state D.state self.old) (front_state D.state self.new) }
+    /// may have been met, which is then passed over. This mark of the field was known before the step.
+    fn follow_sector(&mut self, mark: Option<bool>, moving: Moving)
+        ensures { MovesOn mark (judged_if moving (ending_told (controller_of (adapter_of self.old)))) moving (front_state D.state self.old) (front_state D.state self.new) }
     {
         match self.adapter.take_ending() {
-            Some(ending) => self.end_sector(moving, moving.judged(ending)),
+            Some(ending) => self.end_sector(mark, moving, moving.judged(ending)),
             None => {
                 if moving.is_unwanted(self.adapter.mark()) {
                     self.pass_over(moving);
@@ -73,16 +75,17 @@ impl<D: Inspect> Sequencer<D> {
         };
     }
 
-    /// The controller's own command for the sector has this ending, as it is judged.
-    fn end_sector(&mut self, moving: Moving, ending: Ending)
-        ensures { EndsSector moving ending (front_state D.state self.old) (front_state D.state self.new) }
+    /// The controller's own command for the sector has this ending, as it is judged. This mark of the field was known
+    /// before that.
+    fn end_sector(&mut self, mark: Option<bool>, moving: Moving, ending: Ending)
+        ensures { EndsSector mark moving ending (front_state D.state self.old) (front_state D.state self.new) }
     {
         match ending {
             Ending::Done { deleted } if moving.goes_on(deleted) => {
                 self.begin_sector(moving.transfer.next(), false, moving.has_met_other(deleted));
             }
             Ending::Done { deleted } => self.tell(moving.results_behind(deleted)),
-            _ => self.tell(moving.results_failed(ending)),
+            _ => self.tell(moving.results_failed(mark, ending)),
         }
     }
 
@@ -207,11 +210,31 @@ impl Moving {
         )
     }
 
-    /// The results of a failure at this sector.
-    fn results_failed(self, ending: Ending) -> Results
-        ensures { result ≡ results_failed self ending }
+    /// Whether a field with the mark that isn't wanted was met before a failure, or is this field, whose CRC is wrong.
+    fn has_failed_other(self, mark: Option<bool>, ending: Ending) -> bool
+        ensures { result ≡ has_failed_other mark self ending }
     {
-        self.transfer
-            .results(ending, self.transfer.key, self.passed_over)
+        self.passed_over || self.is_bad_other(mark, ending)
+    }
+
+    /// Whether the CRC of this field is wrong, and its mark isn't wanted (data sheet: CM is set too where DD is).
+    fn is_bad_other(self, mark: Option<bool>, ending: Ending) -> bool
+        ensures { result ≡ is_bad_other self.transfer.opcode.operation ending mark }
+    {
+        match ending {
+            Ending::BadCheck => match mark {
+                Some(deleted) => self.transfer.is_other(deleted),
+                None => false,
+            },
+            _ => false,
+        }
+    }
+
+    /// The results of a failure at this sector, whose field has this mark, if a mark was met.
+    fn results_failed(self, mark: Option<bool>, ending: Ending) -> Results
+        ensures { result ≡ results_failed mark self ending }
+    {
+        let met_other = self.has_failed_other(mark, ending);
+        self.transfer.results(ending, self.transfer.key, met_other)
     }
 }

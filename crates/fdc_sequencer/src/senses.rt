@@ -3,7 +3,7 @@ ghost use Rattle.std.specs.Prelude.{◌≡◌};
 ghost use Rattle.fdc_adapter.specs.Adapters.{controller_of, SameDrives};
 ghost use Rattle.fdc_core.specs.State.{is_gated};
 ghost use Rattle.fdc_sequencer.specs.Fronts.{front_state, adapter_of};
-ghost use Rattle.fdc_sequencer.specs.Senses.{is_ready, pending_outside, recalibrated_outside, sensed_outside};
+ghost use Rattle.fdc_sequencer.specs.Senses.{is_ready, is_through, pending_outside, recalibrated_outside, sensed_outside};
 
 use crate::sequencer::Sequencer;
 use crate::stage::Stage;
@@ -18,6 +18,13 @@ impl<D: Inspect> Sequencer<D> {
             Stage::Through => self.adapter.is_idle(),
             _ => false,
         }
+    }
+
+    /// Whether each access is the controller's: no command of several sectors comes, is under way or gives results.
+    pub fn is_through(&self) -> bool
+        ensures { result ≡ is_through (front_state D.state self.now).stage }
+    {
+        matches!(self.stage, Stage::Through)
     }
 
     /// Whether DOR lets INT and DRQ out.

@@ -1,5 +1,5 @@
 -- How many device steps are left of a command that is executed: each call leaves fewer, by the device step that it is.
-use Rattle.std.proofs.Common.{◌≡◌, ◌⊎◌, inl, inr, ℕ, ◌+◌, ◌-◌, ◌*◌, ◌<◌, ◌≤◌, Bool, true, false, not, ◌&&◌, ◌==◌, List, [], ◌∷◌, bit_and, refl, sym, ◌∙◌, ap, subst, arith}
+use Rattle.std.proofs.Common.{◌≡◌, ◌⊎◌, inl, inr, ℕ, ◌+◌, ◌-◌, ◌*◌, ◌<◌, ◌≤◌, Bool, true, false, not, ◌&&◌, ◌==◌, List, [], ◌∷◌, bit_and, if◌then◌else◌, refl, sym, ◌∙◌, ap, subst, arith}
 use Rattle.std.proofs.lemmas.Bool.{and_right, false≢true}
 use Rattle.flop_base.specs.declared.key.Chrn.{Chrn}
 use Rattle.fdc_registers.specs.St1.{missing_mark}
@@ -15,7 +15,7 @@ use Rattle.laws_sequencer.specs.Lasting.{is_under_way}
 use Rattle.laws_sequencer.proofs.Lasted.{Lasts, call_lasts, calls_last}
 use Rattle.fdc_chip.specs.Chips.{ChipState, with_front}
 use Rattle.fdc_chip.specs.Doing.{is_size}
-use Rattle.fdc_chip.specs.Ending.{EndsAddress, EndsAddressIf, EndsAt, EndsData, EndsIf, EndsIndex, EndsSent, MayEnd, has_key, has_results, is_not_found, is_over, looks_for_cylinder, results_behind, results_taken, verified, without_one}
+use Rattle.fdc_chip.specs.Ending.{EndsAddress, EndsAddressIf, EndsAt, EndsData, EndsIf, EndsIndex, EndsSent, MayEnd, has_key, has_results, is_not_found, is_over, looks_for_cylinder, results_behind, results_taken, verified, without_one, results_judged, as_done, done_if, has_room, says_cut}
 use Rattle.fdc_chip.specs.Steps.{Follows, StepsChip, SwallowsAll}
 use Rattle.fdc_chip.specs.declared.order.Order.{Order}
 use Rattle.fdc_chip.specs.declared.stage.Place.{Place}
@@ -165,9 +165,17 @@ single_on call n old new sound at was does still order =
 no_look : (order : Order) (results : Results) → is_read_id order ≡ true → looks_for_cylinder order results ≡ false
 no_look order results is = ap (λ b. not b && is_not_found results) is
 
+-- a format that is done found its sector IDs
+done_found : (room : Bool) (results : Results) → is_not_found results ≡ false → is_not_found (done_if room results) ≡ false
+done_found room results found = by_cut (room && says_cut results)
+  where
+    by_cut : (b : Bool) → is_not_found (if b then as_done results else results) ≡ false
+    by_cut true = refl
+    by_cut false = found
+
 never_looks : (old : ChipState) (between : Front) → IsSound old → old.stage ≡ Busy task.Sent → StepsFront old.front between → ExecutesBehind old.front → NeverLooks old → has_results between ≡ true
-    → looks_for_cylinder old.order (results_behind between) ≡ false
-never_looks old between sound at step was (inl is) shown = no_look old.order (results_behind between) is
+    → looks_for_cylinder old.order (results_judged (with_front between old)) ≡ false
+never_looks old between sound at step was (inl is) shown = no_look old.order (results_judged (with_front between old)) is
 never_looks old between sound at step was (inr is) shown =
     let (goes, base) = executes_step old.front between step sound.whole was in
     let free = base_held old.front.adapter.controller between.adapter.controller base ∙ (sound_basis old (ap is_ready at) sound).free in
@@ -175,7 +183,9 @@ never_looks old between sound at step was (inr is) shown =
       | inl executes ↦ clash (has_results between) (executes_none between free executes) shown
       | inr waits ↦
           let found : is_not_found waits.results ≡ false = subst FormatsOn waits.at (formats_step old.front between step was.through is) in
-          and_right (has_key old.order) (is_not_found (results_behind between)) (ap is_not_found (results_are between waits.ending waits.results waits.through waits.at) ∙ found)
+          let judged : is_not_found (results_judged (with_front between old)) ≡ false =
+          done_found (has_room (with_front between old)) (results_behind between) (ap is_not_found (results_are between waits.ending waits.results waits.through waits.at) ∙ found) in
+          and_right (has_key old.order) (is_not_found (results_judged (with_front between old))) judged
     ]
 
 -- ---- ---- the steps of each task
@@ -188,10 +198,10 @@ sent_step n old new step sound at left works = by_end (has_results step.between)
 
     by_end : (b : Bool) → has_results step.between ≡ b → TaskLeft task.Sent n old → EndsIf b task.Sent (with_front step.between old) new → BusyLeft (n - 1) new
     by_end true shown (inl was) ends =
-        let results = results_behind step.between in
+        let results = results_judged (with_front step.between old) in
         ended_left (looks_for_cylinder old.order results) n results old (with_front (results_taken step.between) old) new (serves_of old sound at was.under) was works ends
     by_end true shown (inr was) ends =
-        let results = results_behind step.between in
+        let results = results_judged (with_front step.between old) in
         let told : EndsSent false results (with_front (results_taken step.between) old) new =
         subst (λ b. EndsSent b results (with_front (results_taken step.between) old) new) (never_looks old step.between sound at step.steps was.executes was.never shown) ends in
         told_none new works (ap (λ (chip : ChipState). has_command chip.stage) told)
@@ -237,7 +247,7 @@ verify_on call n left now old new sound still at was does one stage =
 verify_ends : (b : Bool) (n left now : ℕ) (old set new : ChipState) (step : StepsChip old new) → IsSound old → IsSound new → old.stage ≡ Busy (task.Verify left) → ServedLeft n old → has_command new.stage ≡ true
     → set.stage ≡ Busy (task.Verify now) → EndsIf b (task.Verify left) set new → BusyLeft (n - 1) new
 verify_ends true n left now old set new step sound still at was works stage ends =
-    let told = verified set.order (results_behind set.front) in
+    let told = verified set.order (results_judged set) in
     ended_left (looks_for_cylinder set.order told) n told old (with_front (results_taken set.front) set) new (busy_at old (task.Verify left) at sound) was works ends
 verify_ends false n left now old set new step sound still at was works stage is =
     verify_on made.Steps n left now old new sound still at was step one_step (ap (λ (chip : ChipState). chip.stage) is ∙ stage)
@@ -274,7 +284,7 @@ place_tracks Address track results old new works ends = address_tracks track.cou
 place_tracks Data track results old new works ends = let over = without_one results track in data_tracks (is_over results over) over old new works ends
 
 track_ends : (b : Bool) (track : Track) (set new : ChipState) → set.stage ≡ Busy (task.Track track) → has_command new.stage ≡ true → EndsIf b (task.Track track) set new → IsTracking new
-track_ends true track set new at works ends = place_tracks track.place track (results_behind set.front) (with_front (results_taken set.front) set) new works ends
+track_ends true track set new at works ends = place_tracks track.place track (results_judged set) (with_front (results_taken set.front) set) new works ends
 track_ends false track set new at works is = tracks_as track new (ap (λ (chip : ChipState). chip.stage) is ∙ at)
 
 pub leaves_left : (n : ℕ) (new : ChipState) → Leaves n new → BusyLeft n new

@@ -46,6 +46,7 @@ use Rattle.laws_sequencer.proofs.Resting.{polled_phase}
 use Rattle.fdc_chip.specs.Chips.{ChipState, passes_by_channel, passes_by_port, with_front}
 use Rattle.fdc_chip.specs.Codes.{code_of}
 use Rattle.fdc_chip.specs.Doing.{Obeys, identifying}
+use Rattle.fdc_chip.specs.Orders.{is_format}
 use Rattle.fdc_chip.specs.Ending.{EndsIf, EndsSent, MayEnd, is_not_found, looks_for_cylinder, results_behind, results_taken, told_results}
 use Rattle.fdc_chip.specs.Ports as ports
 use Rattle.fdc_chip.specs.Ports.{GivesChipIf, GivesIf, ReadsAt, ReadsIf, TakesByte, TakesIf, latched_by, value_behind}
@@ -64,6 +65,7 @@ use Rattle.laws_chip.specs.Identifying.{IsIdBegun, StaysUnder, TurnsOnBy, is_rea
 use Rattle.laws_chip.specs.Lasting.{AreAt}
 use Rattle.laws_chip.specs.Sound.{ExecutesBehind, IsSound, executes_single}
 use Rattle.laws_chip.specs.Told.{Tells}
+use Rattle.laws_chip.proofs.Tellings.{judged_other}
 use Rattle.laws_chip.proofs.Channels.{counts_executes, front_gives, front_left, front_takes, gives_executes, keeps_executes, port_executes, takes_executes}
 use Rattle.laws_chip.proofs.CommandsBegun.{begins_sent}
 use Rattle.laws_chip.proofs.FirstSectors.{IsBase, base_held}
@@ -196,6 +198,10 @@ is_telling _ = false
 no_look : (order : Order) (results : Results) → is_read_id order ≡ true → looks_for_cylinder order results ≡ false
 no_look order results is = ap (λ b. not b && is_not_found results) is
 
+-- a READ ID is no FORMAT TRACK
+read_id_other : (order : Order) → is_read_id order ≡ true → is_format order ≡ false
+read_id_other order is = ap (λ kind. kind == 0x0D) (eqb-true (bit_and order.code 0x1F) 0x0A is)
+
 -- READ ID goes on, or its results are given
 record TellsId (place : Place) (unit : ℕ) (between : Front) (new : ChipState) : Type 0 where
   ending : Ending
@@ -213,8 +219,10 @@ step_goes place unit old new step sound was at =
     elim goes [
       | inl executes ↦ inl (subst (λ b. EndsIf b Sent set new) (executes_none step.between free executes) may, executes)
       | inr waits ↦
+          let same = judged_other set (read_id_other old.order was.order) in
           let ends : EndsSent (looks_for_cylinder old.order (results_behind step.between)) (results_behind step.between) (with_front (results_taken step.between) set) new =
-          subst (λ b. EndsIf b Sent set new) (waits_shown step.between free waits) may in
+          subst (λ r. EndsSent (looks_for_cylinder old.order r) r (with_front (results_taken step.between) set) new) same
+          (subst (λ b. EndsIf b Sent set new) (waits_shown step.between free waits) may) in
           let is : new ≡ told_results (results_behind step.between) (with_front (results_taken step.between) set) =
           subst (λ b. EndsSent b (results_behind step.between) (with_front (results_taken step.between) set) new) (no_look old.order (results_behind step.between) was.order) ends in
           inr (record {

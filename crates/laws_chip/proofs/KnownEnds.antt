@@ -21,7 +21,7 @@ use Rattle.fdc_sequencer.specs.Senses.{is_ready, pending_outside, recalibrated_a
 use Rattle.fdc_chip.specs.Chips.{ChipState, passes, passes_at, passes_by_channel, passes_by_port, with_front}
 use Rattle.fdc_chip.specs.Codes.{code_of}
 use Rattle.fdc_chip.specs.Doing.{Asks, AttendsIf, AttendsTo, MovesIf, Obeys, Sends, SendsOn, configured as chip_configured, configuring, drained, drained_by, drained_one, is_moving, is_size, moves_heads, moving, needs_heads, ready, relative_target}
-use Rattle.fdc_chip.specs.Ending.{Ends, EndsAddress, EndsAddressIf, EndsAt, EndsData, EndsIf, EndsIndex, EndsSent, MayEnd, has_results, is_over, looks_for_cylinder, results_behind, results_taken, verified, without_one}
+use Rattle.fdc_chip.specs.Ending.{Ends, EndsAddress, EndsAddressIf, EndsAt, EndsData, EndsIf, EndsIndex, EndsSent, MayEnd, has_results, is_over, looks_for_cylinder, results_taken, verified, without_one, results_judged}
 use Rattle.fdc_chip.specs.Interrupts.{cylinder_of}
 use Rattle.fdc_chip.specs.Orders.{is_format}
 use Rattle.fdc_chip.specs.Paces as paces
@@ -276,7 +276,7 @@ ends_front (task.Track track) results old new idle ends = place_front track.plac
 taken_tells : (what : Task) (chip new : ChipState) → is_busy new.stage ≡ false → has_results chip.front ≡ true → Stands (results_taken chip.front) → MayEnd what chip new → Tells new
 taken_tells what chip new idle shown stands may =
     let set = with_front (results_taken chip.front) chip in
-    front_tells set new (ends_front what (results_behind chip.front) set new idle (subst (λ b. EndsIf b what chip new) shown may)) (stands_tell (results_taken chip.front) stands)
+    front_tells set new (ends_front what (results_judged chip) set new idle (subst (λ b. EndsIf b what chip new) shown may)) (stands_tell (results_taken chip.front) stands)
 
 may_tell : (what under : Task) (chip new : ChipState) → is_busy new.stage ≡ false → IsBasis chip → chip.stage ≡ Busy under → IsAtStep under chip.front → MayEnd what chip new → Tells new
 may_tell what under chip new idle basis at (inl busy) may =

@@ -12,7 +12,7 @@ use Rattle.laws_sequencer.proofs.Called.{both_within}
 use Rattle.laws_sequencer.proofs.Sectors.{steps_both}
 use Rattle.laws_sequencer.proofs.Shown.{none_shown}
 use Rattle.fdc_chip.specs.Chips.{ChipState, passes_by_channel, passes_by_port, with_front}
-use Rattle.fdc_chip.specs.Ending.{EndsIf, EndsSent, has_results, looks_for_cylinder, results_behind, results_taken}
+use Rattle.fdc_chip.specs.Ending.{EndsIf, EndsSent, has_results, looks_for_cylinder, results_taken, results_judged}
 use Rattle.fdc_chip.specs.Ports.{GivesChipIf, GivesIf, ReadsAt, ReadsChip, ReadsIf, TakesByte, TakesIf, WritesChip, count_told, latched_by, given_one, reset_if, value_behind}
 use Rattle.fdc_chip.specs.Steps.{Follows, StepsChip}
 use Rattle.fdc_chip.specs.declared.stage.Stage.{Stage}
@@ -39,13 +39,13 @@ step_same old new step sent still = by_end (has_results step.between) (subst (λ
   where
     by_end : (b : Bool) → EndsIf b Sent (with_front step.between old) new → new ≡ with_front step.between old
     by_end true ends =
-        absurd (taken_over (looks_for_cylinder old.order (results_behind step.between)) (results_behind step.between) (with_front (results_taken step.between) old) new ends still)
+        absurd (taken_over (looks_for_cylinder old.order (results_judged (with_front step.between old))) (results_judged (with_front step.between old)) (with_front (results_taken step.between) old) new ends still)
     by_end false is = is
 
 -- while the command is still served, no results wait
 pub no_results : (old new : ChipState) (step : StepsChip old new) → old.stage ≡ Busy Sent → new.stage ≡ Busy Sent → has_results step.between ≡ true → ⊥
 no_results old new step sent still shown =
-    taken_over (looks_for_cylinder old.order (results_behind step.between)) (results_behind step.between) (with_front (results_taken step.between) old) new
+    taken_over (looks_for_cylinder old.order (results_judged (with_front step.between old))) (results_judged (with_front step.between old)) (with_front (results_taken step.between) old) new
     (subst (λ b. EndsIf b Sent (with_front step.between old) new) shown (subst (λ stage. Follows stage (with_front step.between old) new) sent step.follows)) still
 
 -- while a command is under way no results wait

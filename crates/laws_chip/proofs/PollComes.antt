@@ -386,31 +386,31 @@ done_poll : (goes : Bool) (moving : MovingSector) (deleted : Bool) (old new : Fr
 done_poll true moving deleted old new begins none = sector_poll (next_of moving.transfer) false (has_met_other moving deleted) old new begins none
 done_poll false moving deleted old new is none = ap awaits_poll is ∙ none
 
-ends_poll : (moving : MovingSector) (ending : Ending) (old new : Front) → EndsSector moving ending old new → awaits_poll old ≡ false → awaits_poll new ≡ false
-ends_poll moving (Done deleted) old new ends none = done_poll (goes_on moving deleted) moving deleted old new ends none
-ends_poll moving _ old new is none = ap awaits_poll is ∙ none
+ends_poll : (mark : Option Bool) (moving : MovingSector) (ending : Ending) (old new : Front) → EndsSector mark moving ending old new → awaits_poll old ≡ false → awaits_poll new ≡ false
+ends_poll mark moving (Done deleted) old new ends none = done_poll (goes_on moving deleted) moving deleted old new ends none
+ends_poll mark moving _ old new is none = ap awaits_poll is ∙ none
 
 over_poll : (unwanted : Bool) (moving : MovingSector) (old : Front) → awaits_poll (passed_over_if unwanted moving old) ≡ awaits_poll old
 over_poll true moving old = refl
 over_poll false moving old = refl
 
-moves_poll : (ending : Option Ending) (moving : MovingSector) (old new : Front) → MovesOn ending moving old new → awaits_poll old ≡ false → awaits_poll new ≡ false
-moves_poll (Some ending) moving old new ends none =
+moves_poll : (mark : Option Bool) (ending : Option Ending) (moving : MovingSector) (old new : Front) → MovesOn mark ending moving old new → awaits_poll old ≡ false → awaits_poll new ≡ false
+moves_poll mark (Some ending) moving old new ends none =
     let fdc = old.adapter.controller in
-    ends_poll moving ending (record old { adapter = with_controller (given_up fdc) old.adapter }) new ends (given_up_poll (ending_told fdc) fdc ∙ none)
-moves_poll None moving old new is none = ap awaits_poll is ∙ (over_poll (is_unwanted moving (mark_of old.adapter.controller)) moving old ∙ none)
+    ends_poll mark moving ending (record old { adapter = with_controller (given_up fdc) old.adapter }) new ends (given_up_poll (ending_told fdc) fdc ∙ none)
+moves_poll mark None moving old new is none = ap awaits_poll is ∙ (over_poll (is_unwanted moving (mark_of old.adapter.controller)) moving old ∙ none)
 
-follows_poll : (stage : Stage) (old new : Front) → FollowsStep stage old new → awaits_poll old ≡ false → awaits_poll new ≡ false
-follows_poll Through old new is none = ap awaits_poll is ∙ none
-follows_poll (Collecting opcode) old new is none = ap awaits_poll is ∙ none
-follows_poll (Seeking transfer counted) old new seeks none = seeks_poll (has_ended_seek old.adapter.controller.seeks) transfer counted old new seeks none
-follows_poll (Moving moving) old new moves none = moves_poll (judged_if moving (ending_told old.adapter.controller)) moving old new moves none
-follows_poll (Telling results read) old new is none = ap awaits_poll is ∙ none
+follows_poll : (mark : Option Bool) (stage : Stage) (old new : Front) → FollowsStep mark stage old new → awaits_poll old ≡ false → awaits_poll new ≡ false
+follows_poll mark Through old new is none = ap awaits_poll is ∙ none
+follows_poll mark (Collecting opcode) old new is none = ap awaits_poll is ∙ none
+follows_poll mark (Seeking transfer counted) old new seeks none = seeks_poll (has_ended_seek old.adapter.controller.seeks) transfer counted old new seeks none
+follows_poll mark (Moving moving) old new moves none = moves_poll mark (judged_if moving (ending_told old.adapter.controller)) moving old new moves none
+follows_poll mark (Telling results read) old new is none = ap awaits_poll is ∙ none
 
 -- the poll has come after a device step, if it came before or DOR doesn't hold the controller in reset
 pub step_poll : (old new : Front) → StepsFront old new → (awaits_poll old && not (is_held old.adapter.controller)) ≡ awaits_poll old → awaits_poll new ≡ false
 step_poll old new step comes =
-    follows_poll old.stage (record old { adapter = step.between }) new step.follows (adapter_poll old.adapter step.between step.steps ∙ by_poll (awaits_poll old) (awaits_poll old && not (is_held old.adapter.controller)) comes refl)
+    follows_poll (mark_of old.adapter.controller) old.stage (record old { adapter = step.between }) new step.follows (adapter_poll old.adapter step.between step.steps ∙ by_poll (awaits_poll old) (awaits_poll old && not (is_held old.adapter.controller)) comes refl)
   where
     by_poll : (was comes : Bool) → comes ≡ was → awaits_poll old ≡ was
         → due (if comes then record old.adapter.controller { poll_due = false; interrupt = true; seeks = with_polls old.adapter.controller.seeks } else old.adapter.controller) ≡ false

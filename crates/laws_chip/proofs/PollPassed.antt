@@ -18,7 +18,7 @@ use Rattle.fdc_sequencer.specs.declared.stage.Stage.TheVariants.{Through, Collec
 use Rattle.fdc_chip.specs.Chips.{ChipState, is_data, passes_by_channel, passes_by_port, with_front}
 use Rattle.fdc_chip.specs.Codes.{code_of}
 use Rattle.fdc_chip.specs.Doing.{AttendsIf, AttendsTo, Begins, BeginsReadId, FormatsIf, MovesIf, Obeys, RemembersIf, Sends, SendsOn, TransfersIf, absent_key, begun, configuring, drained, drained_by, format_bytes, identifying, implies, implying, is_moving, is_size, moving, needs_heads, no_key, reading_one, relative_target, sectors_verified, sought_if, track_begun, verifying, with_keys, with_last}
-use Rattle.fdc_chip.specs.Ending.{Ends, EndsAddress, EndsAddressIf, EndsAt, EndsData, EndsIf, EndsIndex, EndsSent, MayEnd, behind_one, behind_six, behind_three, has_results, is_over as is_over_track, looks_for_cylinder, results_behind, results_taken, unit_of, verified, without_one}
+use Rattle.fdc_chip.specs.Ending.{Ends, EndsAddress, EndsAddressIf, EndsAt, EndsData, EndsIf, EndsIndex, EndsSent, MayEnd, behind_one, behind_six, behind_three, has_results, is_over as is_over_track, looks_for_cylinder, results_taken, unit_of, verified, without_one, results_judged}
 use Rattle.fdc_chip.specs.Paces.{EndsAt as EndsPace, GoesOnIf, Paces, PulsesIf, is_due, is_over, stepped}
 use Rattle.fdc_chip.specs.Settings.{step_words}
 use Rattle.fdc_chip.specs.Interrupts.{cylinder_of}
@@ -231,7 +231,7 @@ ends_poll (task.Track track) results old new ends none = place_poll track.place 
 
 may_end_by : (waits : Bool) (what : Task) (old new : ChipState) → EndsIf waits what old new → to_come old ≡ false → to_come new ≡ false
 may_end_by true what old new ends none =
-    ends_poll what (results_behind old.front) (with_front (results_taken old.front) old) new ends (results_poll old.front ∙ none)
+    ends_poll what (results_judged old) (with_front (results_taken old.front) old) new ends (results_poll old.front ∙ none)
 may_end_by false what old new is none = ap to_come is ∙ none
 
 may_end_poll : (what : Task) (old new : ChipState) → MayEnd what old new → to_come old ≡ false → to_come new ≡ false

@@ -43,7 +43,7 @@ use Rattle.fdc_core.specs.declared.controller.Lines.{Lines}
 use Rattle.fdc_adapter.specs.Adapters.{AdapterState, StepsAdapter, lines_at, selected_at}
 use Rattle.fdc_phases.specs.Answers.{st1_of}
 use Rattle.fdc_sequencer.specs.Fronts.{BeginsSector, CollectsAs, Front, GivesAt, Starts, StartsIf, TakesAt, TakesByte, WritesFront, asks_at, asks_outside, begun_if, count_told, moving_of, passed_one, told_front, told_if, with_controller}
-use Rattle.fdc_sequencer.specs.Moves.{EndsIf, EndsSector, FollowsStep, MovesOn, SeeksOn, StepsFront, goes_on, has_met_other, is_unwanted, judged, judged_if, passed_over_if, results_behind, results_failed, would_go_on}
+use Rattle.fdc_sequencer.specs.Moves.{EndsIf, EndsSector, FollowsStep, MovesOn, SeeksOn, StepsFront, goes_on, has_failed_other, has_met_other, is_unwanted, judged, judged_if, passed_over_if, results_behind, results_failed, would_go_on}
 use Rattle.fdc_sequencer.specs.Transfers.{command_for, next_of, results_told, size_of}
 use Rattle.fdc_sequencer.specs.declared.opcode.Operation.{Operation}
 use Rattle.fdc_sequencer.specs.declared.opcode.Operation.TheVariants.{Read, Write}
@@ -394,20 +394,20 @@ passed_over : (b : Bool) (moving : MovingSector) (front new : Front) → front.s
 passed_over true moving front new at fed is = subst IsFedFront (sym is) (told_fed (record moving { left = 0; passed_over = true; skipped = true }) front.adapter.controller fed.rule)
 passed_over false moving front new at fed is = subst IsFedFront (sym is) (fed_as moving front at fed)
 
-next_fed : (ending : Ending) (moving : MovingSector) (old new : Front) → IsSizeCode moving.transfer.key.n → EndsSector moving ending old new → IsFedFront new
-next_fed (Done marked) moving old new sized ends = by_next (goes_on moving marked) ends
+next_fed : (mark : Option Bool) (ending : Ending) (moving : MovingSector) (old new : Front) → IsSizeCode moving.transfer.key.n → EndsSector mark moving ending old new → IsFedFront new
+next_fed mark (Done marked) moving old new sized ends = by_next (goes_on moving marked) ends
   where
     by_next : (b : Bool) → EndsIf b moving marked old new → IsFedFront new
     by_next true begins = sector_fed (next_of moving.transfer) false (has_met_other moving marked) old new (subst IsSizeCode (sym (next_size moving.transfer)) sized) begins
     by_next false is = free_as (Telling (results_behind moving marked) 0) new (ap (λ (f : Front). f.stage) is) tt
-next_fed NoMark moving old new sized is = free_as (Telling (results_failed moving NoMark) 0) new (ap (λ (f : Front). f.stage) is) tt
-next_fed NoSector moving old new sized is = free_as (Telling (results_failed moving NoSector) 0) new (ap (λ (f : Front). f.stage) is) tt
-next_fed NoField moving old new sized is = free_as (Telling (results_failed moving NoField) 0) new (ap (λ (f : Front). f.stage) is) tt
-next_fed BadCheck moving old new sized is = free_as (Telling (results_failed moving BadCheck) 0) new (ap (λ (f : Front). f.stage) is) tt
-next_fed Overrun moving old new sized is = free_as (Telling (results_failed moving Overrun) 0) new (ap (λ (f : Front). f.stage) is) tt
-next_fed NoCount moving old new sized is = free_as (Telling (results_failed moving NoCount) 0) new (ap (λ (f : Front). f.stage) is) tt
-next_fed Protected moving old new sized is = free_as (Telling (results_failed moving Protected) 0) new (ap (λ (f : Front). f.stage) is) tt
-next_fed Late moving old new sized is = free_as (Telling (results_failed moving Late) 0) new (ap (λ (f : Front). f.stage) is) tt
+next_fed mark NoMark moving old new sized is = free_as (Telling (results_failed mark moving NoMark) 0) new (ap (λ (f : Front). f.stage) is) tt
+next_fed mark NoSector moving old new sized is = free_as (Telling (results_failed mark moving NoSector) 0) new (ap (λ (f : Front). f.stage) is) tt
+next_fed mark NoField moving old new sized is = free_as (Telling (results_failed mark moving NoField) 0) new (ap (λ (f : Front). f.stage) is) tt
+next_fed mark BadCheck moving old new sized is = free_as (Telling (results_failed mark moving BadCheck) 0) new (ap (λ (f : Front). f.stage) is) tt
+next_fed mark Overrun moving old new sized is = free_as (Telling (results_failed mark moving Overrun) 0) new (ap (λ (f : Front). f.stage) is) tt
+next_fed mark NoCount moving old new sized is = free_as (Telling (results_failed mark moving NoCount) 0) new (ap (λ (f : Front). f.stage) is) tt
+next_fed mark Protected moving old new sized is = free_as (Telling (results_failed mark moving Protected) 0) new (ap (λ (f : Front). f.stage) is) tt
+next_fed mark Late moving old new sized is = free_as (Telling (results_failed mark moving Late) 0) new (ap (λ (f : Front). f.stage) is) tt
 
 -- ---- results without OR
 
@@ -459,20 +459,20 @@ begins_silent at counted passed_over old new results begins tells = by_busy (is_
     by_busy true is = absurd (false≢true (sym (ap (λ (f : Front). is_telling f.stage) is) ∙ ap is_telling tells))
     by_busy false is = absurd (false≢true (sym (ap (λ (f : Front). is_telling f.stage) is) ∙ ap is_telling tells))
 
-ends_calm : (ending : Ending) (moving : MovingSector) (old new : Front) (results : Results) → overran ending ≡ false → EndsSector moving ending old new → new.stage ≡ Telling results 0 → IsCalm results
-ends_calm (Done marked) moving old new results calm ends tells = by_next (goes_on moving marked) ends
+ends_calm : (mark : Option Bool) (ending : Ending) (moving : MovingSector) (old new : Front) (results : Results) → overran ending ≡ false → EndsSector mark moving ending old new → new.stage ≡ Telling results 0 → IsCalm results
+ends_calm mark (Done marked) moving old new results calm ends tells = by_next (goes_on moving marked) ends
   where
     by_next : (b : Bool) → EndsIf b moving marked old new → IsCalm results
     by_next true begins = begins_silent (next_of moving.transfer) false (has_met_other moving marked) old new results begins tells
     by_next false is = as_told (results_behind moving marked) results old new (behind_calm moving marked) is tells
-ends_calm Overrun moving old new results calm is tells = absurd (false≢true (sym calm))
-ends_calm NoMark moving old new results calm is tells = as_told _ results old new (told_calm NoMark moving.transfer moving.transfer.key moving.passed_over calm) is tells
-ends_calm NoSector moving old new results calm is tells = as_told _ results old new (told_calm NoSector moving.transfer moving.transfer.key moving.passed_over calm) is tells
-ends_calm NoField moving old new results calm is tells = as_told _ results old new (told_calm NoField moving.transfer moving.transfer.key moving.passed_over calm) is tells
-ends_calm BadCheck moving old new results calm is tells = as_told _ results old new (told_calm BadCheck moving.transfer moving.transfer.key moving.passed_over calm) is tells
-ends_calm NoCount moving old new results calm is tells = as_told _ results old new (told_calm NoCount moving.transfer moving.transfer.key moving.passed_over calm) is tells
-ends_calm Protected moving old new results calm is tells = as_told _ results old new (told_calm Protected moving.transfer moving.transfer.key moving.passed_over calm) is tells
-ends_calm Late moving old new results calm is tells = as_told _ results old new (told_calm Late moving.transfer moving.transfer.key moving.passed_over calm) is tells
+ends_calm mark Overrun moving old new results calm is tells = absurd (false≢true (sym calm))
+ends_calm mark NoMark moving old new results calm is tells = as_told _ results old new (told_calm NoMark moving.transfer moving.transfer.key (has_failed_other mark moving NoMark) calm) is tells
+ends_calm mark NoSector moving old new results calm is tells = as_told _ results old new (told_calm NoSector moving.transfer moving.transfer.key (has_failed_other mark moving NoSector) calm) is tells
+ends_calm mark NoField moving old new results calm is tells = as_told _ results old new (told_calm NoField moving.transfer moving.transfer.key (has_failed_other mark moving NoField) calm) is tells
+ends_calm mark BadCheck moving old new results calm is tells = as_told _ results old new (told_calm BadCheck moving.transfer moving.transfer.key (has_failed_other mark moving BadCheck) calm) is tells
+ends_calm mark NoCount moving old new results calm is tells = as_told _ results old new (told_calm NoCount moving.transfer moving.transfer.key (has_failed_other mark moving NoCount) calm) is tells
+ends_calm mark Protected moving old new results calm is tells = as_told _ results old new (told_calm Protected moving.transfer moving.transfer.key (has_failed_other mark moving Protected) calm) is tells
+ends_calm mark Late moving old new results calm is tells = as_told _ results old new (told_calm Late moving.transfer moving.transfer.key (has_failed_other mark moving Late) calm) is tells
 
 -- the controller's ending isn't OR, and it isn't OR as the front judges it
 same_ending : (one other : Ending) → Some one ≡ Some other → one ≡ other
@@ -508,9 +508,9 @@ record IsStepped (new : Front) : Type 0 where
   fed : IsFedFront new
   calm : (results : Results) → new.stage ≡ Telling results 0 → IsCalm results
 
-moves_stepped : (ending : Option Ending) (moving : MovingSector) (old : Fdc) (front new : Front) → front.stage ≡ Moving moving → IsFed moving old → IsCalmStep old front.adapter.controller
-    → ending_told front.adapter.controller ≡ ending → IsSizeCode moving.transfer.key.n → MovesOn (judged_if moving ending) moving front new → IsStepped new
-moves_stepped None moving old front new at fed calm is sized follows =
+moves_stepped : (mark : Option Bool) (ending : Option Ending) (moving : MovingSector) (old : Fdc) (front new : Front) → front.stage ≡ Moving moving → IsFed moving old → IsCalmStep old front.adapter.controller
+    → ending_told front.adapter.controller ≡ ending → IsSizeCode moving.transfer.key.n → MovesOn mark (judged_if moving ending) moving front new → IsStepped new
+moves_stepped mark None moving old front new at fed calm is sized follows =
     let fdc = front.adapter.controller in
     let now : IsFed moving fdc = record {
       rule = calm.rule;
@@ -524,12 +524,12 @@ moves_stepped None moving old front new at fed calm is sized follows =
     by_over : (b : Bool) (results : Results) → new ≡ passed_over_if b moving front → new.stage ≡ Telling results 0 → IsCalm results
     by_over true results is tells = absurd (false≢true (sym (ap (λ (f : Front). is_telling f.stage) is) ∙ ap is_telling tells))
     by_over false results is tells = absurd (false≢true (sym (ap (λ (f : Front). is_telling f.stage) is ∙ ap is_telling at) ∙ ap is_telling tells))
-moves_stepped (Some ending) moving old front new at fed calm is sized ends =
+moves_stepped mark (Some ending) moving old front new at fed calm is sized ends =
     let fdc = front.adapter.controller in
     let given : Front = record front { adapter = with_controller (given_up fdc) front.adapter } in
     record {
-      fed = next_fed (judged moving ending) moving given new sized ends;
-      calm = λ results tells. ends_calm (judged moving ending) moving given new results (judged_calm moving ending (phase_calm fdc.phase ending calm.no_overrun is)) ends tells;
+      fed = next_fed mark (judged moving ending) moving given new sized ends;
+      calm = λ results tells. ends_calm mark (judged moving ending) moving given new results (judged_calm moving ending (phase_calm fdc.phase ending calm.no_overrun is)) ends tells;
     }
 
 seeks_stepped : (b : Bool) (at : Transfer) (counted : Bool) (front new : Front) → front.stage ≡ Seeking at counted → IsSizeCode at.key.n → SeeksOn b at counted front new → IsStepped new
@@ -549,7 +549,7 @@ front_stepped (Seeking transfer counted) old new step at under was fed gated low
     let serves : ServesAt (Seeking transfer counted) was.first was.history old.adapter.controller = subst (λ s. ServesAt s was.first was.history old.adapter.controller) at was.serves.now in
     let front : Front = record old { adapter = step.between } in
     seeks_stepped (has_ended_seek step.between.controller.seeks) transfer counted front new at (subst (λ (t : Transfer). IsSizeCode t.key.n) (sym serves.0) was.serves.sized)
-    (subst (λ s. FollowsStep s front new) at step.follows)
+    (subst (λ s. FollowsStep (mark_of old.adapter.controller) s front new) at step.follows)
 front_stepped (Moving moving) old new step at under was fed gated low few =
     let fdc = old.adapter.controller in
     let serves : ServesAt (Moving moving) was.first was.history fdc = subst (λ s. ServesAt s was.first was.history fdc) at was.serves.now in
@@ -559,7 +559,7 @@ front_stepped (Moving moving) old new step at under was fed gated low few =
     let waits = moving_waits moving fdc now kind gated (sym (ap (λ s. asks_at s fdc) at) ∙ low) in
     let calm = adapter_calm old.adapter step.between step.steps few carries.busy waits in
     let front : Front = record old { adapter = step.between } in
-    moves_stepped (ending_told step.between.controller) moving fdc front new at now calm refl carries.accounts.sized (subst (λ s. FollowsStep s front new) at step.follows)
+    moves_stepped (mark_of fdc) (ending_told step.between.controller) moving fdc front new at now calm refl carries.accounts.sized (subst (λ s. FollowsStep (mark_of fdc) s front new) at step.follows)
 
 -- ---- the chip
 

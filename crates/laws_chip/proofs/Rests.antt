@@ -9,7 +9,7 @@ use Rattle.fdc_commands.specs.declared.motion.Seek.{Seek}
 use Rattle.fdc_phases.specs.declared.phases.Phase.TheVariants.{Command as Taking}
 use Rattle.fdc_core.specs.State.{is_held}
 use Rattle.fdc_core.specs.Steps.{Rests, RestsIn, Stays, polled, seek_stepped}
-use Rattle.fdc_core.specs.Whole.{is_idle}
+use Rattle.fdc_core.specs.Whole.{is_idle, mark_of}
 use Rattle.fdc_core.specs.declared.controller.Fdc.{Fdc}
 use Rattle.fdc_adapter.specs.Adapters.{AdapterState, StepsAdapter, selected_at}
 use Rattle.fdc_adapter.specs.Senses.{after_result, without_result}
@@ -139,7 +139,7 @@ adapter_takes old new steps takes =
 
 -- where each access is the controller's a step is the adapter's
 pub through_step : (old new : Front) (step : StepsFront old new) → old.stage ≡ Through → new ≡ record old { adapter = step.between }
-through_step old new step through = subst (λ stage. FollowsStep stage (record old { adapter = step.between }) new) through step.follows
+through_step old new step through = subst (λ stage. FollowsStep (mark_of old.adapter.controller) stage (record old { adapter = step.between }) new) through step.follows
 
 pub front_rests : (old new : Front) → StepsFront old new → old.adapter.controller.command ≡ [] → RestsBehind old → RestsBehind new × IsBase old.adapter.controller new.adapter.controller
 front_rests old new step none rests =

@@ -103,21 +103,21 @@ seeks_go false at counted old front new stage_is takes ended sized clear base is
 -- ---- a sector is moved
 
 -- another sector begins, or results are given
-next_or : (ending : Ending) (moving : MovingSector) (old new : Front) → EndsSector moving ending old new
+next_or : (mark : Option Bool) (ending : Ending) (moving : MovingSector) (old new : Front) → EndsSector mark moving ending old new
     → ((results : Results) × (new ≡ record old { stage = Telling results 0 })) ⊎ ((met : Bool) × BeginsSector (next_of moving.transfer) false met old new)
-next_or (Done marked) moving old new ends = by_next (goes_on moving marked) ends
+next_or mark (Done marked) moving old new ends = by_next (goes_on moving marked) ends
   where
     by_next : (b : Bool) → EndsIf b moving marked old new → ((results : Results) × (new ≡ record old { stage = Telling results 0 })) ⊎ ((met : Bool) × BeginsSector (next_of moving.transfer) false met old new)
     by_next true begins = inr (has_met_other moving marked, begins)
     by_next false is = inl (results_behind moving marked, is)
-next_or NoMark moving old new is = inl (results_failed moving NoMark, is)
-next_or NoSector moving old new is = inl (results_failed moving NoSector, is)
-next_or NoField moving old new is = inl (results_failed moving NoField, is)
-next_or BadCheck moving old new is = inl (results_failed moving BadCheck, is)
-next_or Overrun moving old new is = inl (results_failed moving Overrun, is)
-next_or NoCount moving old new is = inl (results_failed moving NoCount, is)
-next_or Protected moving old new is = inl (results_failed moving Protected, is)
-next_or Late moving old new is = inl (results_failed moving Late, is)
+next_or mark NoMark moving old new is = inl (results_failed mark moving NoMark, is)
+next_or mark NoSector moving old new is = inl (results_failed mark moving NoSector, is)
+next_or mark NoField moving old new is = inl (results_failed mark moving NoField, is)
+next_or mark BadCheck moving old new is = inl (results_failed mark moving BadCheck, is)
+next_or mark Overrun moving old new is = inl (results_failed mark moving Overrun, is)
+next_or mark NoCount moving old new is = inl (results_failed mark moving NoCount, is)
+next_or mark Protected moving old new is = inl (results_failed mark moving Protected, is)
+next_or mark Late moving old new is = inl (results_failed mark moving Late, is)
 
 given_base : (ending : Option Ending) (old between : Fdc) → IsBase old between → IsBase old (given_up_if ending between)
 given_base None old between base = base
@@ -132,15 +132,15 @@ passed_go false moving old front new stage_is base is =
     let stage : new.stage ≡ Moving moving = ap (λ (f : Front). f.stage) is ∙ stage_is in
     on (ap is_under_way stage) (subst (λ s. WaitsForHeads s new.adapter.controller.phase) (sym stage) tt) (subst (λ (f : Front). IsBase old f.adapter.controller) (sym is) base)
 
-moves_go : (ending : Option Ending) (moving : MovingSector) (old : Fdc) (front new : Front) → front.stage ≡ Moving moving → ending_told front.adapter.controller ≡ ending → IsSizeCode moving.transfer.key.n
-    → IsFree front.adapter.controller → IsBase old front.adapter.controller → MovesOn (judged_if moving ending) moving front new → Goes old new
-moves_go None moving old front new stage_is none sized free base is = passed_go (is_unwanted moving (mark_of front.adapter.controller)) moving old front new stage_is base is
-moves_go (Some ending) moving old front new stage_is some sized free base ends =
+moves_go : (mark : Option Bool) (ending : Option Ending) (moving : MovingSector) (old : Fdc) (front new : Front) → front.stage ≡ Moving moving → ending_told front.adapter.controller ≡ ending → IsSizeCode moving.transfer.key.n
+    → IsFree front.adapter.controller → IsBase old front.adapter.controller → MovesOn mark (judged_if moving ending) moving front new → Goes old new
+moves_go mark None moving old front new stage_is none sized free base is = passed_go (is_unwanted moving (mark_of front.adapter.controller)) moving old front new stage_is base is
+moves_go mark (Some ending) moving old front new stage_is some sized free base ends =
     let fdc = front.adapter.controller in
     let given : Front = record front { adapter = with_controller (given_up fdc) front.adapter } in
     let after : IsBase old (given_up fdc) = given_base (ending_told fdc) old fdc base in
     let freed = given_free fdc free in
-    elim (next_or (judged moving ending) moving given new ends) [
+    elim (next_or mark (judged moving ending) moving given new ends) [
       | inr (met, begins) ↦ goes_carried old (given_up fdc) given new after refl
           (sector_carried (next_of moving.transfer) false met given new (subst IsSizeCode (sym (next_size moving.transfer)) sized) freed begins)
       | inl (results, is) ↦ over (record {
@@ -155,7 +155,7 @@ moves_go (Some ending) moving old front new stage_is some sized free base ends =
 
 step_goes : (stage : Stage) (first : Transfer) (history : History) (old : Front) (between : AdapterState) (new : Front) → old.stage ≡ stage → is_under_way stage ≡ true → IsSizeCode first.key.n
     → ServesAt stage first history old.adapter.controller → WaitsForHeads stage old.adapter.controller.phase → old.adapter.controller.command ≡ [] → old.adapter.controller.non_dma ≡ false
-    → StepsAdapter old.adapter between → FollowsStep stage (record old { adapter = between }) new → Goes old.adapter.controller new
+    → StepsAdapter old.adapter between → FollowsStep (mark_of old.adapter.controller) stage (record old { adapter = between }) new → Goes old.adapter.controller new
 step_goes Through first history old between new stage_is under sized now waits none clear steps follows = absurd (false≢true under)
 step_goes (Collecting opcode) first history old between new stage_is under sized now waits none clear steps follows = absurd (false≢true under)
 step_goes (Telling results read) first history old between new stage_is under sized now waits none clear steps follows = absurd (false≢true under)
@@ -165,7 +165,7 @@ step_goes (Seeking at counted) first history old between new stage_is under size
     (subst (λ (transfer : Transfer). IsSizeCode transfer.key.n) (sym here) sized) (base.non_dma ∙ clear) base follows
 step_goes (Moving moving) first history old between new stage_is under sized (here, counts, carries) waits none clear steps follows =
     let free = step_free first.opcode.operation history.past (sent_of moving.transfer) old.adapter between steps carries.busy carries.moves carries.free in
-    moves_go (ending_told between.controller) moving old.adapter.controller (record old { adapter = between }) new stage_is refl carries.accounts.sized free
+    moves_go (mark_of old.adapter.controller) (ending_told between.controller) moving old.adapter.controller (record old { adapter = between }) new stage_is refl carries.accounts.sized free
     (adapter_base old.adapter between steps none) follows
 
 pub serves_step : (old new : Front) → StepsFront old new → old.adapter.controller.command ≡ [] → old.adapter.controller.non_dma ≡ false → ServesBehind old

@@ -6,7 +6,7 @@ use Rattle.fdc_commands.specs.declared.results.Results.{Results}
 use Rattle.fdc_core.specs.Ports.{resets}
 use Rattle.fdc_chip.specs.Chips.{ChipState, is_data, passes_by_channel, passes_by_port, with_front}
 use Rattle.fdc_chip.specs.Doing.{is_size}
-use Rattle.fdc_chip.specs.Ending.{Ends, EndsAddress, EndsAddressIf, EndsAt, EndsData, EndsIf, EndsIndex, EndsSent, LooksOn, has_results, is_over, looks_for_cylinder, met_key, results_behind, results_taken, told_results, verified, without_one}
+use Rattle.fdc_chip.specs.Ending.{Ends, EndsAddress, EndsAddressIf, EndsAt, EndsData, EndsIf, EndsIndex, EndsSent, LooksOn, has_results, is_over, looks_for_cylinder, met_key, results_taken, told_results, verified, without_one, results_judged}
 use Rattle.fdc_chip.specs.Ports.{GivesChipIf, GivesIf, ReadsAt, ReadsChip, ReadsIf, TakesByte, TakesIf, WritesChip, count_told, counted_if, latched_by, given_one, reset_if, value_behind}
 use Rattle.fdc_chip.specs.Steps.{Follows, FollowsTask, StepsChip}
 use Rattle.fdc_chip.specs.declared.stage.Place.{Place}
@@ -64,7 +64,7 @@ ends_go (task.Verify left) results old new ends = let told = verified old.order 
 ends_go (task.Track track) results old new ends = place_goes track.place track results old new ends
 
 may_go : (b : Bool) (what under : Task) (chip new : ChipState) → chip.stage ≡ Busy under → EndsIf b what chip new → IsBusyOrTells new
-may_go true what under chip new at ends = ends_go what (results_behind chip.front) (with_front (results_taken chip.front) chip) new ends
+may_go true what under chip new at ends = ends_go what (results_judged chip) (with_front (results_taken chip.front) chip) new ends
 may_go false what under chip new at is = busy under new (ap (λ (chip : ChipState). chip.stage) is ∙ at)
 
 task_goes : (what : Task) (chip new : ChipState) → chip.stage ≡ Busy what → FollowsTask what chip new → IsBusyOrTells new

@@ -13,7 +13,7 @@ use Rattle.fdc_sequencer.specs.Fronts.{Front, GivesFront, TakesFront, WritesFron
 use Rattle.fdc_sequencer.specs.Moves.{StepsFront}
 use Rattle.fdc_chip.specs.Chips.{ChipState, is_data, passes_by_channel, passes_by_port, with_front}
 use Rattle.fdc_chip.specs.Doing.{is_size}
-use Rattle.fdc_chip.specs.Ending.{Ends, EndsAddress, EndsAddressIf, EndsAt, EndsData, EndsIf, EndsIndex, EndsSent, MayEnd, is_over, looks_for_cylinder, results_behind, results_taken, verified, without_one}
+use Rattle.fdc_chip.specs.Ending.{Ends, EndsAddress, EndsAddressIf, EndsAt, EndsData, EndsIf, EndsIndex, EndsSent, MayEnd, is_over, looks_for_cylinder, results_taken, verified, without_one, results_judged}
 use Rattle.fdc_chip.specs.Ports.{GivesChipIf, GivesIf, ReadsAt, ReadsChip, ReadsIf, TakesByte, TakesIf, count_told, counted_if, latched_by, reset_if, value_behind}
 use Rattle.fdc_chip.specs.Steps.{Follows, FollowsTask}
 use Rattle.fdc_chip.specs.declared.stage.Place.{Place}
@@ -154,7 +154,7 @@ may_single what old between new basis step was may same =
           })
       | inr waits ↦
           let shown = waits_shown between free waits in
-          absurd (ends_leave what (results_behind between) (with_front (results_taken between) old) new (subst (λ b. EndsIf b what (with_front between old) new) shown may) same)
+          absurd (ends_leave what (results_judged (with_front between old)) (with_front (results_taken between) old) new (subst (λ b. EndsIf b what (with_front between old) new) shown may) same)
     ]
 
 -- for a VERIFY the inner controller executes neither READ ID nor FORMAT TRACK

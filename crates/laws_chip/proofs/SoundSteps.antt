@@ -11,7 +11,7 @@ use Rattle.fdc_sequencer.specs.Senses.{is_ready as is_ready_behind}
 use Rattle.fdc_chip.specs.Chips.{ChipState, asks_chip, interrupts_chip, with_front}
 use Rattle.fdc_chip.specs.Codes.{code_of}
 use Rattle.fdc_chip.specs.Doing.{SendsOn, drained, identifying, implies, is_size, moves_heads, moving}
-use Rattle.fdc_chip.specs.Ending.{Ends, EndsAddress, EndsAddressIf, EndsAt, EndsData, EndsIf, EndsIndex, EndsSent, LooksOn, MayEnd, ReadsOn, has_results, is_over, looks_for_cylinder, met_key, results_behind, results_taken, sector_met, told_results, track_at, unit_of, verified, without_one}
+use Rattle.fdc_chip.specs.Ending.{Ends, EndsAddress, EndsAddressIf, EndsAt, EndsData, EndsIf, EndsIndex, EndsSent, LooksOn, MayEnd, ReadsOn, has_results, is_over, looks_for_cylinder, met_key, results_judged, results_taken, sector_met, told_results, track_at, unit_of, verified, without_one}
 use Rattle.fdc_chip.specs.Paces.{EndsAt as EndsPace, GoesOnIf, Paces, PulsesIf, is_due, is_over as is_over_pace, stepped}
 use Rattle.fdc_chip.specs.Settings.{step_words}
 use Rattle.fdc_chip.specs.Steps.{Follows, FollowsTask, RunsChip, RunsChipWith, StepsChip, Swallows, SwallowsAs, SwallowsBy}
@@ -133,7 +133,7 @@ busy_none (task.Track track) front free busy = place_none track.place front free
 taken_sound : (what : Task) (chip new : ChipState) → IsBasis chip → has_results chip.front ≡ true → Stands (results_taken chip.front) × IsBase chip.front.adapter.controller (results_taken chip.front).adapter.controller
     → MayEnd what chip new → IsSound new
 taken_sound what chip new basis shown (stands, base) may =
-    ends_sound what (results_behind chip.front) (with_front (results_taken chip.front) chip) new (basis_front (results_taken chip.front) chip basis base) stands
+    ends_sound what (results_judged chip) (with_front (results_taken chip.front) chip) new (basis_front (results_taken chip.front) chip basis base) stands
     (subst (λ b. EndsIf b what chip new) shown may)
 
 may_end_sound : (what under : Task) (chip new : ChipState) → IsBasis chip → chip.stage ≡ Busy under → IsAtStep under chip.front → MayEnd what chip new → IsSound new

@@ -5,9 +5,10 @@ use Rattle.std.proofs.lemmas.Nat.{or_comm}
 use Rattle.fdc_registers.specs.St2.{wrong_cylinder, bad_cylinder}
 use Rattle.fdc_commands.specs.declared.results.Results.{Results}
 use Rattle.fdc_sequencer.specs.Fronts.{Front, asks_outside, status_at}
+use Rattle.fdc_sequencer.specs.Senses.{is_through}
 use Rattle.fdc_sequencer.specs.declared.stage.Stage.TheVariants as behind
 use Rattle.fdc_chip.specs.Chips.{ChipState, asks_chip, interrupts_chip, passes, passes_at, shows_behind, with_front}
-use Rattle.fdc_chip.specs.Ending.{EndsIf, EndsSent, MayEnd, cylinder_bits, has_results, looks_for_cylinder, results_behind, results_taken, with_cylinder_passed}
+use Rattle.fdc_chip.specs.Ending.{EndsIf, EndsSent, MayEnd, cylinder_bits, done_if, fits_selected, has_results, has_room, looks_for_cylinder, results_behind, results_taken, with_cylinder_passed, results_judged}
 use Rattle.fdc_chip.specs.Orders.{is_format}
 use Rattle.fdc_chip.specs.Settings.{is_by_port}
 use Rattle.fdc_chip.specs.Steps.{Follows, StepsChip}
@@ -23,6 +24,21 @@ results_wait front results is = ap (λ stage. bit_and (status_at stage front.ada
 pub results_are : (front : Front) (results : Results) → front.stage ≡ behind.Telling results 0 → results_behind front ≡ results
 results_are front results is = ap (λ stage. results_behind (record front { stage = stage })) is
 
+-- what the chip doesn't judge is told as it is
+no_room : (chip : ChipState) → has_room chip ≡ false → results_judged chip ≡ results_behind chip.front
+no_room chip none = ap (λ b. done_if b (results_behind chip.front)) none
+
+-- a command that isn't a FORMAT TRACK
+pub judged_other : (chip : ChipState) → is_format chip.order ≡ false → results_judged chip ≡ results_behind chip.front
+judged_other chip other = no_room chip (and_left (is_format chip.order) (is_through chip.front.stage && fits_selected chip) other)
+
+-- a command of several sectors
+judged_are : (results : Results) (chip : ChipState) → chip.front.stage ≡ behind.Telling results 0 → results_judged chip ≡ results
+judged_are results chip at =
+    no_room chip
+    (and_right (is_format chip.order) (is_through chip.front.stage && fits_selected chip) (and_left (is_through chip.front.stage) (fits_selected chip) (ap is_through at)))
+    ∙ results_are chip.front results at
+
 -- once all seven result bytes were read each access is the controller's again
 pub taken_is : (front : Front) (results : Results) → front.stage ≡ behind.Telling results 0 → results_taken front ≡ record front { stage = behind.Through }
 taken_is front results is = ap (λ stage. results_taken (record front { stage = stage })) is
@@ -34,7 +50,7 @@ ends_so : (results : Results) (old new : ChipState) (step : StepsChip old new) �
 ends_so results old new step sent told =
     let follows : MayEnd Sent (with_front step.between old) new = subst (λ stage. Follows stage (with_front step.between old) new) sent step.follows in
     let ends : EndsIf true Sent (with_front step.between old) new = subst (λ b. EndsIf b Sent (with_front step.between old) new) (results_wait step.between results told) follows in
-    subst (λ r. EndsSent (looks_for_cylinder old.order r) r (with_front (results_taken step.between) old) new) (results_are step.between results told) ends
+    subst (λ r. EndsSent (looks_for_cylinder old.order r) r (with_front (results_taken step.between) old) new) (judged_are results (with_front step.between old) told) ends
 
 told_by : (results : Results) (old new : ChipState) → EndsSent false results old new → Tells results new
 told_by results old new is = record { stage = ap (λ chip. chip.stage) is; line = ap (λ chip. chip.interrupts.line) is }
@@ -77,8 +93,8 @@ cylinder_told first old new step sought =
   where
     by_end : (b : Bool) → EndsIf b (Sought first) (with_front step.between old) new → LooksOrTells first new
     by_end true is = inr (
-      with_cylinder_passed first (results_behind step.between),
-      adds first (results_behind step.between),
+      with_cylinder_passed first (results_judged (with_front step.between old)),
+      adds first (results_judged (with_front step.between old)),
       record { stage = ap (λ chip. chip.stage) is; line = ap (λ chip. chip.interrupts.line) is },
     )
     by_end false is = inl (ap (λ chip. chip.stage) is ∙ sought)

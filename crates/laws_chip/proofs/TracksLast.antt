@@ -18,7 +18,7 @@ use Rattle.laws_sequencer.specs.Lasting.{HasRecords, is_under_way, most_steps}
 use Rattle.laws_sequencer.proofs.Lasted.{Lasts, call_lasts, calls_last, field_lasts, first_lasts, lasts_some}
 use Rattle.fdc_chip.specs.Chips.{ChipState, is_data, passes_by_channel, passes_by_port, with_front}
 use Rattle.fdc_chip.specs.Doing.{Obeys, Sends, TransfersIf, absent_key, implies, is_size, reading_one, sectors_of_track, track_begun, with_last}
-use Rattle.fdc_chip.specs.Ending.{EndsAddress, EndsAddressIf, EndsAt, EndsData, EndsIf, EndsIndex, LooksOn, ReadsOn, has_results, is_over, met_key, results_behind, results_taken, sector_met, without_one}
+use Rattle.fdc_chip.specs.Ending.{EndsAddress, EndsAddressIf, EndsAt, EndsData, EndsIf, EndsIndex, LooksOn, ReadsOn, has_results, is_over, met_key, results_judged, results_taken, sector_met, without_one}
 use Rattle.fdc_chip.specs.Ports.{GivesChipIf, GivesIf, ReadsAt, ReadsChip, ReadsIf, TakesByte, TakesIf, count_told, counted_if, latched_by, reset_if, value_behind}
 use Rattle.fdc_chip.specs.Steps.{Follows, StepsChip}
 use Rattle.fdc_chip.specs.declared.code.Code.TheVariants.{ReadTrack}
@@ -224,7 +224,7 @@ step_leaves n old new sound was step tracks =
 
     by_end : (b : Bool) → has_results step.between ≡ b → EndsIf b (task.Track was.track) (with_front step.between old) new → Leaves (n - 1) new
     by_end true waits ends =
-        place_leaves was.track.place n was.track (results_behind step.between) (with_front (results_taken step.between) (with_front step.between old)) new was.some
+        place_leaves was.track.place n was.track (results_judged (with_front step.between old)) (with_front (results_taken step.between) (with_front step.between old)) new was.some
         (spent_at was.track.place n was.track.left old.front busy was.some was.leaves) tracks ends
     by_end false silent is = subst (Leaves (n - 1)) (sym is) (record {
       track = was.track;

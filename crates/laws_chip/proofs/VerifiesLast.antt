@@ -19,7 +19,7 @@ use Rattle.laws_sequencer.proofs.Lasted.{command_within}
 use Rattle.laws_sequencer.proofs.Sectors.{steps_both}
 use Rattle.fdc_chip.specs.Chips.{ChipState, passes, passes_at, passes_by_channel, passes_by_port, with_front}
 use Rattle.fdc_chip.specs.Doing.{Obeys, TransfersIf, implies, is_size, sectors_verified, verifying, with_last}
-use Rattle.fdc_chip.specs.Ending.{EndsIf, EndsSent, has_results, looks_for_cylinder, results_behind, results_taken, verified}
+use Rattle.fdc_chip.specs.Ending.{EndsIf, EndsSent, has_results, looks_for_cylinder, results_taken, verified, results_judged}
 use Rattle.fdc_chip.specs.Orders.{is_format, order_bytes}
 use Rattle.fdc_chip.specs.Ports.{GivesChipIf, GivesIf, ReadsAt, ReadsChip, ReadsIf, TakesByte, TakesIf, count_told, value_behind}
 use Rattle.fdc_chip.specs.Settings.{is_by_port}
@@ -152,7 +152,7 @@ verify_over false results old new is = ap (λ (chip : ChipState). is_verify chip
 
 verify_same : (b : Bool) (left : ℕ) (old new : ChipState) → is_verify new.stage ≡ true → EndsIf b (Verify left) old new → new ≡ old
 verify_same true left old new still ends =
-    let results = verified old.order (results_behind old.front) in
+    let results = verified old.order (results_judged old) in
     absurd (false≢true (sym (verify_over (looks_for_cylinder old.order results) results (with_front (results_taken old.front) old) new ends) ∙ still))
 verify_same false left old new still is = is
 

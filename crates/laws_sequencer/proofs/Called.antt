@@ -2,6 +2,7 @@
 use Rattle.std.proofs.Common.{◌≡◌, inl, inr, ℕ, zero, suc, ◌&&◌, ◌==◌, Bool, true, false, ◌||◌, List, [], ◌∷◌, ◌++◌, replicate, refl, sym, ◌∙◌, ap, subst, append_assoc}
 use Rattle.laws_sequencer.specs.Calls.{AreWithin, Behind, Call, Changes, Counts, Does, Gives, Grows, Reads, Steps, Straps, Takes, Writes, is_count, is_counted, passed_by, passed_in_all}
 use Rattle.fdc_core.specs.Ports.{resets}
+use Rattle.fdc_core.specs.Whole.{mark_of}
 use Rattle.fdc_sequencer.specs.Fronts.{Front, KeepsFront}
 use Rattle.fdc_sequencer.specs.Moves.{FollowsStep, RunsFrontWith, StepsFront}
 use Rattle.laws_sequencer.specs.Serving.{GoesOn, History, KeepsServing, Serves, ServesAt, ServesUnless, all_bytes, gives_last, hears_count, history_counted, history_given, history_stepped, history_taken}
@@ -36,7 +37,7 @@ strap_serves on old new is first history serves = (
 -- if each access is the controller's, a device step leaves that so
 through_before : (old new : Front) → StepsFront old new → old.stage ≡ Through → new.stage ≡ Through
 through_before old new step through =
-    let same : new ≡ record old { adapter = step.between } = subst (λ stage. FollowsStep stage (record old { adapter = step.between }) new) through step.follows in
+    let same : new ≡ record old { adapter = step.between } = subst (λ stage. FollowsStep (mark_of old.adapter.controller) stage (record old { adapter = step.between }) new) through step.follows in
     ap (λ front. front.stage) same ∙ through
 
 -- one call more

@@ -69,7 +69,7 @@ bytes_next operation parts part past counted told same =
 
 -- ---- the marks
 
-or_none : (b : Bool) → (b || false) ≡ b
+pub or_none : (b : Bool) → (b || false) ≡ b
 or_none true = refl
 or_none false = refl
 

@@ -96,24 +96,24 @@ begins_waits at counted passed_over old new begins = by_busy _ begins.begun
 
 -- ---- device steps
 
-ends_waits : (ending : Ending) (moving : MovingSector) (old new : Front) → EndsSector moving ending old new → Waits new
-ends_waits (Done marked) moving old new ends = by_next (goes_on moving marked) ends
+ends_waits : (was : Option Bool) (ending : Ending) (moving : MovingSector) (old new : Front) → EndsSector was moving ending old new → Waits new
+ends_waits was (Done marked) moving old new ends = by_next (goes_on moving marked) ends
   where
     by_next : (b : Bool) → EndsIf b moving marked old new → Waits new
     by_next true begins = begins_waits _ _ _ old new begins
     by_next false is = at_stage _ new (ap (λ front. front.stage) is) tt
-ends_waits NoMark moving old new ends = at_stage _ new (ap (λ front. front.stage) ends) tt
-ends_waits NoSector moving old new ends = at_stage _ new (ap (λ front. front.stage) ends) tt
-ends_waits NoField moving old new ends = at_stage _ new (ap (λ front. front.stage) ends) tt
-ends_waits BadCheck moving old new ends = at_stage _ new (ap (λ front. front.stage) ends) tt
-ends_waits Overrun moving old new ends = at_stage _ new (ap (λ front. front.stage) ends) tt
-ends_waits NoCount moving old new ends = at_stage _ new (ap (λ front. front.stage) ends) tt
-ends_waits Protected moving old new ends = at_stage _ new (ap (λ front. front.stage) ends) tt
-ends_waits Late moving old new ends = at_stage _ new (ap (λ front. front.stage) ends) tt
+ends_waits was NoMark moving old new ends = at_stage _ new (ap (λ front. front.stage) ends) tt
+ends_waits was NoSector moving old new ends = at_stage _ new (ap (λ front. front.stage) ends) tt
+ends_waits was NoField moving old new ends = at_stage _ new (ap (λ front. front.stage) ends) tt
+ends_waits was BadCheck moving old new ends = at_stage _ new (ap (λ front. front.stage) ends) tt
+ends_waits was Overrun moving old new ends = at_stage _ new (ap (λ front. front.stage) ends) tt
+ends_waits was NoCount moving old new ends = at_stage _ new (ap (λ front. front.stage) ends) tt
+ends_waits was Protected moving old new ends = at_stage _ new (ap (λ front. front.stage) ends) tt
+ends_waits was Late moving old new ends = at_stage _ new (ap (λ front. front.stage) ends) tt
 
-moves_waits : (ending : Option Ending) (moving : MovingSector) (old new : Front) → old.stage ≡ Moving moving → MovesOn ending moving old new → Waits new
-moves_waits (Some ending) moving old new stage_is moves = ends_waits ending moving _ new moves
-moves_waits None moving old new stage_is moves = by_mark (is_unwanted moving (mark_of old.adapter.controller)) moves
+moves_waits : (was : Option Bool) (ending : Option Ending) (moving : MovingSector) (old new : Front) → old.stage ≡ Moving moving → MovesOn was ending moving old new → Waits new
+moves_waits was (Some ending) moving old new stage_is moves = ends_waits was ending moving _ new moves
+moves_waits was None moving old new stage_is moves = by_mark (is_unwanted moving (mark_of old.adapter.controller)) moves
   where
     by_mark : (b : Bool) → new ≡ passed_over_if b moving old → Waits new
     by_mark true is = at_stage _ new (ap (λ front. front.stage) is) tt
@@ -124,12 +124,12 @@ seeks_waits true at counted old new stage_is seeks = begins_waits _ _ _ _ new se
 seeks_waits false at counted old new stage_is is = at_stage (Seeking at counted) new (ap (λ front. front.stage) is ∙ stage_is) tt
 
 step_waits : (stage : Stage) (old : Front) (between : AdapterState) (new : Front) → old.stage ≡ stage → WaitsAt stage old.adapter.controller → StepsAdapter old.adapter between
-    → FollowsStep stage (record old { adapter = between }) new → Waits new
+    → FollowsStep (mark_of old.adapter.controller) stage (record old { adapter = between }) new → Waits new
 step_waits Through old between new stage_is waits steps is = at_stage Through new (ap (λ front. front.stage) is ∙ stage_is) tt
 step_waits (Collecting opcode) old between new stage_is waits steps is =
     at_stage (Collecting opcode) new (ap (λ front. front.stage) is ∙ stage_is) (ap (λ front. is_idle front.adapter.controller) is ∙ adapter_idle old.adapter between steps waits)
 step_waits (Seeking at counted) old between new stage_is waits steps follows = seeks_waits (has_ended_seek between.controller.seeks) at counted (record old { adapter = between }) new stage_is follows
-step_waits (Moving moving) old between new stage_is waits steps follows = moves_waits (judged_if moving (ending_told between.controller)) moving (record old { adapter = between }) new stage_is follows
+step_waits (Moving moving) old between new stage_is waits steps follows = moves_waits (mark_of old.adapter.controller) (judged_if moving (ending_told between.controller)) moving (record old { adapter = between }) new stage_is follows
 step_waits (Telling results read) old between new stage_is waits steps is = at_stage (Telling results read) new (ap (λ front. front.stage) is ∙ stage_is) tt
 
 -- ---- the channel

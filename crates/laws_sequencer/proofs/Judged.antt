@@ -49,9 +49,10 @@ bad_known : (operation : Operation) (past : Past) (sent : Sent) (was : Option Bo
 bad_known (Read wanted skip) past sent was fdc bad sized means is = bad sized is
 bad_known (Write deleted) past sent was fdc bad sized means is = absurd means.cause
 
-has_bad : (operation : Operation) (past : Past) (key : Chrn) (marked : Bool) → FindsBadField past key marked → (is_skipping operation ≡ true → is_other operation marked ≡ false) → HasBadField operation past key
-has_bad (Read wanted skip) past key marked found own = (marked, found, own)
-has_bad (Write deleted) past key marked found own = tt
+has_bad : (operation : Operation) (past : Past) (key : Chrn) (mark : Option Bool) (marked : Bool) → mark ≡ Some marked → FindsBadField past key marked
+    → (is_skipping operation ≡ true → is_other operation marked ≡ false) → HasBadField operation past key mark
+has_bad (Read wanted skip) past key mark marked is found own = (marked, is, found, own)
+has_bad (Write deleted) past key mark marked is found own = tt
 
 -- ---- its ending
 
@@ -67,7 +68,7 @@ module _ (operation : Operation) (met : Bool) (moving : MovingSector) (past : Pa
 
   -- what an ending says, and its mark
   abbrev IsJudgedAs : Ending → Type 0
-  IsJudgedAs ending = MeansJudged ending moving.skipped operation past sent × IsMarkOf ending (mark_then was fdc.phase)
+  IsJudgedAs ending = MeansJudged ending moving.skipped operation past sent (mark_then was fdc.phase) × IsMarkOf ending (mark_then was fdc.phase)
 
   done_judged : (marked : Bool) → ending_told fdc ≡ Some (Done marked) → Means operation past sent (Done marked) → IsJudgedAs (Done marked)
   done_judged marked is means = (by_left accounts.bytes, then_done was fdc.phase marked is)
@@ -90,10 +91,10 @@ module _ (operation : Operation) (met : Bool) (moving : MovingSector) (past : Pa
           ((turn, p, q, subst (λ m. HasFieldIn past moving.transfer.key m turn p q) (this ∙ its) field), here ∙ ap (λ m. Some m) its)
 
   -- another field has a wrong CRC: its mark is wanted, or fields of the other mark aren't passed over
-  bad_counts : moving.skipped ≡ false → ending_told fdc ≡ Some BadCheck → Means operation past sent BadCheck → HasBadField operation past moving.transfer.key
+  bad_counts : moving.skipped ≡ false → ending_told fdc ≡ Some BadCheck → Means operation past sent BadCheck → HasBadField operation past moving.transfer.key (mark_then was fdc.phase)
   bad_counts kept is means =
       let (marked, known_is, found) = bad_known operation past sent was fdc bad accounts.sized means is in
-      has_bad operation past moving.transfer.key marked found
+      has_bad operation past moving.transfer.key (mark_then was fdc.phase) marked (then_bad was fdc.phase is ∙ known_is) found
       (λ skips. either_way (is_other operation marked) (λ unwanted. absurd (not_other skips (marked, known_is, unwanted) accounts.bytes)) (λ wanted. wanted))
     where
       not_other : is_skipping operation ≡ true → IsOfOther operation was → AreLeft operation met moving (mark_then was fdc.phase) (bytes_moved operation past) → ⊥

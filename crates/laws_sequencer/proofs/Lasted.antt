@@ -189,7 +189,7 @@ next_within : (now left sectors next n : ℕ) → now < left → next + 1 ≡ se
 next_within now left sectors next n fewer one all = omega arith
 
 seek_lasts : (n : ℕ) (at : Transfer) (counted : Bool) (old : Front) (between : AdapterState) (new : Front) → old.stage ≡ Seeking at counted → SeeksWithin n at old.adapter.controller → StepsAdapter old.adapter between
-    → FollowsStep (Seeking at counted) (record old { adapter = between }) new → (new.stage ≡ Through → ⊥) → Lasts (n - 1) new
+    → FollowsStep (mark_of old.adapter.controller) (Seeking at counted) (record old { adapter = between }) new → (new.stage ≡ Through → ⊥) → Lasts (n - 1) new
 seek_lasts n at counted old between new stage_is was steps follows stays = by_end (has_ended_seek between.controller.seeks) refl follows
   where
     on : NearsEnd old.adapter.controller between.controller
@@ -223,43 +223,43 @@ module _ (n : ℕ) (moving : MovingSector) (old : Fdc) (was : MovesWithin n movi
   results_last : (results : Results) (front new : Front) → new ≡ record front { stage = Telling results 0 } → Lasts (n - 1) new
   results_last results front new is = at_stage (n - 1) (Telling results 0) new (ap (λ f. f.stage) is) tt
 
-  ends_last : (ending : Ending) (phase : Phase) (front new : Front) → steps_left phase < steps_left old.phase → (new.stage ≡ Through → ⊥) → EndsSector moving ending front new → Lasts (n - 1) new
-  ends_last (Done marked) phase front new fewer stays ends = by_next (goes_on moving marked) refl ends
+  ends_last : (mark : Option Bool) (ending : Ending) (phase : Phase) (front new : Front) → steps_left phase < steps_left old.phase → (new.stage ≡ Through → ⊥) → EndsSector mark moving ending front new → Lasts (n - 1) new
+  ends_last mark (Done marked) phase front new fewer stays ends = by_next (goes_on moving marked) refl ends
     where
       by_next : (b : Bool) → goes_on moving marked ≡ b → EndsIf b moving marked front new → Lasts (n - 1) new
       by_next true goes begins = next_lasts marked phase front new fewer goes stays begins
       by_next false over is = results_last (results_behind moving marked) front new is
-  ends_last NoMark phase front new fewer stays is = results_last (results_failed moving NoMark) front new is
-  ends_last NoSector phase front new fewer stays is = results_last (results_failed moving NoSector) front new is
-  ends_last NoField phase front new fewer stays is = results_last (results_failed moving NoField) front new is
-  ends_last BadCheck phase front new fewer stays is = results_last (results_failed moving BadCheck) front new is
-  ends_last Overrun phase front new fewer stays is = results_last (results_failed moving Overrun) front new is
-  ends_last NoCount phase front new fewer stays is = results_last (results_failed moving NoCount) front new is
-  ends_last Protected phase front new fewer stays is = results_last (results_failed moving Protected) front new is
-  ends_last Late phase front new fewer stays is = results_last (results_failed moving Late) front new is
+  ends_last mark NoMark phase front new fewer stays is = results_last (results_failed mark moving NoMark) front new is
+  ends_last mark NoSector phase front new fewer stays is = results_last (results_failed mark moving NoSector) front new is
+  ends_last mark NoField phase front new fewer stays is = results_last (results_failed mark moving NoField) front new is
+  ends_last mark BadCheck phase front new fewer stays is = results_last (results_failed mark moving BadCheck) front new is
+  ends_last mark Overrun phase front new fewer stays is = results_last (results_failed mark moving Overrun) front new is
+  ends_last mark NoCount phase front new fewer stays is = results_last (results_failed mark moving NoCount) front new is
+  ends_last mark Protected phase front new fewer stays is = results_last (results_failed mark moving Protected) front new is
+  ends_last mark Late phase front new fewer stays is = results_last (results_failed mark moving Late) front new is
 
   passed_last : (b : Bool) (front new : Front) → front.stage ≡ Moving moving → MovesWithin (n - 1) moving.transfer front.adapter.controller → new ≡ passed_over_if b moving front → Lasts (n - 1) new
   passed_last true front new stage_is within is = subst (Lasts (n - 1)) (sym is) (told_within (n - 1) moving.transfer front.adapter.controller within)
   passed_last false front new stage_is within is = same_lasts (n - 1) front new is (at_stage (n - 1) (Moving moving) front stage_is within)
 
-  moves_last : (ending : Option Ending) (front new : Front) → front.stage ≡ Moving moving → steps_left front.adapter.controller.phase < steps_left old.phase → IsCounted front.adapter.controller.phase
-      → (new.stage ≡ Through → ⊥) → MovesOn ending moving front new → Lasts (n - 1) new
-  moves_last (Some ending) front new stage_is fewer counted stays ends = ends_last ending front.adapter.controller.phase _ new fewer stays ends
-  moves_last None front new stage_is fewer counted stays is = passed_last (is_unwanted moving (mark_of front.adapter.controller)) front new stage_is (record {
+  moves_last : (mark : Option Bool) (ending : Option Ending) (front new : Front) → front.stage ≡ Moving moving → steps_left front.adapter.controller.phase < steps_left old.phase → IsCounted front.adapter.controller.phase
+      → (new.stage ≡ Through → ⊥) → MovesOn mark ending moving front new → Lasts (n - 1) new
+  moves_last mark (Some ending) front new stage_is fewer counted stays ends = ends_last mark ending front.adapter.controller.phase _ new fewer stays ends
+  moves_last mark None front new stage_is fewer counted stays is = passed_last (is_unwanted moving (mark_of front.adapter.controller)) front new stage_is (record {
     bytes = was.bytes;
     counted = counted;
     within = fewer_within (steps_left front.adapter.controller.phase) (steps_left old.phase) (sectors_from moving.transfer) n fewer (sectors_some moving.transfer) was.within;
   }) is
 
 step_lasts : (n : ℕ) (first : Transfer) (history : History) (stage : Stage) (old : Front) (between : AdapterState) (new : Front) → old.stage ≡ stage → ServesAt stage first history old.adapter.controller
-    → LastsAt n stage old.adapter.controller → StepsAdapter old.adapter between → FollowsStep stage (record old { adapter = between }) new → (new.stage ≡ Through → ⊥) → Lasts (n - 1) new
+    → LastsAt n stage old.adapter.controller → StepsAdapter old.adapter between → FollowsStep (mark_of old.adapter.controller) stage (record old { adapter = between }) new → (new.stage ≡ Through → ⊥) → Lasts (n - 1) new
 step_lasts n first history Through old between new stage_is now was steps follows stays = absurd was
 step_lasts n first history (Collecting opcode) old between new stage_is now was steps follows stays = absurd was
 step_lasts n first history (Telling results read) old between new stage_is now was steps is stays = at_stage (n - 1) (Telling results read) new (ap (λ front. front.stage) is ∙ stage_is) tt
 step_lasts n first history (Seeking at counted) old between new stage_is now was steps follows stays = seek_lasts n at counted old between new stage_is was steps follows stays
 step_lasts n first history (Moving moving) old between new stage_is (here, counts, carries) was steps follows stays =
     let (fewer, counted) = step_fewer old.adapter.controller.phase between.controller.phase carries.busy (adapter_ends old.adapter between steps) in
-    moves_last n moving old.adapter.controller was (judged_if moving (ending_told between.controller)) (record old { adapter = between }) new stage_is fewer counted stays follows
+    moves_last n moving old.adapter.controller was (mark_of old.adapter.controller) (judged_if moving (ending_told between.controller)) (record old { adapter = between }) new stage_is fewer counted stays follows
 
 -- ---- the channel
 

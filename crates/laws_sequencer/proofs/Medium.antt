@@ -350,20 +350,20 @@ module _ (place : Place) (first : Transfer) (wanted skip : Bool) (reads : first.
         (taken_drive place.bay front.adapter begins.between begins.takes.first begins.takes.second ∙ same) begins.begun
     ends_if_hear false marked front same is = tells_hear (results_behind moving marked) front same is
 
-    ends_hear : (ending : Ending) (mark : Option Bool) (front : Front) → drive_at front.adapter place.bay ≡ drive_at between place.bay → EndsSector moving ending front new → Hears place first (history_moved (Some ending) moving mark now history) new
-    ends_hear (Done marked) mark front same ends = ends_if_hear (goes_on moving marked) marked front same ends
-    ends_hear NoMark mark front same ends = tells_hear (results_failed moving NoMark) front same ends
-    ends_hear NoSector mark front same ends = tells_hear (results_failed moving NoSector) front same ends
-    ends_hear NoField mark front same ends = tells_hear (results_failed moving NoField) front same ends
-    ends_hear BadCheck mark front same ends = tells_hear (results_failed moving BadCheck) front same ends
-    ends_hear Overrun mark front same ends = tells_hear (results_failed moving Overrun) front same ends
-    ends_hear NoCount mark front same ends = tells_hear (results_failed moving NoCount) front same ends
-    ends_hear Protected mark front same ends = tells_hear (results_failed moving Protected) front same ends
-    ends_hear Late mark front same ends = tells_hear (results_failed moving Late) front same ends
+    ends_hear : (was : Option Bool) (ending : Ending) (mark : Option Bool) (front : Front) → drive_at front.adapter place.bay ≡ drive_at between place.bay → EndsSector was moving ending front new → Hears place first (history_moved (Some ending) moving mark now history) new
+    ends_hear was (Done marked) mark front same ends = ends_if_hear (goes_on moving marked) marked front same ends
+    ends_hear was NoMark mark front same ends = tells_hear (results_failed was moving NoMark) front same ends
+    ends_hear was NoSector mark front same ends = tells_hear (results_failed was moving NoSector) front same ends
+    ends_hear was NoField mark front same ends = tells_hear (results_failed was moving NoField) front same ends
+    ends_hear was BadCheck mark front same ends = tells_hear (results_failed was moving BadCheck) front same ends
+    ends_hear was Overrun mark front same ends = tells_hear (results_failed was moving Overrun) front same ends
+    ends_hear was NoCount mark front same ends = tells_hear (results_failed was moving NoCount) front same ends
+    ends_hear was Protected mark front same ends = tells_hear (results_failed was moving Protected) front same ends
+    ends_hear was Late mark front same ends = tells_hear (results_failed was moving Late) front same ends
 
-    moves_hear : (ending : Option Ending) → MovesOn ending moving fronted new → Hears place first (history_moved ending moving (mark_of between.controller) now history) new
-    moves_hear None does = passes_hear (is_unwanted moving (mark_of between.controller)) does
-    moves_hear (Some ending) does = ends_hear ending (mark_of between.controller) (record fronted { adapter = with_controller (given_up between.controller) between }) refl does
+    moves_hear : (was : Option Bool) (ending : Option Ending) → MovesOn was ending moving fronted new → Hears place first (history_moved ending moving (mark_of between.controller) now history) new
+    moves_hear was None does = passes_hear (is_unwanted moving (mark_of between.controller)) does
+    moves_hear was (Some ending) does = ends_hear was ending (mark_of between.controller) (record fronted { adapter = with_controller (given_up between.controller) between }) refl does
 
   seeks_hear : (b : Bool) (at : Transfer) (counted : Bool) (history : History) (old new : Front) → old.stage ≡ Seeking at counted → AreHeardAt place history.parts → at ≡ first → history.parts ≡ []
       → (new.stage ≡ Through → ⊥) → IsAtWhile new.stage place new → SeeksOn b at counted old new → Hears place first (history_sought b counted history) new
@@ -381,7 +381,7 @@ module _ (place : Place) (first : Transfer) (wanted skip : Bool) (reads : first.
       by_busy false is = absurd (stays (ap (λ front. front.stage) is))
 
   step_hears : (stage : Stage) (history : History) (time : WordTime) (old : Front) (between : AdapterState) (new : Front) → old.stage ≡ stage → AreHeardAt place history.parts → NowHeard stage place first history old
-      → IsAtWhile stage place old → (new.stage ≡ Through → ⊥) → IsAtWhile new.stage place new → Passes stage time old.adapter between → FollowsStep stage (record old { adapter = between }) new
+      → IsAtWhile stage place old → (new.stage ≡ Through → ⊥) → IsAtWhile new.stage place new → Passes stage time old.adapter between → FollowsStep (mark_of old.adapter.controller) stage (record old { adapter = between }) new
       → Hears place first (history_stepped stage time between.controller history) new
   step_hears Through history time old between new stage_is parts now at stays at_then passes follows = absurd now
   step_hears (Collecting opcode) history time old between new stage_is parts now at stays at_then passes follows = absurd now
@@ -396,7 +396,7 @@ module _ (place : Place) (first : Transfer) (wanted skip : Bool) (reads : first.
       let there = subst (λ a. IsTime time place.rate (head_of a.head_drive) (drive_at old.adapter place.bay) (drive_at between place.bay)) here
       (subst (λ rate. IsTime time rate (head_of moving.transfer.head_drive) (drive_at old.adapter place.bay) (drive_at between place.bay)) at.rate is) in
       let on = time_hears wanted skip place (here_of first history) history.past time (drive_at old.adapter place.bay) (drive_at between place.bay) at.disk (subst (λ o. IsTimeOf o time) same kind) there hearing in
-      moves_hear history moving old between new (after_time time history.past) parts here on stage_is stays at_then (judged_if moving (ending_told between.controller)) follows
+      moves_hear history moving old between new (after_time time history.past) parts here on stage_is stays at_then (mark_of old.adapter.controller) (judged_if moving (ending_told between.controller)) follows
 
   -- ---- the channel
 

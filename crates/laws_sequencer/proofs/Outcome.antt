@@ -12,7 +12,7 @@ use Rattle.fdc_phases.specs.Heard.{Sent}
 use Rattle.fdc_phases.specs.Written.{IsContent}
 use Rattle.fdc_core.specs.declared.controller.Fdc.{Fdc}
 use Rattle.fdc_sequencer.specs.Fronts.{Front}
-use Rattle.fdc_sequencer.specs.Moves.{goes_on, has_met_other, results_behind, results_failed, would_go_on}
+use Rattle.fdc_sequencer.specs.Moves.{goes_on, has_failed_other, has_met_other, is_bad_other, results_behind, results_failed, would_go_on}
 use Rattle.laws_sequencer.specs.Outcomes.{EndsSo, HasField, IsFailure, IsFieldWith, IsJudged, IsMovedBut, PassedWhole, PassesOfSector, ResultsSay, StopsBehind, TellsOther}
 use Rattle.laws_sequencer.specs.Serving.{Accounts, AreLeft, Ends, History, IsFieldDone, IsLastOne, IsMarkOf, IsMoved, IsOfSector, Means, MeansJudged, Part, Serves, ServesAt, bytes_moved, has_other, results_ended, sector_after, sent_of}
 use Rattle.fdc_sequencer.specs.Transfers.{is_last, is_other, is_skipping, next_of, results_told}
@@ -22,7 +22,7 @@ use Rattle.fdc_sequencer.specs.declared.stage.Moving.{Moving as MovingSector}
 use Rattle.fdc_sequencer.specs.declared.stage.Stage.{Stage}
 use Rattle.fdc_sequencer.specs.declared.stage.Stage.TheVariants.{Through, Collecting, Seeking, Moving, Telling}
 use Rattle.fdc_sequencer.specs.declared.transfer.Transfer.{Transfer}
-use Rattle.laws_sequencer.proofs.Courses.{done_written, met_then, nothing_left, over_counted, part_moved, sector_opcode, skipped_over, would_uncounted}
+use Rattle.laws_sequencer.proofs.Courses.{done_written, met_then, nothing_left, or_none, over_counted, part_moved, sector_opcode, skipped_over, would_uncounted}
 use Rattle.laws_sequencer.proofs.Known.{clash}
 use Rattle.laws_sequencer.proofs.Served.{of_sector}
 
@@ -112,29 +112,36 @@ module _ (operation : Operation) (met told : Bool) (moving : MovingSector) (past
         ∙ ap (results_told (Done false) sector (next_of sector).key) (met_then operation met moving past mark marked same mark_is accounts));
   })
 
-  fails_so : (ending : Ending) → IsFailure ending → Means operation past (sent_of sector) ending → IsJudged ending operation past sector.key → TellsOther ending operation met moving.passed_over
-      → results ≡ results_failed moving ending → EndsSo operation met told sector past results
+  fails_so : (ending : Ending) → IsFailure ending → Means operation past (sent_of sector) ending → IsJudged ending operation past sector.key mark
+      → TellsOther ending operation met mark (has_failed_other mark moving ending) → results ≡ results_failed mark moving ending → EndsSo operation met told sector past results
   fails_so ending fails means judged other are = inr (inr (record {
     ending = ending;
     fails = fails;
     means = means;
+    mark = mark;
     judged = judged;
     of_sector = of_it;
-    told = moving.passed_over;
+    told = has_failed_other mark moving ending;
     other = other;
     results_are = are;
   }))
 
-  tells : (moving.passed_over ≡ met) ⊎ ((moving.passed_over ≡ true) × (is_skipping operation ≡ true))
-  tells = other_told operation met moving mark (bytes_moved operation past) accounts.bytes
+  tells : ((moving.passed_over || false) ≡ met) ⊎ (((moving.passed_over || false) ≡ true) × (is_skipping operation ≡ true))
+  tells = subst (λ b. (b ≡ met) ⊎ ((b ≡ true) × (is_skipping operation ≡ true))) (sym (or_none moving.passed_over))
+      (other_told operation met moving mark (bytes_moved operation past) accounts.bytes)
 
-  ends_so : (ending : Ending) → MeansJudged ending moving.skipped operation past (sent_of sector) → IsLastOne moving ending → IsMarkOf ending mark → results ≡ results_ended moving ending
+  -- the field whose CRC is wrong isn't passed over, and CM says of it too whether its mark is wanted
+  bad_tells : moving.skipped ≡ false → has_failed_other mark moving BadCheck ≡ (met || is_bad_other operation BadCheck mark)
+  bad_tells kept = ap (λ b. b || is_bad_other moving.transfer.opcode.operation BadCheck mark) (before_told operation met moving mark (bytes_moved operation past) kept accounts.bytes)
+      ∙ ap (λ o. met || is_bad_other o BadCheck mark) same
+
+  ends_so : (ending : Ending) → MeansJudged ending moving.skipped operation past (sent_of sector) mark → IsLastOne moving ending → IsMarkOf ending mark → results ≡ results_ended mark moving ending
       → EndsSo operation met told sector past results
   ends_so (Done marked) means last mark_is are = done_so (would_go_on moving marked) marked refl last mark_is means are
   ends_so NoMark means last mark_is are = fails_so NoMark tt means tt tells are
   ends_so NoSector means last mark_is are = fails_so NoSector tt means tt tells are
   ends_so NoField means last mark_is are = fails_so NoField tt means tt tells are
-  ends_so BadCheck (kept, means, bad) last mark_is are = fails_so BadCheck tt means bad (before_told operation met moving mark (bytes_moved operation past) kept accounts.bytes) are
+  ends_so BadCheck (kept, means, bad) last mark_is are = fails_so BadCheck tt means bad (bad_tells kept) are
   ends_so Overrun means last mark_is are = fails_so Overrun tt means tt tells are
   ends_so NoCount means last mark_is are = absurd (no_count operation met moving past mark accounts means)
   ends_so Protected means last mark_is are = fails_so Protected tt means tt tells are
@@ -145,7 +152,7 @@ ended_so operation met told at past results same ends =
     subst (λ a. EndsSo operation met told a past results) ends.here
     (ends_so operation met told ends.moving past ends.mark results (ap (λ a. a.opcode.operation) ends.here ∙ same) ends.counted ends.accounts
     (subst (λ a. IsOfSector operation past (sent_of a)) (sym ends.here) ends.of_sector) ends.ending
-    (subst (λ a. MeansJudged ends.ending ends.moving.skipped operation past (sent_of a)) (sym ends.here) ends.means) ends.last ends.marked ends.results_are)
+    (subst (λ a. MeansJudged ends.ending ends.moving.skipped operation past (sent_of a) ends.mark) (sym ends.here) ends.means) ends.last ends.marked ends.results_are)
 
 pub results_say : (first : Transfer) (history : History) (front : Front) (results : Results) (read : ℕ) → Serves first history front → front.stage ≡ Telling results read → ResultsSay first history results
 results_say first history front results read serves is =

@@ -42,7 +42,7 @@ use Rattle.fdc_sequencer.specs.declared.transfer.Transfer.{Transfer}
 use Rattle.laws_sequencer.proofs.Judged.{judges}
 use Rattle.laws_sequencer.proofs.Known.{BadGoes, KnownOn, MovedOn, bytes_told, clash, either_way, in_on, out_on, port_busy, port_mark, port_on, steps_on}
 use Rattle.laws_sequencer.proofs.Free.{answer_sized, first_sized, free_executes, given_free, next_size, port_free, sought_free, step_dma, step_free}
-use Rattle.laws_sequencer.proofs.Marks.{mark_then, then_busy}
+use Rattle.laws_sequencer.proofs.Marks.{mark_then, then_bad, then_busy}
 use Rattle.laws_sequencer.proofs.Started.{Begun, answered_idle, begun_busy, begun_carries, seek_answered, size_is, told_carries}
 use Rattle.laws_sequencer.proofs.Courses.{accounts_on, bytes_more, bytes_next, goes_would, met_then, moved_more, none_more, not_over, one_passed, one_told, other_more, over_told, part_moved, sector_more, sector_opcode, would_uncounted}
 
@@ -160,6 +160,19 @@ still_busy (Write deleted) past sent fdc was none = by_phase fdc.phase was none
 
 -- ---- a device step while a sector is moved
 
+-- a failure leaves the mark as it was
+ends_then : (moving : MovingSector) (was : Option Bool) (phase : Phase) (ending : Ending) (old new : Front) → ending_of_phase phase ≡ Some ending
+    → EndsSector was moving (judged moving ending) old new → EndsSector (mark_then was phase) moving (judged moving ending) old new
+ends_then moving was phase (Done marked) old new is ends = ends
+ends_then moving was phase NoMark old new is ends = ends
+ends_then moving was phase NoSector old new is ends = ends
+ends_then moving was phase NoField old new is ends = ends
+ends_then moving was phase BadCheck old new is ends = subst (λ mark. EndsSector mark moving (judged moving BadCheck) old new) (sym (then_bad was phase is)) ends
+ends_then moving was phase Overrun old new is ends = ends
+ends_then moving was phase NoCount old new is ends = ends
+ends_then moving was phase Protected old new is ends = ends
+ends_then moving was phase Late old new is ends = ends
+
 module _ (first : Transfer) (parts : List Part) (past : Past) (counted : Bool) (moving : MovingSector) (sized : IsSizeCode first.key.n) (were : AreMoved first.opcode.operation first parts) (here : moving.transfer ≡ sector_after (length parts) first) (counts : moving.counted ≡ counted) where
   abbrev operation : Operation
   operation = first.opcode.operation
@@ -176,8 +189,8 @@ module _ (first : Transfer) (parts : List Part) (past : Past) (counted : Bool) (
 
   -- the results are given
   tells_on : (now : Past) (mark : Option Bool) (ending : Ending) (new : Front) → bytes_moved operation now ≡ bytes_moved operation past → Accounts operation met moving now mark
-      → IsOfSector operation now (sent_of moving.transfer) → MeansJudged ending moving.skipped operation now (sent_of moving.transfer) → IsLastOne moving ending → IsMarkOf ending mark
-      → new.stage ≡ Telling (results_ended moving ending) 0 → GoesOn [] false first so_far (record so_far { past = now }) new
+      → IsOfSector operation now (sent_of moving.transfer) → MeansJudged ending moving.skipped operation now (sent_of moving.transfer) mark → IsLastOne moving ending → IsMarkOf ending mark
+      → new.stage ≡ Telling (results_ended mark moving ending) 0 → GoesOn [] false first so_far (record so_far { past = now }) new
   tells_on now mark ending new bytes accounts of_sector means last marked is = (
     bytes_more operation parts past now counted counted [] (bytes ∙ sym (append-nil (bytes_moved operation past))),
     none_told counted,
@@ -189,9 +202,9 @@ module _ (first : Transfer) (parts : List Part) (past : Past) (counted : Bool) (
         here = here;
         counted = counts;
         ending = ending;
-        means = subst (λ at. MeansJudged ending moving.skipped operation now (sent_of at)) here means;
-        last = last;
         mark = mark;
+        means = subst (λ at. MeansJudged ending moving.skipped operation now (sent_of at) mark) here means;
+        last = last;
         marked = marked;
         accounts = accounts;
         of_sector = subst (λ at. IsOfSector operation now (sent_of at)) here of_sector;
@@ -228,7 +241,7 @@ module _ (first : Transfer) (parts : List Part) (past : Past) (counted : Bool) (
       tells_on now mark (Done marked) new bytes accounts of_sector done goes mark_is (ap (λ front. front.stage) ends)
 
   ends_on : (ending : Ending) (now : Past) (mark : Option Bool) (old new : Front) → IsFree old.adapter.controller → bytes_moved operation now ≡ bytes_moved operation past → Accounts operation met moving now mark
-      → IsOfSector operation now (sent_of moving.transfer) → MeansJudged ending moving.skipped operation now (sent_of moving.transfer) → IsMarkOf ending mark → EndsSector moving ending old new
+      → IsOfSector operation now (sent_of moving.transfer) → MeansJudged ending moving.skipped operation now (sent_of moving.transfer) mark → IsMarkOf ending mark → EndsSector mark moving ending old new
       → GoesOn [] false first so_far (history_moved (Some ending) moving mark now so_far) new
   ends_on (Done marked) now mark old new free bytes accounts of_sector means mark_is ends = ends_if (goes_on moving marked) now mark marked old new refl free bytes accounts of_sector means mark_is ends
   ends_on NoMark now mark old new free bytes accounts of_sector means mark_is ends = tells_on now mark NoMark new bytes accounts of_sector means tt tt (ap (λ front. front.stage) ends)
@@ -308,7 +321,7 @@ module _ (first : Transfer) (parts : List Part) (past : Past) (counted : Bool) (
   moves_on : (ending : Option Ending) (now : Past) (was : Option Bool) (old new : Front) → old.stage ≡ Moving moving → ending_told old.adapter.controller ≡ ending → IsFree old.adapter.controller
       → bytes_moved operation now ≡ bytes_moved operation past → Accounts operation met moving now (mark_then was old.adapter.controller.phase)
       → MayMove operation now (sent_of moving.transfer) old.adapter.controller → (is_skipping operation ≡ true → IsOfOther operation was → moving.left ≡ 0)
-      → BadGoes operation now moving.transfer.key was old.adapter.controller → MovesOn (judged_if moving ending) moving old new
+      → BadGoes operation now moving.transfer.key was old.adapter.controller → MovesOn was (judged_if moving ending) moving old new
       → GoesOn [] false first so_far (history_moved (judged_if moving ending) moving (mark_of old.adapter.controller) now so_far) new
   moves_on None now was old new stage_is none free bytes accounts moves passes bad does =
       let busy = still_busy operation now (sent_of moving.transfer) old.adapter.controller moves none in
@@ -320,11 +333,11 @@ module _ (first : Transfer) (parts : List Part) (past : Past) (counted : Bool) (
       let (means, marked) = judges operation met moving now was fdc same_operation accounts passes bad ending some (ended_means operation now sent fdc ending accounts.sized moves some) in
       subst (λ h. GoesOn [] false first so_far h new) (any_mark (judged moving ending) (mark_then was fdc.phase) (mark_of fdc) now)
       (ends_on (judged moving ending) now (mark_then was fdc.phase) (record old { adapter = with_controller (given_up fdc) old.adapter }) new (given_free fdc free) bytes accounts
-      (of_sector operation now sent fdc moves) means marked does)
+      (of_sector operation now sent fdc moves) means marked (ends_then moving was fdc.phase ending (record old { adapter = with_controller (given_up fdc) old.adapter }) new some does))
 
   -- whatever is known of the word time, this follows from it
   pub known_moves : (old : Front) (between : AdapterState) (new : Front) (Is : WordTime → Type 0) → old.stage ≡ Moving moving → Carries operation met moving past old.adapter.controller → StepsAdapter old.adapter between
-      → (known : KnownOn operation past (sent_of moving.transfer) (mark_of old.adapter.controller) Is between.controller) → MovesOn (judged_if moving (ending_told between.controller)) moving (record old { adapter = between }) new
+      → (known : KnownOn operation past (sent_of moving.transfer) (mark_of old.adapter.controller) Is between.controller) → MovesOn (mark_of old.adapter.controller) (judged_if moving (ending_told between.controller)) moving (record old { adapter = between }) new
       → GoesOn [] false first so_far (history_moved (judged_if moving (ending_told between.controller)) moving (mark_of between.controller) (after_time known.time past) so_far) new
   known_moves old between new Is stage_is carries steps known does =
       let was = mark_of old.adapter.controller in
@@ -334,7 +347,7 @@ module _ (first : Transfer) (parts : List Part) (past : Past) (counted : Bool) (
       (accounts_on operation met moving past now was (mark_then was between.controller.phase) known.marks known.bytes known.counted carries.accounts) known.moves carries.passes known.bad does
 
   step_moves : (old : Front) (between : AdapterState) (new : Front) → old.stage ≡ Moving moving → Carries operation met moving past old.adapter.controller → StepsAdapter old.adapter between
-      → MovesOn (judged_if moving (ending_told between.controller)) moving (record old { adapter = between }) new → StepsTo first so_far old between new
+      → MovesOn (mark_of old.adapter.controller) (judged_if moving (ending_told between.controller)) moving (record old { adapter = between }) new → StepsTo first so_far old between new
   step_moves old between new stage_is carries steps does =
       let known = steps_on operation past (sent_of moving.transfer) old.adapter between steps carries.busy carries.moves in
       record {
@@ -444,7 +457,8 @@ seeks_on false first history at counted old new ended stage_is sized here none d
     inl (same_stage first history (Seeking at counted) new (ap (λ front. front.stage) does ∙ stage_is) sized (subst (λ h. AreMoved first.opcode.operation first h.parts) (sym none) tt) (here, none))
 
 step_at : (stage : Stage) (first : Transfer) (history : History) (old : Front) (between : AdapterState) (new : Front) → old.stage ≡ stage → IsSizeCode first.key.n → AreMoved first.opcode.operation first history.parts
-    → ServesAt stage first history old.adapter.controller → StepsAdapter old.adapter between → FollowsStep stage (record old { adapter = between }) new → StepsTo first history old between new ⊎ RefusesFirst old new
+    → ServesAt stage first history old.adapter.controller → StepsAdapter old.adapter between → FollowsStep (mark_of old.adapter.controller) stage (record old { adapter = between }) new
+    → StepsTo first history old between new ⊎ RefusesFirst old new
 step_at Through first history old between new stage_is sized parts now steps follows = absurd now
 step_at (Collecting opcode) first history old between new stage_is sized parts now steps follows = absurd now
 step_at (Seeking at counted) first history old between new stage_is sized parts (here, none) steps follows =

@@ -276,29 +276,29 @@ record GoesSilent (history now : History) (new : Front) : Type 0 where
   parts : now.parts ≡ history.parts
 
 module _ (history : History) (past : Past) (moving : MovingSector) (counted : moving.counted ≡ true) (new : Front) where
-  silent_ends : (ending : Ending) (mark : Option Bool) (old : Front) → EndsSector moving ending old new → GoesSilent history (history_moved (Some ending) moving mark past history) new
-  silent_ends (Done marked) mark old ends =
+  silent_ends : (was : Option Bool) (ending : Ending) (mark : Option Bool) (old : Front) → EndsSector was moving ending old new → GoesSilent history (history_moved (Some ending) moving mark past history) new
+  silent_ends was (Done marked) mark old ends =
       let none = goes_counted moving marked counted in
       let is : EndsIf false moving marked old new = subst (λ b. EndsIf b moving marked old new) none ends in
       record { silent = silent_telling _ new (ap (λ f. f.stage) is) tt; parts = ap (λ b. (history_ended b moving.transfer marked past history).parts) none }
-  silent_ends NoMark mark old ends = record { silent = silent_telling _ new (ap (λ f. f.stage) ends) tt; parts = refl }
-  silent_ends NoSector mark old ends = record { silent = silent_telling _ new (ap (λ f. f.stage) ends) tt; parts = refl }
-  silent_ends NoField mark old ends = record { silent = silent_telling _ new (ap (λ f. f.stage) ends) tt; parts = refl }
-  silent_ends BadCheck mark old ends = record { silent = silent_telling _ new (ap (λ f. f.stage) ends) tt; parts = refl }
-  silent_ends Overrun mark old ends = record { silent = silent_telling _ new (ap (λ f. f.stage) ends) tt; parts = refl }
-  silent_ends NoCount mark old ends = record { silent = silent_telling _ new (ap (λ f. f.stage) ends) tt; parts = refl }
-  silent_ends Protected mark old ends = record { silent = silent_telling _ new (ap (λ f. f.stage) ends) tt; parts = refl }
-  silent_ends Late mark old ends = record { silent = silent_telling _ new (ap (λ f. f.stage) ends) tt; parts = refl }
+  silent_ends was NoMark mark old ends = record { silent = silent_telling _ new (ap (λ f. f.stage) ends) tt; parts = refl }
+  silent_ends was NoSector mark old ends = record { silent = silent_telling _ new (ap (λ f. f.stage) ends) tt; parts = refl }
+  silent_ends was NoField mark old ends = record { silent = silent_telling _ new (ap (λ f. f.stage) ends) tt; parts = refl }
+  silent_ends was BadCheck mark old ends = record { silent = silent_telling _ new (ap (λ f. f.stage) ends) tt; parts = refl }
+  silent_ends was Overrun mark old ends = record { silent = silent_telling _ new (ap (λ f. f.stage) ends) tt; parts = refl }
+  silent_ends was NoCount mark old ends = record { silent = silent_telling _ new (ap (λ f. f.stage) ends) tt; parts = refl }
+  silent_ends was Protected mark old ends = record { silent = silent_telling _ new (ap (λ f. f.stage) ends) tt; parts = refl }
+  silent_ends was Late mark old ends = record { silent = silent_telling _ new (ap (λ f. f.stage) ends) tt; parts = refl }
 
   silent_passes : (b : Bool) (old : Front) → old.stage ≡ Moving moving → Muted old.adapter.controller → new ≡ passed_over_if b moving old → IsSilent new
   silent_passes false old stage_is was is = subst IsSilent (sym is) (subst (λ s. IsSilentAt s old.adapter.controller) (sym stage_is) (counted, was))
   silent_passes true old stage_is was is =
       subst IsSilent (sym is) (counted, told_muted old.adapter.controller (muted_kind old.adapter.controller.phase old.adapter.controller.asking old.adapter.controller.fifo.bytes was))
 
-  silent_moves : (ending : Option Ending) (old : Front) → old.stage ≡ Moving moving → Muted old.adapter.controller → MovesOn ending moving old new
+  silent_moves : (was : Option Bool) (ending : Option Ending) (old : Front) → old.stage ≡ Moving moving → Muted old.adapter.controller → MovesOn was ending moving old new
       → GoesSilent history (history_moved ending moving (mark_of old.adapter.controller) past history) new
-  silent_moves None old stage_is was does = record { silent = silent_passes (is_unwanted moving (mark_of old.adapter.controller)) old stage_is was does; parts = refl }
-  silent_moves (Some ending) old stage_is was does = silent_ends ending (mark_of old.adapter.controller) (record old { adapter = with_controller (given_up old.adapter.controller) old.adapter }) does
+  silent_moves was None old stage_is muted does = record { silent = silent_passes (is_unwanted moving (mark_of old.adapter.controller)) old stage_is muted does; parts = refl }
+  silent_moves was (Some ending) old stage_is muted does = silent_ends was ending (mark_of old.adapter.controller) (record old { adapter = with_controller (given_up old.adapter.controller) old.adapter }) does
 
 -- what a served command executes is a read or a write
 served_kind : (first : Transfer) (history : History) (moving : MovingSector) (new : Front) → Serves first history new → new.stage ≡ Moving moving → IsKind new.adapter.controller.phase
@@ -328,14 +328,14 @@ stage_silent stage new is silent = subst (λ s. IsSilentAt s new.adapter.control
 module _ (first : Transfer) (served history : History) where
   -- where the next front is served too
   silent_step : (stage : Stage) (time : WordTime) (old : Front) (between : AdapterState) (new : Front) → old.stage ≡ stage → ServesAt stage first served old.adapter.controller → IsSilentAt stage old.adapter.controller
-      → StepsAdapter old.adapter between → FollowsStep stage (record old { adapter = between }) new → (then_served : History) → Serves first then_served new → (new.stage ≡ Through → ⊥)
+      → StepsAdapter old.adapter between → FollowsStep (mark_of old.adapter.controller) stage (record old { adapter = between }) new → (then_served : History) → Serves first then_served new → (new.stage ≡ Through → ⊥)
       → GoesSilent history (history_stepped stage time between.controller history) new
   silent_step Through time old between new is now was steps follows then_served serves stays = absurd now
   silent_step (Collecting opcode) time old between new is now was steps follows then_served serves stays = absurd now
   silent_step (Telling results read) time old between new is now was steps follows then_served serves stays =
       record { silent = stage_silent (Telling results read) new (ap (λ f. f.stage) follows ∙ is) tt; parts = refl }
   silent_step (Moving moving) time old between new is (here, counts, carries) (counted, muted) steps follows then_served serves stays =
-      silent_moves history (after_time time history.past) moving counted new (judged_if moving (ending_told between.controller)) (record old { adapter = between }) is (step_muted old.adapter between steps carries.busy muted) follows
+      silent_moves history (after_time time history.past) moving counted new (mark_of old.adapter.controller) (judged_if moving (ending_told between.controller)) (record old { adapter = between }) is (step_muted old.adapter between steps carries.busy muted) follows
   silent_step (Seeking at counted) time old between new is now was steps follows then_served serves stays = by_sought (has_ended_seek between.controller.seeks) follows
     where
       by_busy : (b : Bool) (adapter : AdapterState) (front : Front) → new ≡ begun_if b at counted false adapter front → IsSilent new

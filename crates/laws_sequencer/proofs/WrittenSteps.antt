@@ -251,23 +251,23 @@ module _ (place : Place) (deleted : Bool) (first : Transfer) (writes : first.opc
       ends_if false marked serves is = tells_now (results_behind moving marked) is
 
     -- the sector ends, as the front judges it
-    ends_now : (ending : Ending) (mark : Option Bool) (told : Ending) → ending_told between.controller ≡ Some told → Serves first (history_moved (Some ending) moving mark now history) new
-        → EndsSector moving ending (record fronted { adapter = with_controller (given_up between.controller) between }) new → IsNow (history_moved (Some ending) moving mark now history) new
-    ends_now (Done marked) mark told ended serves ends = ends_if told ended (goes_on moving marked) marked serves ends
-    ends_now NoMark mark told ended serves ends = tells_now told ended (results_failed moving NoMark) ends
-    ends_now NoSector mark told ended serves ends = tells_now told ended (results_failed moving NoSector) ends
-    ends_now NoField mark told ended serves ends = tells_now told ended (results_failed moving NoField) ends
-    ends_now BadCheck mark told ended serves ends = tells_now told ended (results_failed moving BadCheck) ends
-    ends_now Overrun mark told ended serves ends = tells_now told ended (results_failed moving Overrun) ends
-    ends_now NoCount mark told ended serves ends = tells_now told ended (results_failed moving NoCount) ends
-    ends_now Protected mark told ended serves ends = tells_now told ended (results_failed moving Protected) ends
-    ends_now Late mark told ended serves ends = tells_now told ended (results_failed moving Late) ends
+    ends_now : (was : Option Bool) (ending : Ending) (mark : Option Bool) (told : Ending) → ending_told between.controller ≡ Some told → Serves first (history_moved (Some ending) moving mark now history) new
+        → EndsSector was moving ending (record fronted { adapter = with_controller (given_up between.controller) between }) new → IsNow (history_moved (Some ending) moving mark now history) new
+    ends_now was (Done marked) mark told ended serves ends = ends_if told ended (goes_on moving marked) marked serves ends
+    ends_now was NoMark mark told ended serves ends = tells_now told ended (results_failed was moving NoMark) ends
+    ends_now was NoSector mark told ended serves ends = tells_now told ended (results_failed was moving NoSector) ends
+    ends_now was NoField mark told ended serves ends = tells_now told ended (results_failed was moving NoField) ends
+    ends_now was BadCheck mark told ended serves ends = tells_now told ended (results_failed was moving BadCheck) ends
+    ends_now was Overrun mark told ended serves ends = tells_now told ended (results_failed was moving Overrun) ends
+    ends_now was NoCount mark told ended serves ends = tells_now told ended (results_failed was moving NoCount) ends
+    ends_now was Protected mark told ended serves ends = tells_now told ended (results_failed was moving Protected) ends
+    ends_now was Late mark told ended serves ends = tells_now told ended (results_failed was moving Late) ends
 
-    moves_now : (ending : Option Ending) → ending_told between.controller ≡ ending → Serves first (history_moved (judged_if moving ending) moving (mark_of between.controller) now history) new
-        → MovesOn (judged_if moving ending) moving fronted new → IsNow (history_moved (judged_if moving ending) moving (mark_of between.controller) now history) new
-    moves_now None none serves does =
+    moves_now : (was : Option Bool) (ending : Option Ending) → ending_told between.controller ≡ ending → Serves first (history_moved (judged_if moving ending) moving (mark_of between.controller) now history) new
+        → MovesOn was (judged_if moving ending) moving fronted new → IsNow (history_moved (judged_if moving ending) moving (mark_of between.controller) now history) new
+    moves_now was None none serves does =
         goes_now (is_unwanted moving (mark_of between.controller)) (never_unwanted deleted moving (mark_of between.controller) same) none does
-    moves_now (Some ending) ended serves does = ends_now (judged moving ending) (mark_of between.controller) ending ended serves does
+    moves_now was (Some ending) ended serves does = ends_now was (judged moving ending) (mark_of between.controller) ending ended serves does
 
   moving_step : (history : History) (moving : MovingSector) (old new : Front) (step : StepsFront old new) → old.stage ≡ Moving moving → IsSizeCode first.key.n → AreMoved first.opcode.operation first history.parts
       → ServesAt (Moving moving) first history old.adapter.controller → NowWritten (Moving moving) place deleted first history old.adapter → IsOverCylinder place old → (new.stage ≡ Through → ⊥) → IsOverCylinderWhile new.stage place new
@@ -291,7 +291,7 @@ module _ (place : Place) (deleted : Bool) (first : Transfer) (writes : first.opc
         marks = subst (λ o. MarkGoes o (bytes_moved o history.past) (mark_of fdc) (mark_then (mark_of fdc) between.controller.phase)) (sym writes) tt;
         bad = subst (λ o. BadGoes o now moving.transfer.key (mark_of fdc) between.controller) (sym writes) tt;
       } in
-      let follows : MovesOn (judged_if moving (ending_told between.controller)) moving (record old { adapter = between }) new = subst (λ stage. FollowsStep stage (record old { adapter = between }) new) stage_is step.follows in
+      let follows : MovesOn (mark_of old.adapter.controller) (judged_if moving (ending_told between.controller)) moving (record old { adapter = between }) new = subst (λ stage. FollowsStep (mark_of old.adapter.controller) stage (record old { adapter = between }) new) stage_is step.follows in
       let same : moving.transfer.opcode.operation ≡ Write deleted = ap (λ opcode. opcode.operation) (ap (λ a. a.opcode) here ∙ sector_opcode (length history.parts) first) ∙ writes in
       let then_history = history_moved (judged_if moving (ending_told between.controller)) moving (mark_of between.controller) now history in
       let passed : PassesAt (selected_at old.adapter) (head_of moving.transfer.head_drive) timed.time old.adapter between =
@@ -306,7 +306,7 @@ module _ (place : Place) (deleted : Bool) (first : Transfer) (writes : first.opc
           subst (λ stage. then_history ≡ history_stepped stage timed.time between.controller history) (sym stage_is) refl,
         );
         serves = on.2;
-        now = moves_now history moving old between new now underway.disk underway.like underway.parts here timed.may timed.sector stage_is same stays at (ending_told between.controller) refl on.2 follows;
+        now = moves_now history moving old between new now underway.disk underway.like underway.parts here timed.may timed.sector stage_is same stays at (mark_of old.adapter.controller) (ending_told between.controller) refl on.2 follows;
       }
 
   -- ---- ---- while the heads seek, and while results are given
@@ -354,7 +354,7 @@ module _ (place : Place) (deleted : Bool) (first : Transfer) (writes : first.opc
         now = subst (λ h. IsNow h new) (sym grown)
             (seeks_now (has_ended_seek step.between.controller.seeks) target counted history (record old { adapter = step.between }) new stage_is here none
             (step_rests place place.disk old.adapter step.between step.steps rests) stays at
-            (subst (λ stage. FollowsStep stage (record old { adapter = step.between }) new) stage_is step.follows));
+            (subst (λ stage. FollowsStep (mark_of old.adapter.controller) stage (record old { adapter = step.between }) new) stage_is step.follows));
       }
   step_writes (Moving moving) history old new step stage_is serves now placed stays at =
       moving_step history moving old new step stage_is serves.sized serves.parts (subst (λ stage. ServesAt stage first history old.adapter.controller) stage_is serves.now) now placed stays at
@@ -362,7 +362,7 @@ module _ (place : Place) (deleted : Bool) (first : Transfer) (writes : first.opc
       let one = call_serves Steps first history old new step stays serves in
       let (time, passes, is) = one.grows in
       let grown : one.history ≡ history = subst (λ stage. one.history ≡ history_stepped stage time step.between.controller history) stage_is is in
-      let follows : new ≡ record old { adapter = step.between } = subst (λ stage. FollowsStep stage (record old { adapter = step.between }) new) stage_is step.follows in
+      let follows : new ≡ record old { adapter = step.between } = subst (λ stage. FollowsStep (mark_of old.adapter.controller) stage (record old { adapter = step.between }) new) stage_is step.follows in
       record {
         history = one.history;
         grows = one.grows;

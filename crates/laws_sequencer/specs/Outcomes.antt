@@ -1,5 +1,5 @@
 -- What the results of a command of several sectors say.
-use Rattle.std.specs.Prelude.{◌≡◌, ◌⊎◌, ℕ, ◌+◌, Bool, true, false, ◌||◌, List, ◌++◌, length, replicate}
+use Rattle.std.specs.Prelude.{◌≡◌, ◌⊎◌, ℕ, ◌+◌, Bool, true, false, ◌||◌, Option, List, ◌++◌, length, replicate}
 use Rattle.flop_base.specs.declared.key.Chrn.{Chrn}
 use Rattle.track_model.specs.Fields.{IsAddressAt, content_at, content_size}
 use Rattle.track_model.specs.Looks.{LookAt}
@@ -11,6 +11,7 @@ use Rattle.fdc_stages.specs.declared.ending.Ending.TheVariants.{BadCheck, Done, 
 use Rattle.fdc_stages.specs.Writings.{WritesWhole}
 use Rattle.fdc_commands.specs.declared.results.Results.{Results}
 use Rattle.laws_sequencer.specs.Serving.{HasBadField, History, IsMoved, IsOfSector, IsPassedOver, Means, Part, bytes_moved, has_other, sector_after, sent_of}
+use Rattle.fdc_sequencer.specs.Moves.{is_bad_other}
 use Rattle.fdc_sequencer.specs.Transfers.{is_last, is_other, is_skipping, next_of, results_told}
 use Rattle.fdc_sequencer.specs.declared.opcode.Operation.{Operation}
 use Rattle.fdc_sequencer.specs.declared.opcode.Operation.TheVariants.{Read, Write}
@@ -75,26 +76,28 @@ IsFailure (Done _) = ⊥
 IsFailure NoCount = ⊥
 IsFailure _ = Unit {0}
 
--- a wrong CRC is that of a field that isn't passed over
-abbrev pub IsJudged : Ending → Operation → Past → Chrn → Type 0
-IsJudged BadCheck operation past key = HasBadField operation past key
-IsJudged _ operation past key = Unit {0}
+-- a wrong CRC is that of a field with this mark that isn't passed over
+abbrev pub IsJudged : Ending → Operation → Past → Chrn → Option Bool → Type 0
+IsJudged BadCheck operation past key mark = HasBadField operation past key mark
+IsJudged _ operation past key mark = Unit {0}
 
--- CM says whether a field of the mark that isn't wanted was met before. Or such a field was just passed over, whose CRC
--- the front doesn't judge
-abbrev pub TellsOther : Ending → Operation → Bool → Bool → Type 0
-TellsOther BadCheck operation met told = told ≡ met
-TellsOther _ operation met told = (told ≡ met) ⊎ ((told ≡ true) × (is_skipping operation ≡ true))
+-- CM says whether a field of the mark that isn't wanted was met before, or whether the field whose CRC is wrong has that
+-- mark. After any other failure CM says the first of both, or such a field was just passed over, whose CRC the front
+-- doesn't judge
+abbrev pub TellsOther : Ending → Operation → Bool → Option Bool → Bool → Type 0
+TellsOther BadCheck operation met mark told = told ≡ (met || is_bad_other operation BadCheck mark)
+TellsOther _ operation met mark told = (told ≡ met) ⊎ ((told ≡ true) × (is_skipping operation ≡ true))
 
 -- a failure: this is its cause, and whatever passed is of the sector. C, H, R and N are as they were sent
 pub record Fails (operation : Operation) (met : Bool) (at : Transfer) (past : Past) (results : Results) : Type 0 where
   pub ending : Ending
   pub fails : IsFailure ending
   pub means : Means operation past (sent_of at) ending
-  pub judged : IsJudged ending operation past at.key
+  pub mark : Option Bool
+  pub judged : IsJudged ending operation past at.key mark
   pub of_sector : IsOfSector operation past (sent_of at)
   pub told : Bool
-  pub other : TellsOther ending operation met told
+  pub other : TellsOther ending operation met mark told
   pub results_are : results ≡ results_told ending at at.key told
 
 abbrev pub EndsSo : Operation → Bool → Bool → Transfer → Past → Results → Type 0

@@ -176,18 +176,18 @@ abbrev pub IsFieldDone : Bool → Operation → Past → Sent → Bool → Type 
 IsFieldDone true operation past sent marked = FindsField past sent.key marked
 IsFieldDone false operation past sent marked = Means operation past sent (Done marked)
 
--- a field that isn't whole has a mark that is wanted, or fields without that mark aren't passed over
-abbrev pub HasBadField : Operation → Past → Chrn → Type 0
-HasBadField (Read wanted skip) past key =
-    (marked : Bool) × FindsBadField past key marked × (skip ≡ true → is_other (Read wanted skip) marked ≡ false)
-HasBadField (Write deleted) past key = Unit {0}
+-- a field that isn't whole has this mark. The mark is wanted, or fields without the wanted mark aren't passed over
+abbrev pub HasBadField : Operation → Past → Chrn → Option Bool → Type 0
+HasBadField (Read wanted skip) past key mark =
+    (marked : Bool) × (mark ≡ Some marked) × FindsBadField past key marked × (skip ≡ true → is_other (Read wanted skip) marked ≡ false)
+HasBadField (Write deleted) past key mark = Unit {0}
 
--- what an ending says, as the front judges it, of a sector whose field is passed over or isn't
-abbrev pub MeansJudged : Ending → Bool → Operation → Past → Sent → Type 0
-MeansJudged (Done marked) skipped operation past sent = IsFieldDone skipped operation past sent marked
-MeansJudged BadCheck skipped operation past sent =
-    (skipped ≡ false) × Means operation past sent BadCheck × HasBadField operation past sent.key
-MeansJudged ending skipped operation past sent = Means operation past sent ending
+-- what an ending says, as the front judges it, of a sector whose field is passed over or isn't, and has this mark
+abbrev pub MeansJudged : Ending → Bool → Operation → Past → Sent → Option Bool → Type 0
+MeansJudged (Done marked) skipped operation past sent mark = IsFieldDone skipped operation past sent marked
+MeansJudged BadCheck skipped operation past sent mark =
+    (skipped ≡ false) × Means operation past sent BadCheck × HasBadField operation past sent.key mark
+MeansJudged ending skipped operation past sent mark = Means operation past sent ending
 
 -- no sector comes after this one
 abbrev pub IsLastOne : MovingSector → Ending → Type 0
@@ -199,10 +199,10 @@ abbrev pub IsMarkOf : Ending → Option Bool → Type 0
 IsMarkOf (Done marked) mark = mark ≡ Some marked
 IsMarkOf _ mark = Unit {0}
 
--- the results of a sector that ended in this way
-abbrev pub results_ended : MovingSector → Ending → Results
-results_ended moving (Done marked) = results_behind moving marked
-results_ended moving ending = results_failed moving ending
+-- the results of a sector that ended in this way, and whose field has this mark
+abbrev pub results_ended : Option Bool → MovingSector → Ending → Results
+results_ended mark moving (Done marked) = results_behind moving marked
+results_ended mark moving ending = results_failed mark moving ending
 
 -- the command ended at this sector, because the controller's own command for it ended in this way, as the front judges
 -- it
@@ -211,13 +211,13 @@ pub record Ends (operation : Operation) (met told : Bool) (at : Transfer) (past 
   pub here : moving.transfer ≡ at
   pub counted : moving.counted ≡ told
   pub ending : Ending
-  pub means : MeansJudged ending moving.skipped operation past (sent_of at)
-  pub last : IsLastOne moving ending
   pub mark : Option Bool
+  pub means : MeansJudged ending moving.skipped operation past (sent_of at) mark
+  pub last : IsLastOne moving ending
   pub marked : IsMarkOf ending mark
   pub accounts : Accounts operation met moving past mark
   pub of_sector : IsOfSector operation past (sent_of at)
-  pub results_are : results ≡ results_ended moving ending
+  pub results_are : results ≡ results_ended mark moving ending
 
 -- ---- the whole command
 
