@@ -143,7 +143,8 @@ pub most-chip : {D : Type 0} (spelled : D → List ℕ → List ℕ) (fits : D �
     → length (spelled_chip spelled chip rest) ≤ 213 + first + second + length rest
 unfolding spelled_chip
 most-chip spelled fits chip first second rest is one two =
-    let paced = spelled_flag chip.paced (spelled_byte chip.tape rest) in
+    let tape = spelled_byte chip.tape rest in
+    let paced = spelled_flag chip.paced tape in
     let pace = spelled_option spelled_pace chip.pace paced in
     let keys = spelled_word chip.keys (spelled_flag chip.gated pace) in
     let settings = spelled_settings chip.settings (spelled_flag chip.strapped keys) in
@@ -155,6 +156,7 @@ most-chip spelled fits chip first second rest is one two =
       most-stage,
       most-order,
       length-byte,
+      length-byte chip.tape rest,
       most-interrupts chip.interrupts settings is.1,
       most-settings,
       length-flag,

@@ -1,4 +1,7 @@
 // Media of flat files of any geometry, and of ImageDisk files.
+ghost use Rattle.std.specs.Prelude.{IfOk};
+ghost use Rattle.imagedisk.specs.Images.{IsImdImage};
+
 use super::{Asked, rate, texts};
 use flat_files::{FlatForm, FormFault, flat_medium_as};
 use floppy_jobs::is_verb;
@@ -48,7 +51,10 @@ fn flat_as(asked: Asked, line: &mut Line, out: &mut Draft) -> Result<(), Wrong> 
     }
 }
 
-fn imd_asked(asked: Asked) -> Result<ImdImage, Wrong> {
+/// The image of the ImageDisk file that was asked for.
+fn imd_asked(asked: Asked) -> Result<ImdImage, Wrong>
+    ensures { IfOk result IsImdImage }
+{
     match read_imd(asked.alloc, asked.bytes) {
         Ok(image) => Ok(image),
         Err(ImageError::NoMemory) => Err(Wrong::NoMemory),
