@@ -118,8 +118,11 @@ impl<D: Inspect> Chip<D> {
             Stage::Held => Msr(self.behind.read(STATUS) & SEEKING).union(Msr::BUSY),
             Stage::Busy { .. } => {
                 let asked = self.passes() && self.behind.drq();
-                let bits =
-                    execution_bits(self.settings.is_by_port(), asked, self.behind.to_memory());
+                let bits = execution_bits(
+                    self.settings.is_by_port(),
+                    asked,
+                    self.behind.to_memory(),
+                );
                 Msr(self.behind.read(STATUS) & SEEKING).union(bits)
             }
             Stage::Telling { .. } => {
