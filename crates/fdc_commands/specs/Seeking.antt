@@ -1,5 +1,5 @@
 -- The seeks of the four drives, device step by device step.
-use Rattle.std.specs.Prelude.{◌≡◌, ◌<◌, ◌≤◌, ◌+◌, ◌-◌, ◌^◌, ◌==◌, ◌||◌, ◌&&◌, ℕ, Bool, true, false, List, [], ◌∷◌, Option, Some, None, is_some, IsSome, IsSomeAnd, IsTrue, IsFalse, not, unwrap_or, option_map, if◌then◌else◌, nat_lt, slice_set, slice_index, slice_index_or, position, length}
+use Rattle.std.specs.Prelude.{◌≡◌, ◌<◌, ◌≤◌, ◌+◌, ◌-◌, ◌^◌, ◌==◌, ◌||◌, ◌&&◌, ℕ, Bool, true, false, List, [], ◌∷◌, Option, Some, None, is_some, IsSome, IsSomeAnd, IsTrue, IsFalse, not, unwrap_or, min, option_map, if◌then◌else◌, nat_lt, slice_set, slice_index, slice_index_or, position, length}
 use Rattle.std.specs.Option.{option_map_or, ForSome}
 use Rattle.std.specs.Int.RustNames.{bit_or}
 use Rattle.fdc_registers.specs.St0.{polling, abnormal, seek_end, equipment_check}
@@ -162,3 +162,16 @@ without_ended old =
       seek = None;
       pending = slice_set old.pending seek.drive None;
     } else old) old.seek old
+
+-- ---- how long a seek surely goes on
+
+-- the pulses that a motion surely still gives, if the heads of its drive stand on this cylinder: as many device steps
+-- don't end it. A RECALIBRATE gives no more pulses than there are cylinders to track 0, unless pulses are lost
+abbrev pub pulses_from : ℕ → Motion → ℕ
+pulses_from cylinder (Outward pulses) = min pulses cylinder
+pulses_from cylinder (Toward from target) = (from - target) + (target - from)
+pulses_from cylinder Ended = 0
+
+-- the pulses that the seek surely still gives, or 0 if none runs
+abbrev pub pulses_ahead : ℕ → Seeking → ℕ
+pulses_ahead cylinder seeking = option_map_or (λ seek. pulses_from cylinder seek.motion) seeking.seek 0

@@ -1,6 +1,6 @@
 // What a seek does, device step by device step.
 ghost use Rattle.std.specs.Prelude.{◌≡◌, ◌↔◌, IsTrue};
-ghost use Rattle.fdc_commands.specs.Seeking.{IsMotion, has_ended};
+ghost use Rattle.fdc_commands.specs.Seeking.{IsMotion, has_ended, pulses_from};
 
 mod saving;
 
@@ -41,6 +41,23 @@ impl Motion {
         match self {
             Motion::Outward { pulses } => pulses <= RECALIBRATE_PULSES,
             _ => true,
+        }
+    }
+
+    /// The pulses that the motion surely still gives, if the heads of its drive stand on this cylinder.
+    pub(crate) fn pulses_from(self, heads: u8) -> u8
+        ensures { result ≡ pulses_from heads self }
+    {
+        match self {
+            Motion::Outward { pulses } => pulses.min(heads),
+            Motion::Toward { cylinder, target } => {
+                if cylinder < target {
+                    target - cylinder
+                } else {
+                    cylinder - target
+                }
+            }
+            Motion::Ended => 0,
         }
     }
 }

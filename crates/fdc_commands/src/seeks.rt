@@ -1,7 +1,7 @@
 // The seeks of the four drives.
 ghost use Rattle.std.specs.Prelude.{◌≡◌, ◌<◌, ◌↔◌, IsTrue, IsFalse, IsSome, IsNone, is_some, slice_index};
 ghost use Rattle.fdc_commands.specs.Seeking.{InRange, IsMotion, at_rest, with_polls, with_motion, ended, pulse_due, stepped, is_seeking, EndsSeek};
-ghost use Rattle.fdc_commands.specs.Seeking.{pulses_within, seek_bits, first_pending, sensed, after_sense, released, has_ended_seek, without_ended};
+ghost use Rattle.fdc_commands.specs.Seeking.{pulses_within, seek_bits, first_pending, sensed, after_sense, released, has_ended_seek, without_ended, pulses_ahead};
 ghost use Rattle.fdc_commands.specs.Seeking.{polled as polled_status, sought as sought_status, recalibrated as recalibrated_status};
 
 mod saving;
@@ -181,6 +181,23 @@ impl Seeks {
             Some(seek) => !seek.motion.has_ended(),
             None => false,
         }
+    }
+
+    /// The pulses that the seek surely still gives, or 0 if none runs. The heads of its drive stand on this cylinder.
+    pub fn pulses_ahead(&self, heads: u8) -> u8
+        ensures { result ≡ pulses_ahead heads self.now }
+    {
+        match self.seek {
+            Some(seek) => seek.motion.pulses_from(heads),
+            None => 0,
+        }
+    }
+
+    /// Whether a result is pending.
+    pub fn has_result(&self) -> bool
+        ensures { result ≡ is_some (first_pending self.now) }
+    {
+        self.first_pending().is_some()
     }
 
     /// The seek bits, bit 0 for drive 0.

@@ -1,11 +1,11 @@
 -- Device steps as a whole, and many of them in a row.
-use Rattle.std.specs.Prelude.{◌≡◌, ◌==◌, ◌&&◌, ℕ, zero, suc, ◌+◌, ◌≤◌, Bool, true, false, not, List, length, if◌then◌else◌}
+use Rattle.std.specs.Prelude.{◌≡◌, ◌==◌, ◌&&◌, ℕ, zero, suc, ◌+◌, ◌≤◌, Bool, true, false, not, is_some, List, length, if◌then◌else◌}
 use Rattle.drive_model.specs.Drive.{DriveState, at_index}
 use Rattle.drive_model.specs.Ahead.{LetsPass, AreAhead}
 use Rattle.fdc_phases.specs.Phases.{ending_of_phase, mark_of_phase}
 use Rattle.fdc_phases.specs.declared.phases.Phase.{Phase}
 use Rattle.fdc_phases.specs.declared.phases.Phase.TheVariants.{Execute}
-use Rattle.fdc_commands.specs.Seeking.{is_seeking}
+use Rattle.fdc_commands.specs.Seeking.{first_pending, is_seeking}
 use Rattle.fdc_stages.specs.declared.searching.Search.{Search}
 use Rattle.fdc_stages.specs.Searches.{HearsNothingIn}
 use Rattle.fdc_core.specs.Listening.{Listens, ListensToNone}
@@ -84,3 +84,7 @@ pub record PassesMany (head steps last count : ℕ) (search final : Search) (bef
   pub ahead : AreAhead head words before
   pub hears : HearsNothingIn words search final
   pub passes : LetsPass count before after
+
+-- no poll comes in the next device step, and no result of a seek or poll is pending
+abbrev pub awaits_nothing : Fdc → Bool
+awaits_nothing fdc = if comes_poll fdc then false else not (is_some (first_pending fdc.seeks))

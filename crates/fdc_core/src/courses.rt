@@ -3,7 +3,8 @@ ghost use Rattle.std.specs.Prelude.{◌≡◌, ◌≤◌, ◌+◌, true, length,
 ghost use Rattle.drive_model.specs.Drive.{rate_of};
 ghost use Rattle.fdc_phases.specs.Phases.{head_of};
 ghost use Rattle.fdc_phases.specs.Rates.{rate_fits};
-ghost use Rattle.fdc_core.specs.Courses.{Courses, IsStill, IsQuiet, PassesMany, comes_poll, is_at_rest};
+ghost use Rattle.fdc_commands.specs.Seeking.{pulses_ahead};
+ghost use Rattle.fdc_core.specs.Courses.{Courses, IsStill, IsQuiet, PassesMany, awaits_nothing, comes_poll, is_at_rest};
 
 use crate::controller::Fdc;
 use drive_model::Drive;
@@ -35,6 +36,23 @@ impl Fdc {
         ensures { result ≡ comes_poll self.now }
     {
         self.poll_due && !self.is_held()
+    }
+
+    /// Whether no poll comes in the next device step, and no result of a seek or poll is pending.
+    pub fn awaits_nothing(&self) -> bool
+        ensures { result ≡ awaits_nothing self.now }
+    {
+        if self.comes_poll() {
+            return false;
+        }
+        !self.seeks.has_result()
+    }
+
+    /// The pulses that the seek surely still gives, or 0 if none runs. The heads of its drive stand on this cylinder.
+    pub fn pulses_ahead(&self, heads: u8) -> u8
+        ensures { result ≡ pulses_ahead heads self.now.seeks }
+    {
+        self.seeks.pulses_ahead(heads)
     }
 
     /// Whether `is_still` or `skim` may find steps to make at once. The answer only chooses between two ways.
