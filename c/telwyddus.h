@@ -286,12 +286,15 @@ TELWYDDUS_CALL uint32_t telwyddus_controller_write(telwyddus_controller *control
 TELWYDDUS_CALL uint32_t telwyddus_controller_step(telwyddus_controller *controller, uint8_t *lines);
 TELWYDDUS_CALL uint32_t telwyddus_controller_run(telwyddus_controller *controller, uint32_t most, uint32_t *made, uint8_t *lines);
 
-/* A number of device steps that surely change neither INT nor DRQ, as long as no other call comes between. It is
- * `most` or 0. It is `most` in these cases, in which you need no timer until your next call:
+/* A number of device steps, at most `most`, that surely change neither INT nor DRQ, as long as no other call comes
+ * between. It is `most` in these cases, in which you need no timer until your next call:
  *   - No command is executed or held, no heads move, and no INT of a seek or a reset is still to come.
  *   - The controller is held in reset.
- *   - DOR lets no line out, no command is executed or held, and no pulse of strap_steps is still to come.
- * DONE, EMPTY. */
+ *   - No command is executed or held, and INT is up already, or DOR lets no line out.
+ *   - Results are read, and no pulse of strap_steps is still to come.
+ * While heads seek, and while a command is held until they stand, it is the number of steps before the seek can end.
+ * The next step then ends the seek, unless a drive loses pulses. It is 0 while a command is executed, and where INT of
+ * a reset comes in the next step. DONE, EMPTY. */
 TELWYDDUS_CALL uint32_t telwyddus_controller_quiet(telwyddus_controller *controller, uint32_t most, uint32_t *steps);
 
 /* Gives the lines: INT, DRQ, whether bytes go to memory, and INDEX of the drive that DOR selects. INDEX is up in the

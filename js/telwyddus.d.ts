@@ -116,7 +116,7 @@ export interface Controller extends Drives {
     step(): void;
     /** Device steps up to the one in which INT or DRQ changes, but at most so many; says how many were made. */
     run(most: number): number;
-    /** A number of device steps that surely change neither INT nor DRQ: `most`, or 0. */
+    /** A number of device steps, at most `most`, that surely change neither INT nor DRQ. */
     quiet(most: number): number;
     /** How long a device step lasts, in nanoseconds. */
     wordTime(): number;

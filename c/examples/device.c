@@ -39,7 +39,7 @@ static void attend(Device *device) {
 
 /* ---- time: steps are made when somebody looks at the controller, or when the timer is due */
 
-#define SLICE 32                /* the fewest steps between two timers: an interrupt may be half a millisecond late, and no byte is late */
+#define SLICE 32                /* the steps between two timers within a command: an interrupt may be half a millisecond late, and no byte is late */
 
 /* Makes the steps that are due. A run ends after the step in which INT or DRQ changes, so bytes pass in time,
  * however late this function is called. */
@@ -58,7 +58,7 @@ static void set_timer(Device *device) {
     uint32_t steps;
     must(telwyddus_controller_quiet(&device->controller, UINT32_MAX, &steps));
     if (steps == UINT32_MAX) device->bus->timer = NEVER;
-    else device->bus->timer = device->at + ((uint64_t)(steps < SLICE ? SLICE : steps) + 1) * device->word_time;
+    else device->bus->timer = device->at + (steps == 0 ? SLICE : (uint64_t)steps + 1) * device->word_time;
 }
 
 static void device_timer(Device *device) {

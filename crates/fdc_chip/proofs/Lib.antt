@@ -1,4 +1,7 @@
 pub mod Runs
 mod Lists
+mod Giving
+mod Heading
+mod Dues
 mod Quieting
 mod Leaping

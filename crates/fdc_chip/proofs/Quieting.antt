@@ -1,20 +1,21 @@
 -- Device steps that change no line.
-use Rattle.std.proofs.Common.{◌≡◌, ◌≤◌, ℕ, zero, suc, Bool, true, false, Option, Some, None, is_some, refl, sym, ap, subst, ◌∙◌, arith}
+use Rattle.std.proofs.Common.{◌≡◌, ◌⊎◌, inl, inr, ◌≤◌, ℕ, zero, suc, ◌-◌, Bool, true, false, Option, Some, None, is_some, refl, sym, ap, subst, ◌∙◌}
 use Rattle.std.proofs.lemmas.Bool.{true≢false}
-use Rattle.std.specs.Prelude.{not, ◌&&◌, ◌||◌, if◌then◌else◌}
+use Rattle.std.specs.Prelude.{◌&&◌, ◌||◌, if◌then◌else◌}
 use Rattle.fdc_sequencer.specs.Fronts.{Front, KeepsFront, asks_at, asks_outside, interrupts_at, interrupts_outside}
 use Rattle.fdc_sequencer.specs.Moves.{RunsFrontWith, RunsFront}
-use Rattle.fdc_sequencer.specs.Senses.{pending_outside, sensed_outside}
-use Rattle.fdc_chip.specs.Chips.{ChipState, KeepsChip, KeepsRest, asks_chip, interrupts_chip, passes, passes_by_channel, passes_by_port, shows_behind, with_front}
+use Rattle.fdc_sequencer.specs.Senses.{pending_outside, recalibrated_outside, sensed_outside}
+use Rattle.fdc_chip.specs.Chips.{ChipState, KeepsChip, KeepsRest, asks_chip, interrupts_chip, passes_at, passes_by_channel, passes_by_port, shows_behind, with_front}
 use Rattle.fdc_chip.specs.Doing.{drained, drained_by, drained_one, is_told, kept}
 use Rattle.fdc_chip.specs.Interrupts.{with_result}
-use Rattle.fdc_chip.specs.Paces.{Paces}
-use Rattle.fdc_chip.specs.Quiet.{IsQuietFor, IsShut, IsStill, StepsBy, rests_at}
-use Rattle.fdc_chip.specs.Settings.{is_by_port}
+use Rattle.fdc_chip.specs.Paces.{EndsAt, GoesOnIf, Paces, PulsesIf, is_due, is_over, stepped}
+use Rattle.fdc_chip.specs.Quiet.{IsQuietFor, IsSettled, IsStill, StepsBy, is_settled, rests_at, tells_alone}
+use Rattle.fdc_chip.specs.Settings.{step_words}
 use Rattle.fdc_chip.specs.Steps.{Follows, HasLinesChip, RunsChipWith, StepsChip}
 use Rattle.fdc_chip.specs.declared.pace.Pace.{Pace}
 use Rattle.fdc_chip.specs.declared.stage.Stage.{Stage}
 use Rattle.fdc_chip.specs.declared.stage.Stage.TheVariants.{Ready, Held, Busy, Telling}
+use Rattle.fdc_chip.proofs.Dues.{resting_asks, resting_interrupts}
 
 -- ---- what is done after a step
 
@@ -82,11 +83,6 @@ unfolding StepsBy
 lasts P zero old new goes was is = subst P (sym is) was
 lasts P (suc n) old new goes was steps = goes steps.0 new (lasts P n old steps.0 goes was steps.1) steps.2
 
-pub none_quiet : (chip : ChipState) → IsQuietFor 0 chip
-unfolding StepsBy
-none_quiet chip zero new within is = subst (HasLinesChip (interrupts_chip chip) (asks_chip chip)) (sym is) (refl, refl)
-none_quiet chip (suc n) new within steps = absurd (omega (arith, within))
-
 -- ---- nothing runs
 
 keeps_itself : (chip : ChipState) → KeepsChip chip chip
@@ -140,67 +136,163 @@ pub still_runs_on : (most made : ℕ) (chip : ChipState) (front : Front) → IsS
     → RunsChipWith (interrupts_chip chip) (asks_chip chip) made chip (with_front front chip)
 still_runs_on most made chip front still runs = (still_runs chip (interrupts_outside chip.front) (asks_outside chip.front) made front still runs.runs).1
 
--- ---- DOR lets no line out
+-- ---- INT can't change
 
--- what is under way in the chip is the same in both, and so is DOR's gate
+-- no other command is under way, DOR's gate is as it was, and INT is up if it was
 record IsAlike (one other : ChipState) : Type 0 where
   stage : other.stage ≡ one.stage
-  pace : other.pace ≡ one.pace
   gate : other.gated ≡ one.gated
+  up : one.interrupts.line ≡ true → other.interrupts.line ≡ true
 
 alike_both : (one other last : ChipState) → IsAlike one other → IsAlike other last → IsAlike one last
-alike_both one other last first second = record { stage = second.stage ∙ first.stage; pace = second.pace ∙ first.pace; gate = second.gate ∙ first.gate }
+alike_both one other last first second = record { stage = second.stage ∙ first.stage; gate = second.gate ∙ first.gate; up = λ was. second.up (first.up was) }
 
 alike_as : (one set other : ChipState) → IsAlike one set → other ≡ set → IsAlike one other
 alike_as one set other alike is = subst (λ (c : ChipState). IsAlike one c) (sym is) alike
 
+alike_itself : (chip : ChipState) → IsAlike chip chip
+alike_itself chip = record { stage = refl; gate = refl; up = λ was. was }
+
 kept_alike : (found : Option (ℕ × ℕ)) (old : ChipState) → IsAlike old (kept found old)
-kept_alike None old = record { stage = refl; pace = refl; gate = refl }
+kept_alike None old = alike_itself old
 kept_alike (Some (status, cylinder)) old = told_alike (is_told old.pace status)
   where
     told_alike : (b : Bool) → IsAlike old (if b then record old { interrupts = with_result status cylinder old.interrupts } else old)
-    told_alike true = record { stage = refl; pace = refl; gate = refl }
-    told_alike false = record { stage = refl; pace = refl; gate = refl }
+    told_alike true = record { stage = refl; gate = refl; up = λ was. refl }
+    told_alike false = alike_itself old
 
 one_alike : (old : ChipState) → IsAlike old (drained_one old)
 one_alike old =
-    alike_both old (with_front (sensed_outside old.front) old) (drained_one old) (record { stage = refl; pace = refl; gate = refl })
+    alike_both old (with_front (sensed_outside old.front) old) (drained_one old) (record { stage = refl; gate = refl; up = λ was. was })
     (kept_alike (pending_outside old.front) (with_front (sensed_outside old.front) old))
 
 drained_alike : (n : ℕ) (old : ChipState) → IsAlike old (drained_by n old)
 unfolding drained_by
-drained_alike zero old = record { stage = refl; pace = refl; gate = refl }
+drained_alike zero old = alike_itself old
 drained_alike (suc n) old = alike_both old (drained_by n old) (drained_one (drained_by n old)) (drained_alike n old) (one_alike (drained_by n old))
 
 shown_alike : (b : Bool) (old : ChipState) → IsAlike old (if b then drained old else old)
 shown_alike true old = drained_alike 4 old
-shown_alike false old = record { stage = refl; pace = refl; gate = refl }
+shown_alike false old = alike_itself old
 
-follows_alike : (stage : Stage) (old new : ChipState) → rests_at stage ≡ true → old.pace ≡ None → Follows stage old new → IsAlike old new
-follows_alike Ready old new rests unpaced (paced, paces, is) =
-    alike_as old _ new (shown_alike (interrupts_outside old.front) old)
-    (is ∙ ap (λ (c : ChipState). if interrupts_outside c.front then drained c else c) (paced_none old.pace old paced unpaced paces))
-follows_alike (Telling answer read) old new rests unpaced paces =
-    alike_as old old new (record { stage = refl; pace = refl; gate = refl }) (paced_none old.pace old new unpaced paces)
-follows_alike Held old new rests unpaced follows = absurd (true≢false (sym rests))
-follows_alike (Busy task) old new rests unpaced follows = absurd (true≢false (sym rests))
+-- pulses that come in the time that SPECIFY sets
+sent_alike : (old new : ChipState) (pace : Option Pace) → new ≡ with_front new.front (record old { pace = pace }) → IsAlike old new
+sent_alike old new pace rest = alike_as old (with_front new.front (record old { pace = pace })) new (record { stage = refl; gate = refl; up = λ was. was }) rest
 
-shut_on : (old new : ChipState) → IsShut old → StepsChip old new → IsShut new
-shut_on old new shut step =
-    let alike = follows_alike old.stage (with_front step.between old) new shut.idle.rests shut.idle.unpaced step.follows in
-    record {
-      idle = record { rests = ap rests_at alike.stage ∙ shut.idle.rests; unpaced = alike.pace ∙ shut.idle.unpaced };
-      gate = alike.gate ∙ shut.gate;
-    }
+ends_alike : (goal : Option ℕ) (pace : Pace) (old new : ChipState) → EndsAt goal pace (record old { pace = None }) new → IsAlike old new
+ends_alike (Some target) pace old new (sends, rest) = sent_alike old new None rest
+ends_alike None pace old new is =
+    alike_as old (with_front (recalibrated_outside pace.unit pace.left old.front) (record old { pace = None })) new (record { stage = refl; gate = refl; up = λ was. was }) is
 
--- both lines are down
-shut_int : (chip : ChipState) → chip.gated ≡ false → interrupts_chip chip ≡ false
-shut_int chip gate = ap (λ b. b && (if passes_by_port chip then asks_outside chip.front else (chip.interrupts.line || shows_behind chip.stage chip.front))) gate
+pulses_alike : (over : Bool) (pace : Pace) (old new : ChipState) → PulsesIf over pace old new → IsAlike old new
+pulses_alike true pace old new ends = ends_alike pace.goal pace old new ends
+pulses_alike false pace old new (sends, rest) = sent_alike old new (Some (stepped (step_words old.settings) pace)) rest
 
-shut_asks : (chip : ChipState) → chip.gated ≡ false → asks_chip chip ≡ false
-shut_asks chip gate = ap (λ b. ((b && not (is_by_port chip.settings)) && passes chip) && asks_outside chip.front) gate
+goes_alike : (due : Bool) (pace : Pace) (old new : ChipState) → GoesOnIf due pace old new → IsAlike old new
+goes_alike true pace old new pulses = pulses_alike (is_over pace) pace old new pulses
+goes_alike false pace old new is =
+    alike_as old (record old { pace = Some (record pace { wait = pace.wait - 1 }) }) new (record { stage = refl; gate = refl; up = λ was. was }) is
 
-pub shut_quiet : (most : ℕ) (chip : ChipState) → IsShut chip → IsQuietFor most chip
-shut_quiet most chip shut n new within steps =
-    let now = lasts (λ c. IsShut c) n chip new (λ one next was step. shut_on one next was step) shut steps in
-    (shut_int new now.gate ∙ sym (shut_int chip shut.gate), shut_asks new now.gate ∙ sym (shut_asks chip shut.gate))
+paces_alike : (pace : Option Pace) (old new : ChipState) → Paces pace old new → IsAlike old new
+paces_alike None old new is = alike_as old old new (alike_itself old) is
+paces_alike (Some pace) old new goes = alike_both old (drained old) new (drained_alike 4 old) (goes_alike (is_due pace (drained old)) pace (drained old) new goes)
+
+follows_alike : (stage : Stage) (old new : ChipState) → rests_at stage ≡ true → Follows stage old new → IsAlike old new
+follows_alike Ready old new rests (paced, paces, is) =
+    alike_both old paced new (paces_alike old.pace old paced paces) (alike_as paced _ new (shown_alike (interrupts_outside paced.front) paced) is)
+follows_alike (Telling answer read) old new rests paces = paces_alike old.pace old new paces
+follows_alike Held old new rests follows = absurd (true≢false (sym rests))
+follows_alike (Busy task) old new rests follows = absurd (true≢false (sym rests))
+
+settled_alike : (old new : ChipState) → IsSettled old → IsAlike old new → IsSettled new
+settled_alike old new settled alike = record {
+  rests = ap rests_at alike.stage ∙ settled.rests;
+  fixed = elim settled.fixed [ inl shut ↦ inl (alike.gate ∙ shut) | inr up ↦ inr (alike.up up) ];
+}
+
+-- INT of a chip that is settled, and the gate
+settled_on : (first old new : ChipState) → IsSettled old × (old.gated ≡ first.gated) → StepsChip old new → IsSettled new × (new.gated ≡ first.gated)
+settled_on first old new (settled, gate) step =
+    let alike = follows_alike old.stage (with_front step.between old) new settled.rests step.follows in
+    let now : IsAlike old new = record { stage = alike.stage; gate = alike.gate; up = alike.up } in
+    (settled_alike old new settled now, alike.gate ∙ gate)
+
+rests_none : (stage : Stage) → rests_at stage ≡ true → passes_at stage ≡ false
+rests_none Ready rests = refl
+rests_none (Telling answer read) rests = refl
+rests_none Held rests = absurd (true≢false (sym rests))
+rests_none (Busy task) rests = absurd (true≢false (sym rests))
+
+settled_int : (chip : ChipState) → IsSettled chip → interrupts_chip chip ≡ chip.gated
+settled_int chip settled =
+    let is = resting_interrupts chip (rests_none chip.stage settled.rests) in
+    elim settled.fixed [
+      | inl shut ↦ is ∙ (ap (λ b. b && (chip.interrupts.line || shows_behind chip.stage chip.front)) shut ∙ sym shut)
+      | inr up ↦ is ∙ (ap (λ b. chip.gated && (b || shows_behind chip.stage chip.front)) up ∙ and_itself chip.gated)
+    ]
+  where
+    and_itself : (b : Bool) → (b && true) ≡ b
+    and_itself true = refl
+    and_itself false = refl
+
+settled_asks : (chip : ChipState) → IsSettled chip → asks_chip chip ≡ false
+settled_asks chip settled = resting_asks chip (rests_none chip.stage settled.rests)
+
+pub settled_of : (chip : ChipState) → is_settled chip ≡ true → IsSettled chip
+settled_of chip is = by_stage (rests_at chip.stage) refl is
+  where
+    by_gate : (gate : Bool) → rests_at chip.stage ≡ true → chip.gated ≡ gate → (if gate then chip.interrupts.line else true) ≡ true → IsSettled chip
+    by_gate true rests gate up = record { rests = rests; fixed = inr up }
+    by_gate false rests gate up = record { rests = rests; fixed = inl gate }
+
+    by_stage : (b : Bool) → rests_at chip.stage ≡ b → (if b then (if chip.gated then chip.interrupts.line else true) else false) ≡ true → IsSettled chip
+    by_stage true rests is = by_gate chip.gated rests refl is
+    by_stage false rests is = absurd (true≢false (sym is))
+
+pub settled_quiet : (most : ℕ) (chip : ChipState) → IsSettled chip → IsQuietFor most chip
+settled_quiet most chip settled n new within steps =
+    let (now, gate) = lasts (λ c. IsSettled c × (c.gated ≡ chip.gated)) n chip new (λ one next was step. settled_on chip one next was step) (settled, refl) steps in
+    (settled_int new now ∙ (gate ∙ sym (settled_int chip settled)), settled_asks new now ∙ sym (settled_asks chip settled))
+
+-- ---- the host reads an answer, and no pulses are to come
+
+tells_stage : (stage : Stage) (pace : Option Pace) → tells_alone stage pace ≡ true → (passes_at stage ≡ false) × (pace ≡ None)
+tells_stage (Telling answer read) None tells = (refl, refl)
+tells_stage (Telling answer read) (Some pace) tells = absurd (true≢false (sym tells))
+tells_stage Ready pace tells = absurd (true≢false (sym tells))
+tells_stage Held pace tells = absurd (true≢false (sym tells))
+tells_stage (Busy task) pace tells = absurd (true≢false (sym tells))
+
+-- a device step changes nothing but the inner controller
+tells_same : (stage : Stage) (pace : Option Pace) (old new : ChipState) → tells_alone stage pace ≡ true → old.pace ≡ pace → Follows stage old new → new ≡ old
+tells_same (Telling answer read) None old new tells unpaced paces = paced_none old.pace old new unpaced paces
+tells_same (Telling answer read) (Some pace) old new tells unpaced paces = absurd (true≢false (sym tells))
+tells_same Ready pace old new tells unpaced follows = absurd (true≢false (sym tells))
+tells_same Held pace old new tells unpaced follows = absurd (true≢false (sym tells))
+tells_same (Busy task) pace old new tells unpaced follows = absurd (true≢false (sym tells))
+
+tells_on : (first old new : ChipState) → tells_alone first.stage first.pace ≡ true → KeepsRest first old → StepsChip old new → KeepsRest first new
+tells_on first old new tells was step =
+    let stage = ap (λ (c : ChipState). c.stage) was in
+    let pace = ap (λ (c : ChipState). c.pace) was in
+    let is = tells_same first.stage first.pace (with_front step.between old) new tells pace (subst (λ s. Follows s (with_front step.between old) new) stage step.follows) in
+    is ∙ (ap (λ (c : ChipState). with_front step.between c) was ∙ ap (λ (c : ChipState). with_front c.front first) (sym is))
+
+telling_shows : (stage : Stage) (pace : Option Pace) (one other : Front) → tells_alone stage pace ≡ true → shows_behind stage one ≡ shows_behind stage other
+telling_shows (Telling answer read) pace one other tells = refl
+telling_shows Ready pace one other tells = absurd (true≢false (sym tells))
+telling_shows Held pace one other tells = absurd (true≢false (sym tells))
+telling_shows (Busy task) pace one other tells = absurd (true≢false (sym tells))
+
+telling_lines : (chip : ChipState) (front : Front) → tells_alone chip.stage chip.pace ≡ true → HasLinesChip (interrupts_chip chip) (asks_chip chip) (with_front front chip)
+telling_lines chip front tells =
+    let none = (tells_stage chip.stage chip.pace tells).0 in (
+      resting_interrupts (with_front front chip) none
+          ∙ (ap (λ b. chip.gated && (chip.interrupts.line || b)) (telling_shows chip.stage chip.pace front chip.front tells) ∙ sym (resting_interrupts chip none)),
+      resting_asks (with_front front chip) none ∙ sym (resting_asks chip none),
+    )
+
+pub telling_quiet : (most : ℕ) (chip : ChipState) → tells_alone chip.stage chip.pace ≡ true → IsQuietFor most chip
+telling_quiet most chip tells n new within steps =
+    let now = lasts (λ c. KeepsRest chip c) n chip new (λ one next was step. tells_on chip one next tells was step) refl steps in
+    subst (HasLinesChip (interrupts_chip chip) (asks_chip chip)) (sym now) (telling_lines chip new.front tells)

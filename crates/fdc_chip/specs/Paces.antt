@@ -1,5 +1,5 @@
 -- Seeks whose pulses come in the time that SPECIFY sets.
-use Rattle.std.specs.Prelude.{◌≡◌, ℕ, ◌+◌, ◌-◌, Bool, true, false, not, ◌==◌, ◌&&◌, ◌||◌, Option, Some, None, is_none, if◌then◌else◌, nat_le, nat_lt, unwrap_or}
+use Rattle.std.specs.Prelude.{◌≡◌, ℕ, ◌+◌, ◌-◌, ◌*◌, max, min, Bool, true, false, not, ◌==◌, ◌&&◌, ◌||◌, Option, Some, None, is_none, if◌then◌else◌, nat_le, nat_lt, unwrap_or}
 use Rattle.fdc_sequencer.specs.Senses.{is_ready, recalibrated_outside}
 use Rattle.fdc_chip.specs.Chips.{ChipState, with_front}
 use Rattle.fdc_chip.specs.Doing.{SendsOn, drained, moving, moves_heads}
@@ -51,3 +51,20 @@ GoesOn pace old new = GoesOnIf (is_due pace old) pace old new
 abbrev pub Paces : Option Pace → ChipState → ChipState → Type 0
 Paces None old new = new ≡ old
 Paces (Some pace) old new = GoesOn pace (drained old) new
+
+-- ---- how long such a seek takes
+
+-- the pulses from this cylinder to the target. A RECALIBRATE has no target: it gives the pulses to cylinder 0, but never
+-- more than `most`
+abbrev pub pulses_to : Option ℕ → ℕ → ℕ → ℕ
+pulses_to None cylinder most = min cylinder most
+pulses_to (Some target) cylinder most = (cylinder - target) + (target - cylinder)
+
+-- the pulses that come before the seek is over
+abbrev pub pulses_left : Pace → ℕ
+pulses_left pace = pulses_to pace.goal pace.cylinder pace.left
+
+-- the device steps up to the one in which the inner controller is given the command that ends the seek. So many word
+-- times pass from one pulse to the next
+abbrev pub steps_left : ℕ → Pace → ℕ
+steps_left words pace = max pace.wait 1 + pulses_left pace * words

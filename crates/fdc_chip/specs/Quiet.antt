@@ -1,11 +1,21 @@
 -- For how many device steps INT and DRQ surely stay as they are.
-use Rattle.std.specs.Prelude.{◌≡◌, ◌≤◌, ℕ, zero, suc, Bool, true, false, not, is_none, None, if◌then◌else◌}
+use Rattle.std.specs.Prelude.{◌≡◌, ◌⊎◌, ◌≤◌, ℕ, zero, suc, min, Bool, true, false, is_none, Option, None, Some, if◌then◌else◌}
+use Rattle.fdc_core.specs.Courses.{awaits_nothing}
+use Rattle.fdc_adapter.specs.Still.{steps_ahead}
 use Rattle.fdc_sequencer.specs.Fronts.{interrupts_outside}
+use Rattle.fdc_sequencer.specs.Senses.{is_ready}
 use Rattle.fdc_sequencer.specs.Still.{stands_at, StandsFront}
 use Rattle.fdc_chip.specs.Chips.{ChipState, interrupts_chip, asks_chip}
+use Rattle.fdc_chip.specs.Codes.{code_of}
+use Rattle.fdc_chip.specs.Doing.{needs_heads}
+use Rattle.fdc_chip.specs.Paces.{steps_left}
+use Rattle.fdc_chip.specs.Settings.{step_words}
 use Rattle.fdc_chip.specs.Steps.{HasLinesChip, StepsChip}
+use Rattle.fdc_chip.specs.declared.code.Code.{Code}
+use Rattle.fdc_chip.specs.declared.order.Order.{Order}
+use Rattle.fdc_chip.specs.declared.pace.Pace.{Pace}
 use Rattle.fdc_chip.specs.declared.stage.Stage.{Stage}
-use Rattle.fdc_chip.specs.declared.stage.Stage.TheVariants.{Ready, Telling}
+use Rattle.fdc_chip.specs.declared.stage.Stage.TheVariants.{Ready, Held, Busy, Telling}
 
 -- this many device steps, whatever the drives do in them
 unfoldable pub StepsBy : ℕ → ChipState → ChipState → Type 0
@@ -31,14 +41,53 @@ idles chip = if is_none chip.pace then rests_at chip.stage else false
 abbrev pub is_still_at : ChipState → Bool
 is_still_at chip = if interrupts_outside chip.front then false else if idles chip then stands_at chip.front else false
 
--- nothing is under way in the chip itself, and DOR lets no line out
-abbrev pub is_shut_at : ChipState → Bool
-is_shut_at chip = if chip.gated then false else idles chip
+-- INT can't change: no command is executed or held, and either DOR lets no line out, or INT is up already
+abbrev pub is_settled : ChipState → Bool
+is_settled chip = if rests_at chip.stage then (if chip.gated then chip.interrupts.line else true) else false
 
--- the number of device steps, at most `most`, for which the lines are said to stay. It is `most` if nothing runs or if
--- no line is let out, and else 0
+-- the host reads an answer, and no pulses are to come in the time that SPECIFY sets. What the inner controller does
+-- isn't taken over before the answer is read
+abbrev pub tells_alone : Stage → Option Pace → Bool
+tells_alone (Telling _ _) None = true
+tells_alone _ _ = false
+
+-- ---- while heads move
+
+-- whether a held command with this code is held until the heads stand
+abbrev pub is_for_heads : Option Code → Bool
+is_for_heads None = false
+is_for_heads (Some code) = needs_heads code
+
+-- no command is executed, and a command that is held waits for the heads
+abbrev pub waits_at : Stage → Order → Bool
+waits_at Ready order = true
+waits_at Held order = is_for_heads (code_of order.code)
+waits_at (Busy _) order = false
+waits_at (Telling _ _) order = true
+
+-- moreover the inner controller takes commands, and has no result, now or from a poll in the next device step
+abbrev pub awaits_heads : ChipState → Bool
+awaits_heads chip =
+    if waits_at chip.stage chip.order then (
+    if is_ready chip.front then (
+    if interrupts_outside chip.front then false else awaits_nothing chip.front.adapter.controller) else false) else false
+
+-- the device steps in which the heads surely don't come to the end of their seek: one for each pulse, or what the time
+-- that SPECIFY sets makes of the pulses
+abbrev pub head_steps : Option Pace → ChipState → ℕ
+head_steps None chip = steps_ahead chip.front.adapter
+head_steps (Some pace) chip = steps_left (step_words chip.settings) pace
+
+abbrev pub due_steps : ChipState → ℕ
+due_steps chip = if awaits_heads chip then head_steps chip.pace chip else 0
+
+-- the number of device steps, at most `most`, for which the lines are said to stay. It is `most` if nothing runs, or if
+-- INT can't change. It is 0 while a command is executed
 abbrev pub quiet_steps : (most : ℕ) → ChipState → ℕ
-quiet_steps most chip = if is_still_at chip then most else if is_shut_at chip then most else 0
+quiet_steps most chip =
+    if is_still_at chip then most else (
+    if is_settled chip then most else (
+    if tells_alone chip.stage chip.pace then most else min most (due_steps chip)))
 
 -- no command is under way that a device step goes on with, and no pulses are to come
 pub record IsIdle (chip : ChipState) : Type 0 where
@@ -52,7 +101,7 @@ pub record IsStill (chip : ChipState) : Type 0 where
   pub down : interrupts_outside chip.front ≡ false
   pub stands : StandsFront chip.front
 
--- nothing is under way in the chip itself, and DOR lets no line out
-pub record IsShut (chip : ChipState) : Type 0 where
-  pub idle : IsIdle chip
-  pub gate : chip.gated ≡ false
+-- no command is executed or held, and either DOR lets no line out, or INT is up already
+pub record IsSettled (chip : ChipState) : Type 0 where
+  pub rests : rests_at chip.stage ≡ true
+  pub fixed : (chip.gated ≡ false) ⊎ (chip.interrupts.line ≡ true)

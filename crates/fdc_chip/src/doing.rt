@@ -38,7 +38,7 @@ const WITHOUT_IMPLIED_SEEK: u8 = 0x3F;
 
 impl Code {
     /// Whether the command needs the inner controller, which takes no command while heads move.
-    fn needs_heads(self) -> bool
+    pub(crate) fn needs_heads(self) -> bool
         ensures { result ≡ needs_heads self }
     {
         match self {

@@ -4,7 +4,7 @@ ghost use Rattle.std.specs.Prelude.{◌≡◌, Some};
 ghost use Rattle.fdc_chip.specs.Chips.{chip_state, pace_bit};
 ghost use Rattle.fdc_chip.specs.Doing.{SendsOn, moving, pace_begun};
 ghost use Rattle.fdc_chip.specs.Interrupts.{cylinder_of};
-ghost use Rattle.fdc_chip.specs.Paces.{target_of, stepped, is_over, is_due, EndsAt, PulsesIf, GoesOn, Paces};
+ghost use Rattle.fdc_chip.specs.Paces.{target_of, stepped, is_over, is_due, EndsAt, PulsesIf, GoesOn, Paces, pulses_left, steps_left};
 
 use crate::chip::Chip;
 use drive_model::Inspect;
@@ -67,6 +67,33 @@ impl Pace {
             Some(target) => target,
             None => 0,
         }
+    }
+
+    /// The pulses that come before the seek is over.
+    fn pulses_left(self) -> u8
+        ensures { result ≡ pulses_left self }
+    {
+        match self.goal {
+            None => self.cylinder.min(self.left),
+            Some(target) => {
+                if self.cylinder < target {
+                    target - self.cylinder
+                } else {
+                    self.cylinder - target
+                }
+            }
+        }
+    }
+
+    /// The device steps up to the one in which the inner controller is given the command that ends the seek. So many
+    /// word times pass from one pulse to the next.
+    pub(crate) fn steps_left(self, words: u16) -> u32
+        ensures { result ≡ steps_left words self }
+    {
+        let pulses = self.pulses_left();
+        let time = u32::from(pulses) * u32::from(words);
+        let rest = u32::from(self.wait.max(1));
+        rest + time
     }
 
     /// Whether the seek is at its cylinder by the number, or is a RECALIBRATE that gave all its pulses.

@@ -3,17 +3,29 @@ ghost use Rattle.std.specs.Prelude.{◌≡◌, ◌≤◌, true};
 ghost use Rattle.fdc_core.specs.Ranges.{IsInRange};
 ghost use Rattle.fdc_sequencer.specs.Ranges.{HasByteNumbers};
 ghost use Rattle.fdc_chip.specs.Chips.{chip_state, interrupts_chip, asks_chip};
-ghost use Rattle.fdc_chip.specs.Quiet.{IsIdle, IsQuietFor, IsShut, IsStill, idles, is_shut_at, is_still_at, quiet_steps, rests_at};
+ghost use Rattle.fdc_chip.specs.Quiet.{IsIdle, IsQuietFor, IsStill, awaits_heads, due_steps, idles, is_for_heads, is_settled, is_still_at, quiet_steps, rests_at, tells_alone, waits_at};
 ghost use Rattle.fdc_chip.specs.Steps.{RunsChipWith};
 ghost use Rattle.fdc_chip.specs.declared.stage.Stage.TheVariants.{Busy};
 ghost use Rattle.fdc_chip.specs.declared.stage.Task.TheVariants.{Sent};
 
 use crate::chip::Chip;
+use crate::code::Code;
+use crate::order::Order;
 use crate::stage::{Stage, Task};
 use drive_model::Inspect;
 
 /// Nothing is said of the next device step.
 const UNKNOWN: u32 = 0;
+
+/// Whether a held command with this code is held until the heads stand.
+fn is_for_heads(code: Option<Code>) -> bool
+    ensures { result ≡ is_for_heads code }
+{
+    match code {
+        None => false,
+        Some(code) => code.needs_heads(),
+    }
+}
 
 impl Stage {
     /// Whether no command is under way that a device step goes on with.
@@ -21,6 +33,17 @@ impl Stage {
         ensures { result ≡ rests_at self.now }
     {
         matches!(self, Stage::Ready | Stage::Telling { .. })
+    }
+
+    /// Whether no command is executed, and a command that is held waits for the heads.
+    fn waits(&self, order: Order) -> bool
+        ensures { result ≡ waits_at self.now order }
+    {
+        match self {
+            Stage::Ready | Stage::Telling { .. } => true,
+            Stage::Held => is_for_heads(Code::of(order.code)),
+            Stage::Busy { .. } => false,
+        }
     }
 }
 
@@ -33,10 +56,12 @@ impl<D: Inspect> Chip<D> {
         self.behind.ranges();
     }
 
-    /// This many device steps, at most `most`, surely leave INT and DRQ as they are, whatever the drives do. The number
-    /// is `most` if no command is executed and no heads move, whether motors are on or off. It is also `most` if DOR
-    /// lets no line out, no command is executed, and no pulses are to come in the time that SPECIFY sets. Then no timer
-    /// is needed until the next call. The number is 0 if the next step may change a line.
+    /// This many device steps, at most `most`, surely leave INT and DRQ as they are, whatever the drives do.
+    ///
+    /// The number is `most` if no command is executed and no heads move, whether motors are on or off. It is also `most`
+    /// if INT can't change, because DOR lets no line out or because INT is up already. Then no timer is needed until the
+    /// next call. While heads move, the number is that of the steps before their seek can end. It is 0 while a command is
+    /// executed.
     pub fn quiet(&self, most: u32) -> u32
         ensures few { result ≤ most }
         ensures value { result ≡ quiet_steps most (chip_state D.state self.now) }
@@ -45,10 +70,21 @@ impl<D: Inspect> Chip<D> {
         if self.is_still() {
             return most;
         }
-        if self.is_shut() {
+        if self.is_settled() {
             return most;
         }
-        UNKNOWN
+        if self.tells_alone() {
+            return most;
+        }
+        self.keep_ranges();
+        most.min(self.due_steps())
+    }
+
+    /// The numbers of the inner controller are those that registers hold. The function does nothing.
+    fn keep_ranges(&self)
+        ensures { IsInRange (chip_state D.state self.now).front.adapter.controller }
+    {
+        self.behind.ranges();
     }
 
     /// Whether a device step goes on with nothing in the chip itself.
@@ -76,15 +112,56 @@ impl<D: Inspect> Chip<D> {
         false
     }
 
-    /// Whether DOR lets no line out, and a device step goes on with nothing in the chip itself.
-    fn is_shut(&self) -> bool
-        ensures value { result ≡ is_shut_at (chip_state D.state self.now) }
-        ensures shut { result ≡ true → IsShut (chip_state D.state self.now) }
+    /// Whether INT can't change: no command is executed or held, and DOR lets no line out or INT is up already.
+    fn is_settled(&self) -> bool
+        ensures { result ≡ is_settled (chip_state D.state self.now) }
     {
-        if self.gated {
+        if !self.stage.rests() {
             return false;
         }
-        self.is_idle()
+        if !self.gated {
+            return true;
+        }
+        self.interrupts.is_up()
+    }
+
+    /// Whether the host reads an answer, and no pulses are to come in the time that SPECIFY sets.
+    fn tells_alone(&self) -> bool
+        ensures { result ≡ tells_alone (chip_state D.state self.now).stage (chip_state D.state self.now).pace }
+    {
+        match self.stage {
+            Stage::Telling { .. } => self.pace.is_none(),
+            _ => false,
+        }
+    }
+
+    /// The device steps before the seek of the heads can end, or 0 if something else can change a line.
+    fn due_steps(&self) -> u32
+        ensures { result ≡ due_steps (chip_state D.state self.now) }
+    {
+        if !self.awaits_heads() {
+            return UNKNOWN;
+        }
+        match self.pace {
+            None => u32::from(self.behind.adapter().steps_ahead()),
+            Some(pace) => pace.steps_left(self.settings.step_words()),
+        }
+    }
+
+    /// Whether only the end of a seek can change a line.
+    fn awaits_heads(&self) -> bool
+        ensures { result ≡ awaits_heads (chip_state D.state self.now) }
+    {
+        if !self.stage.waits(self.order) {
+            return false;
+        }
+        if !self.behind.is_ready() {
+            return false;
+        }
+        if self.behind.int() {
+            return false;
+        }
+        self.behind.adapter().awaits_nothing()
     }
 
     /// Does at least one device step and at most `most`, and gives their number. No step comes after one in which a

@@ -124,7 +124,7 @@ impl Controller {
         made
     }
 
-    /// A number of device steps that surely change neither INT nor DRQ: `most` or 0.
+    /// A number of device steps, at most `most`, that surely change neither INT nor DRQ.
     pub fn quiet(&mut self, most: u32) -> u32 {
         let mut steps = 0;
         must(unsafe { ffi::telwyddus_controller_quiet(&mut self.slot, most, &mut steps) });
