@@ -11,6 +11,7 @@ use Rattle.fdc_commands.specs.declared.motion.Motion.TheVariants.{Outward, Towar
 use Rattle.fdc_commands.specs.declared.motion.Seek.{Seek as DriveSeek}
 use Rattle.fdc_phases.specs.declared.phases.Phase.{Phase}
 use Rattle.fdc_phases.specs.declared.phases.Phase.TheVariants.{Command as Taking}
+use Rattle.fdc_core.specs.Whole.{mark_of}
 use Rattle.fdc_core.specs.Courses.{Works}
 use Rattle.fdc_core.specs.State.{is_gated, is_held}
 use Rattle.fdc_core.specs.Steps.{Moves, MovesIn, Rests, RestsIn, Stays, polled, seek_stepped}
@@ -388,7 +389,7 @@ module _ (old : Front) (between : AdapterState) (was : IsAhead old) (track0 : Bo
       )
 
 through_step : (old new : Front) (step : StepsFront old new) → old.stage ≡ Through → new ≡ record old { adapter = step.between }
-through_step old new step through = subst (λ stage. FollowsStep stage (record old { adapter = step.between }) new) through step.follows
+through_step old new step through = subst (λ stage. FollowsStep (mark_of old.adapter.controller) stage (record old { adapter = step.between }) new) through step.follows
 
 -- a device step while only heads move, or nothing does
 pub front_goes : (old new : Front) → IsAhead old → StepsFront old new → GoesAhead old new ⊎ (HasEnded new × (steps_ahead old.adapter ≡ 0))
