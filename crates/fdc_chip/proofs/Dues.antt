@@ -1,5 +1,5 @@
 -- Device steps while heads move: neither line changes before their seek ends.
-use Rattle.std.proofs.Common.{◌≡◌, ◌⊎◌, inl, inr, ℕ, zero, suc, ◌+◌, ◌-◌, ◌*◌, ◌%◌, ◌<◌, ◌≤◌, max, min, nat_le, nat_lt, Bool, true, false, not, ◌&&◌, ◌||◌, ◌==◌, if◌then◌else◌, Option, Some, None, is_none, is_some, List, [], ◌∷◌, length, slice_index, unwrap_or, refl, sym, ◌∙◌, ap, subst, arith}
+use Rattle.std.proofs.Common.{◌≡◌, inl, inr, ℕ, zero, suc, ◌+◌, ◌-◌, ◌*◌, ◌%◌, ◌<◌, ◌≤◌, max, min, nat_le, nat_lt, Bool, true, false, not, ◌&&◌, ◌||◌, ◌==◌, if◌then◌else◌, Option, Some, None, is_none, is_some, List, [], ◌∷◌, length, slice_index, unwrap_or, refl, sym, ◌∙◌, ap, subst, arith}
 use Rattle.std.specs.Prelude.{position}
 use Rattle.std.specs.Option.{ForSome}
 use Rattle.std.proofs.Math.Nat.{mul-le-mul_right, suc-mul}
@@ -17,7 +17,7 @@ use Rattle.fdc_adapter.specs.Still.{steps_ahead}
 use Rattle.fdc_sequencer.specs.Fronts.{Front, asks_outside, interrupts_at, interrupts_outside, with_controller}
 use Rattle.fdc_sequencer.specs.Moves.{StepsFront}
 use Rattle.fdc_sequencer.specs.Senses.{is_ready, recalibrated_at, recalibrated_outside}
-use Rattle.fdc_chip.specs.Chips.{ChipState, asks_chip, interrupts_chip, passes, passes_at, passes_by_port, passes_by_channel, shows_behind, with_front}
+use Rattle.fdc_chip.specs.Chips.{ChipState, asks_chip, interrupts_chip, passes, passes_at, shows_behind, with_front}
 use Rattle.fdc_chip.specs.Codes.{code_of}
 use Rattle.fdc_chip.specs.Doing.{AttendsIf, AttendsTo, Sends, drained, is_moving, moves_heads, moving, needs_heads}
 use Rattle.fdc_chip.specs.Orders.{is_format}
@@ -31,7 +31,7 @@ use Rattle.fdc_chip.specs.declared.pace.Pace.{Pace}
 use Rattle.fdc_chip.specs.declared.stage.Stage.{Stage}
 use Rattle.fdc_chip.specs.declared.stage.Stage.TheVariants.{Ready, Held, Busy, Telling}
 use Rattle.fdc_chip.proofs.Giving.{IsTaking, bit_moves, none_moves, ready_taking, seek_given, taking_idle}
-use Rattle.fdc_chip.proofs.Heading.{GoesAhead, HasEnded, IsAhead, ahead_down, ahead_drained, bare, bare_ahead, ended_drained, front_goes, none_pending, some_four}
+use Rattle.fdc_chip.proofs.Heading.{IsAhead, ahead_down, ahead_drained, bare, bare_ahead, ended_drained, front_goes, none_pending, some_four}
 
 -- ---- the lines
 

@@ -1,7 +1,7 @@
 -- A front whose controller takes the first byte of a command, and a SEEK that is given to it.
-use Rattle.std.proofs.Common.{◌≡◌, ◌≤◌, ℕ, zero, suc, ◌<◌, ◌^◌, Bool, true, false, not, ◌==◌, if◌then◌else◌, Option, Some, None, List, [], ◌∷◌, ◌++◌, bit_and, bit_or, refl, sym, ◌∙◌, ap, subst, arith}
+use Rattle.std.proofs.Common.{◌≡◌, ℕ, zero, suc, ◌<◌, ◌^◌, Bool, true, false, not, ◌==◌, if◌then◌else◌, Option, Some, None, List, [], ◌∷◌, ◌++◌, bit_and, bit_or, refl, sym, ◌∙◌, ap, subst, arith}
 use Rattle.std.specs.Option.{option_map_or, ForSome}
-use Rattle.std.proofs.lemmas.Bool.{and_parts, and_from, and_right, false≢true, not-false, not-true}
+use Rattle.std.proofs.lemmas.Bool.{and_parts, and_from, and_right, false≢true, not-true}
 use Rattle.fdc_commands.specs.Seeking.{seek_bits}
 use Rattle.fdc_commands.specs.Table.{answer, is_begun, kept}
 use Rattle.fdc_commands.specs.declared.bytes.Accepted.TheVariants.{More, Ready}

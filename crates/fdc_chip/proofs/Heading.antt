@@ -1,5 +1,5 @@
 -- The inner controller while only its heads move: device steps, and results that are taken over.
-use Rattle.std.proofs.Common.{◌≡◌, ◌⊎◌, inl, inr, ℕ, zero, suc, ◌+◌, ◌-◌, ◌%◌, ◌<◌, ◌≤◌, min, nat_lt, Bool, true, false, not, ◌&&◌, ◌||◌, ◌==◌, if◌then◌else◌, Option, Some, None, is_some, List, [], ◌∷◌, length, slice_set, refl, sym, ◌∙◌, ap, subst, arith}
+use Rattle.std.proofs.Common.{◌≡◌, ◌⊎◌, inl, inr, ℕ, zero, suc, ◌+◌, ◌-◌, ◌%◌, ◌<◌, ◌≤◌, min, nat_lt, Bool, true, false, not, ◌&&◌, ◌||◌, ◌==◌, if◌then◌else◌, Option, Some, None, is_some, List, [], ◌∷◌, slice_set, refl, sym, ◌∙◌, ap, subst, arith}
 use Rattle.std.specs.Option.{option_map_or, ForSome}
 use Rattle.std.proofs.lemmas.Bool.{and_right, eqb-true, false≢true}
 use Rattle.std.proofs.lemmas.Bool.Decides.{nat_tests}
@@ -21,7 +21,7 @@ use Rattle.fdc_adapter.specs.Still.{heads_at, steps_ahead}
 use Rattle.fdc_sequencer.specs.Fronts.{Front, interrupts_at, interrupts_outside}
 use Rattle.fdc_sequencer.specs.Moves.{FollowsStep, StepsFront}
 use Rattle.fdc_sequencer.specs.declared.stage.Stage.TheVariants.{Through}
-use Rattle.fdc_chip.specs.Chips.{ChipState, with_front}
+use Rattle.fdc_chip.specs.Chips.{ChipState}
 use Rattle.fdc_chip.specs.Doing.{drained, drained_by, drained_one, is_told, moves_heads}
 use Rattle.fdc_chip.specs.declared.pace.Pace.{Pace}
 use Rattle.fdc_chip.proofs.Giving.{IsTaking, bit_moves}
