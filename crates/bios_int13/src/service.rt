@@ -21,7 +21,7 @@ const RECORD_BYTES: usize = 512;
 
 /// The result of the work of a call.
 #[derive(Clone, Copy)]
-pub(crate) struct Outcome {
+pub(crate) struct WorkResult {
     /// The code of INT 13h. It is 00 if nothing was refused.
     code: u8,
     /// The records that were moved without a refusal.
@@ -56,20 +56,20 @@ pub fn serve<D: Station>(session: &mut Session<D>, front: &mut Int13, regs: Regs
     ensures { (told : Option Files) → (course : List Taken) × Serves front.old regs session.old told
         result front.new course session.new }
 {
-    let Outcome { code, moved } = do_work(session, front.plan(regs));
+    let WorkResult { code, moved } = do_work(session, front.plan(regs));
     front.finish(regs, code, moved)
 }
 
 /// Does the work of a call.
-fn do_work<D: Station>(session: &mut Session<D>, work: Work) -> Outcome
+fn do_work<D: Station>(session: &mut Session<D>, work: Work) -> WorkResult
     requires { IsDoable work }
     ensures does { (told : Option Files) → (course : List Taken) × DoesWork work session.old told course
         result.code result.moved session.new }
     ensures answer { IsAnswerTo work result.code result.moved }
 {
     match work {
-        Work::Answer { code } => Outcome { code, moved: 0 },
-        Work::Changed { bay } => Outcome {
+        Work::Answer { code } => WorkResult { code, moved: 0 },
+        Work::Changed { bay } => WorkResult {
             code: change_code(session, bay),
             moved: 0,
         },
@@ -114,7 +114,7 @@ fn transfer<D: Station>(
     first: Chrn,
     count: u8,
     address: u32,
-) -> Outcome
+) -> WorkResult
     requires transfer { IsTransfer kind bay first.c first.h first.r count address }
     requires size { first.n ≡ 2 }
     ensures { (told : Option Files) → (course : List Taken) × Transfers kind bay first count address
@@ -130,12 +130,12 @@ fn transfer<D: Station>(
 }
 
 /// Acknowledges a bay, for a call that moves no record.
-fn acknowledge_alone<D: Station>(session: &mut Session<D>, bay: u8) -> Outcome
+fn acknowledge_alone<D: Station>(session: &mut Session<D>, bay: u8) -> WorkResult
     requires { bay ≤ 1 }
     ensures { (told : Option Files) → (course : List Taken) × AcksAlone bay session.old told course
         result.code result.moved session.new }
 {
-    Outcome {
+    WorkResult {
         code: ack_code(session.acknowledge(bay)),
         moved: 0,
     }
@@ -184,7 +184,7 @@ fn move_records<D: Station>(
     first: Chrn,
     count: u8,
     address: u32,
-) -> Outcome
+) -> WorkResult
     requires size { first.n ≡ 2 }
     requires last { first.r + count ≤ 256 }
     requires within { address ≤ user_bytes }
@@ -201,14 +201,14 @@ fn move_records<D: Station>(
         match move_record(session, kind, bay, key, place_of_record(kind, address, i)) {
             Ok(()) => {}
             Err(code) => {
-                return Outcome {
+                return WorkResult {
                     code: code.number(),
                     moved: i,
                 };
             }
         }
     }
-    Outcome {
+    WorkResult {
         code: 0x00,
         moved: count,
     }
@@ -222,7 +222,7 @@ fn verify_records<D: Station>(
     first: Chrn,
     count: u8,
     address: u32,
-) -> Outcome
+) -> WorkResult
     requires size { first.n ≡ 2 }
     requires last { first.r + count ≤ 256 }
     requires within { address + 512 ≤ user_bytes }

@@ -4,7 +4,7 @@ ghost use Rattle.drive_model.specs.Maps.{no_tracks, bit_of as bit_of_place, mark
 ghost use Rattle.saved_state.specs.Saved.{spelled_bytes};
 ghost use Rattle.c_bay_drive.specs.Joined.{joined};
 
-use saved_state::{Saved, Sink, Source, load_bytes, save_bytes};
+use saved_state::{Saved, SavedBytes, Source, load_bytes, save_bytes};
 use std::marker::Model;
 
 /// The tracks of 80 cylinders and two heads.
@@ -123,7 +123,7 @@ impl Saved for TrackMap {
 
     ghost Fits = { IsMap };
 
-    fn save(&self, to: &mut Sink) {
+    fn save(&self, to: &mut SavedBytes) {
         save_bytes(self.bytes(), to);
     }
 

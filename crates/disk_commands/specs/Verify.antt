@@ -14,7 +14,7 @@ use Rattle.floppy_session.specs.declared.shape.Shape.{Shape}
 use Rattle.commands.specs.Scripts.{Script, Ends}
 use Rattle.commands.specs.Parts.{Part, asks, says, opens, acknowledges, each, by_track}
 use Rattle.commands.specs.Records.{track_address}
-use Rattle.disk_commands.specs.declared.read_tally.Tally.{Tally}
+use Rattle.disk_commands.specs.declared.read_tally.ReadTally.{ReadTally}
 use Rattle.disk_commands.specs.Disks.{sectors_of}
 
 -- the line of a record that couldn't be read: its cylinder, head and record, and why
@@ -30,22 +30,22 @@ tells_failure key reply.DoneDeleted rest = rest tt
 tells_failure key (reply.Bytes address content) rest = rest tt
 
 -- the tally of no reads
-abbrev pub no_reads : Tally
+abbrev pub no_reads : ReadTally
 no_reads = record { well = 0; refused = false }
 
 -- the tally after one more read, which was refused or wasn't
-abbrev pub one_more : Tally → Bool → Tally
+abbrev pub one_more : ReadTally → Bool → ReadTally
 one_more tally refused = record { well = tally.well + (if refused then 0 else 1); refused = tally.refused || refused }
 
 -- a record is read, and a line tells of it if it can't be read
-unfoldable pub verifies_record : ℕ → ℕ → ℕ → Tally → Part Tally
+unfoldable pub verifies_record : ℕ → ℕ → ℕ → ReadTally → Part ReadTally
 verifies_record c h r tally rest =
     asks (request.Read 0 (key_of c h r) track_address) (λ answer after.
     tells_failure (key_of c h r) answer (λ none.
     rest (one_more tally (is_refusal answer))))
 
 -- each record of a track is read in this way
-unfoldable pub verifies_track : ℕ → ℕ → ℕ → Tally → Part Tally
+unfoldable pub verifies_track : ℕ → ℕ → ℕ → ReadTally → Part ReadTally
 verifies_track sectors c h tally rest = each 1 sectors (verifies_record c h) tally rest
 
 -- the last line: how many of how many sectors were read
@@ -53,7 +53,7 @@ unfoldable pub verify_text : ℕ → ℕ → List ℕ
 verify_text well all = codes "verify " ++ (decimal well ++ (codes " of " ++ (decimal all ++ codes "\n")))
 
 -- The disk of a name is put in and acknowledged, and every sector is read. The disk's shape and the tally are found.
-unfoldable pub reads_disk : List ℕ → Part (Shape × Tally)
+unfoldable pub reads_disk : List ℕ → Part (Shape × ReadTally)
 reads_disk name rest =
     opens name (λ shape.
     acknowledges 0 shape.rate (λ none.

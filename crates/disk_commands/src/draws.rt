@@ -13,7 +13,7 @@ pub(crate) struct Draws {
 
 /// What five draws request.
 #[derive(Clone, Copy)]
-pub(crate) struct Work {
+pub(crate) struct DrawnWork {
     /// 0 is a write, 3 is a write that marks its field as deleted, and 1 and 2 are reads.
     pub kind: u32,
     pub key: Chrn,
@@ -34,7 +34,7 @@ impl Draws {
 
     /// The next five draws: kind, cylinder, head, record and byte.
     #[tactic(auto, unfolding(crate::specs::Workload::number_after))]
-    pub fn work(&mut self) -> Work
+    pub fn work(&mut self) -> DrawnWork
         ensures number { self.new.number ≡ number_after 5 self.old.number }
         ensures kind { result.kind ≡ drawn (number_after 1 self.old.number) % 4 }
         ensures key { result.key ≡ drawn_key (drawn (number_after 2 self.old.number))
@@ -48,6 +48,6 @@ impl Draws {
         let byte = (self.draw() % 256) as u8;
         let n = SIZE_CODE;
         let key = Chrn { c, h, r, n };
-        Work { kind, key, byte }
+        DrawnWork { kind, key, byte }
     }
 }

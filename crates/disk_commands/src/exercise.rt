@@ -5,7 +5,7 @@ ghost use Rattle.commands.specs.Leading.{Goes, RanPart, Ran, Runs};
 ghost use Rattle.disk_commands.specs.Exercise.{exercises, exercise_text, exercise_script};
 
 use crate::work::run_work;
-use crate::work_tally::Tally;
+use crate::work_tally::WorkTally;
 use commands::{AnyRun, acknowledge, blank_request, format_tracks, whole_status};
 use flop_base::{Name, NoMemory, Rate, Status};
 use std::alloc::{AllocError, Global};
@@ -14,7 +14,12 @@ use std::alloc::{AllocError, Global};
 const CYLINDERS: u8 = 4;
 
 /// Makes the disk, and runs the workload on it.
-fn run_exercise<R: AnyRun>(run: &mut R, name: Name, seed: u32, count: u16) -> Result<Tally, Status>
+fn run_exercise<R: AnyRun>(
+    run: &mut R,
+    name: Name,
+    seed: u32,
+    count: u16,
+) -> Result<WorkTally, Status>
     requires name { name ≡ codes "exercise" }
     ensures { RanPart R.hand (Goes (exercises seed count)) run.old result run.new }
 {
@@ -26,10 +31,15 @@ fn run_exercise<R: AnyRun>(run: &mut R, name: Name, seed: u32, count: u16) -> Re
 }
 
 #[tactic(auto, unfolding(crate::specs::Exercise::exercise_text))]
-fn exercise_line(alloc: Global, seed: u32, count: u16, tally: Tally) -> Result<String, AllocError>
+fn exercise_line(
+    alloc: Global,
+    seed: u32,
+    count: u16,
+    tally: WorkTally,
+) -> Result<String, AllocError>
     ensures { IfOk result (λ line. string_bytes line ≡ exercise_text seed count tally.done tally.refused tally.sum) }
 {
-    let Tally { done, refused, sum } = tally;
+    let WorkTally { done, refused, sum } = tally;
     format!(in alloc; "exercise {seed} {count} ok {done} refused {refused} sum {sum}\n")
 }
 

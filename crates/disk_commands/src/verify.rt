@@ -7,7 +7,7 @@ ghost use Rattle.commands.specs.Leading.{Goes, Finishes, Runs, Ran, RanPart};
 ghost use Rattle.disk_commands.specs.Disks.{sectors_of};
 ghost use Rattle.disk_commands.specs.Verify.{failure_line, tells_failure, no_reads, verifies_record, verifies_track, verify_text, reads_disk, verify_script};
 
-use crate::read_tally::Tally;
+use crate::read_tally::ReadTally;
 use crate::shape::sector_count;
 use commands::{AnyRun, TRACK_ADDRESS, acknowledge, is_refusal, reason_word, whole_status};
 use flop_base::standard::SIZE_CODE;
@@ -41,7 +41,13 @@ fn tell_failure<R: AnyRun>(run: &mut R, key: Chrn, reply: &Reply) -> Result<(), 
 
 /// Reads a record, and prints a line if it can't be read.
 #[tactic(auto, unfolding(crate::specs::Verify::verifies_record))]
-fn verify_record<R: AnyRun>(run: &mut R, tally: Tally, c: u8, h: u8, r: u8) -> Result<Tally, Status>
+fn verify_record<R: AnyRun>(
+    run: &mut R,
+    tally: ReadTally,
+    c: u8,
+    h: u8,
+    r: u8,
+) -> Result<ReadTally, Status>
     requires { tally.well + 1 ≤ 4294967295 }
     ensures ran { RanPart R.hand (Goes (verifies_record c h r tally)) run.old result run.new }
     ensures few { IfOk result (λ now. now.well ≤ tally.well + 1) }
@@ -66,11 +72,11 @@ fn verify_record<R: AnyRun>(run: &mut R, tally: Tally, c: u8, h: u8, r: u8) -> R
 #[tactic(auto, unfolding(crate::specs::Verify::verifies_track))]
 fn verify_track<R: AnyRun>(
     run: &mut R,
-    tally: Tally,
+    tally: ReadTally,
     sectors: u8,
     c: u8,
     h: u8,
-) -> Result<Tally, Status>
+) -> Result<ReadTally, Status>
     requires most { sectors ≤ 18 }
     requires room { tally.well + 18 ≤ 4294967295 }
     ensures ran { RanPart R.hand (Goes (verifies_track sectors c h tally)) run.old result run.new }
@@ -86,11 +92,11 @@ fn verify_track<R: AnyRun>(
 /// Reads the tracks of a cylinder.
 fn verify_cylinder<R: AnyRun>(
     run: &mut R,
-    tally: Tally,
+    tally: ReadTally,
     heads: u8,
     sectors: u8,
     c: u8,
-) -> Result<Tally, Status>
+) -> Result<ReadTally, Status>
     requires most { sectors ≤ 18 }
     requires room { tally.well + 4590 ≤ 4294967295 }
     ensures ran { RanPart R.hand (Goes (each 0 heads (verifies_track sectors c) tally)) run.old result run.new }
@@ -106,11 +112,11 @@ fn verify_cylinder<R: AnyRun>(
 /// Reads all tracks, by cylinder, then head.
 fn verify_tracks<R: AnyRun>(
     run: &mut R,
-    tally: Tally,
+    tally: ReadTally,
     cylinders: u8,
     heads: u8,
     sectors: u8,
-) -> Result<Tally, Status>
+) -> Result<ReadTally, Status>
     requires most { sectors ≤ 18 }
     requires room { tally.well + 1170450 ≤ 4294967295 }
     ensures { RanPart R.hand (Goes (by_track cylinders heads (verifies_track sectors) tally)) run.old result run.new }
@@ -123,7 +129,7 @@ fn verify_tracks<R: AnyRun>(
 }
 
 #[tactic(auto, unfolding(crate::specs::Verify::verify_text))]
-fn verify_line(alloc: Global, tally: Tally, shape: Shape) -> Result<String, AllocError>
+fn verify_line(alloc: Global, tally: ReadTally, shape: Shape) -> Result<String, AllocError>
     ensures { IfOk result (λ line. string_bytes line ≡ verify_text tally.well (sectors_of shape)) }
 {
     let well = tally.well;
@@ -133,13 +139,13 @@ fn verify_line(alloc: Global, tally: Tally, shape: Shape) -> Result<String, Allo
 
 /// Reads every sector of a disk that is put in.
 #[tactic(auto, unfolding(crate::specs::Verify::reads_disk))]
-fn read_disk<R: AnyRun>(run: &mut R, name: Name) -> Result<(Shape, Tally), Status>
+fn read_disk<R: AnyRun>(run: &mut R, name: Name) -> Result<(Shape, ReadTally), Status>
     ensures { RanPart R.hand (Goes (reads_disk name)) run.old result run.new }
 {
     let shape = run.open_disk(name)?;
     acknowledge(run, 0, shape.rate)?;
     let sectors = shape.rate.sectors();
-    let none = Tally::none();
+    let none = ReadTally::none();
     let tally = verify_tracks(run, none, shape.cylinders, shape.heads, sectors)?;
     Ok((shape, tally))
 }

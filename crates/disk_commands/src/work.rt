@@ -7,7 +7,7 @@ ghost use Rattle.disk_commands.specs.Workload.{number_after};
 ghost use Rattle.disk_commands.specs.Exercise.{no_work, reads_work, write_request, writes_work, works_behind, works, HasRoom, IsOneMore};
 
 use crate::draws::Draws;
-use crate::work_tally::Tally;
+use crate::work_tally::WorkTally;
 use commands::{AnyRun, is_refusal};
 use flop_base::{Chrn, Status};
 use floppy_jobs::Request;
@@ -33,7 +33,7 @@ fn sum_read<R: AnyRun>(run: &R, address: u32) -> u64
 
 /// Reads the record of a key.
 #[tactic(auto, unfolding(crate::specs::Exercise::reads_work))]
-fn read<R: AnyRun>(run: &mut R, key: Chrn, tally: Tally) -> Result<Tally, Status>
+fn read<R: AnyRun>(run: &mut R, key: Chrn, tally: WorkTally) -> Result<WorkTally, Status>
     requires room { HasRoom tally }
     ensures ran { RanPart R.hand (Goes (reads_work key tally)) run.old result run.new }
     ensures more { IfOk result (IsOneMore tally) }
@@ -79,8 +79,8 @@ fn write<R: AnyRun>(
     deleted: bool,
     key: Chrn,
     byte: u8,
-    tally: Tally,
-) -> Result<Tally, Status>
+    tally: WorkTally,
+) -> Result<WorkTally, Status>
     requires room { HasRoom tally }
     ensures ran { RanPart R.hand (Goes (writes_work deleted key byte tally)) run.old result run.new }
     ensures more { IfOk result (IsOneMore tally) }
@@ -101,7 +101,11 @@ fn write<R: AnyRun>(
 
 /// Runs what the next five draws request.
 #[tactic(auto, unfolding(crate::specs::Exercise::works_behind, crate::specs::Exercise::works_drawn))]
-fn run_next<R: AnyRun>(run: &mut R, draws: &mut Draws, tally: Tally) -> Result<Tally, Status>
+fn run_next<R: AnyRun>(
+    run: &mut R,
+    draws: &mut Draws,
+    tally: WorkTally,
+) -> Result<WorkTally, Status>
     requires room { HasRoom tally }
     ensures ran { RanPart R.hand (Goes (works_behind draws.old.number tally)) run.old result run.new }
     ensures more { IfOk result (IsOneMore tally) }
@@ -118,11 +122,11 @@ fn run_next<R: AnyRun>(run: &mut R, draws: &mut Draws, tally: Tally) -> Result<T
 }
 
 /// Runs a workload: `count` times what five draws request. The first draw is the one after the seed.
-pub(crate) fn run_work<R: AnyRun>(run: &mut R, seed: u32, count: u16) -> Result<Tally, Status>
+pub(crate) fn run_work<R: AnyRun>(run: &mut R, seed: u32, count: u16) -> Result<WorkTally, Status>
     ensures { RanPart R.hand (Goes (works seed count no_work)) run.old result run.new }
 {
     let mut draws = Draws { number: seed };
-    let mut tally = Tally {
+    let mut tally = WorkTally {
         done: 0,
         refused: 0,
         sum: 0,

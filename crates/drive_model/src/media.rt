@@ -8,11 +8,11 @@ ghost use Rattle.drive_model.specs.Saving.{spelled_medium};
 
 use flop_base::NoMemory;
 use raw_image::{ImageError, Medium, read_image, write_image};
-use saved_state::{Sink, Source, load_bytes, save_bytes};
+use saved_state::{SavedBytes, Source, load_bytes, save_bytes};
 use std::alloc::Global;
 
 /// Writes the image file of a medium.
-fn save_image(alloc: Global, medium: &Medium, to: &mut Sink)
+fn save_image(alloc: Global, medium: &Medium, to: &mut SavedBytes)
     ensures { Adds (spelled_bytes (file_of medium.now)) to.old to.new }
 {
     match write_image(alloc, medium) {
@@ -22,7 +22,7 @@ fn save_image(alloc: Global, medium: &Medium, to: &mut Sink)
 }
 
 /// Writes the medium of a drive. Memory for its image file is allocated here.
-pub fn save_medium(alloc: Global, medium: &Option<Medium>, to: &mut Sink)
+pub fn save_medium(alloc: Global, medium: &Option<Medium>, to: &mut SavedBytes)
     ensures { Adds (spelled_medium medium.now) to.old to.new }
 {
     match medium {

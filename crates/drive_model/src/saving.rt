@@ -6,7 +6,7 @@ use crate::limits::{limited_cylinder, limited_place, limited_spin};
 use crate::mechanics::Mechanics;
 use crate::media::{load_medium, save_medium};
 use flop_base::NoMemory;
-use saved_state::{Saved, SavedWhole, Sink, Source};
+use saved_state::{Saved, SavedBytes, SavedWhole, Source};
 use std::alloc::Global;
 
 impl Saved for Fault {
@@ -17,7 +17,7 @@ impl Saved for Fault {
 
     ghost Fits = { λ _. ⊤ };
 
-    fn save(&self, to: &mut Sink) {
+    fn save(&self, to: &mut SavedBytes) {
         match *self {
             Fault::Dropout { c, h, word, count } => {
                 to.byte(0);
@@ -84,7 +84,7 @@ impl SavedWhole for Mechanics {
 
     ghost Fits = { λ _. ⊤ };
 
-    fn save(&self, alloc: Global, to: &mut Sink) {
+    fn save(&self, alloc: Global, to: &mut SavedBytes) {
         save_medium(alloc, &self.medium, to);
         self.cylinder.save(to);
         self.place.save(to);

@@ -3,7 +3,7 @@
 // in on a shelf. What comes out as it should is printed.
 use crate::files::{flat_bytes, must_give, replace};
 use crate::guest::{
-    Controller, Reading, dump, end, give_all, read_on, rest, results, send, set_up,
+    Controller, GuestRead, dump, end, give_all, read_on, rest, results, send, set_up,
 };
 use crate::tools::{use_desk, use_shelf};
 use crate::trouble::{Trouble, must};
@@ -92,7 +92,7 @@ fn go_on_alike(
 }
 
 /// Records 17 and 18 of head 0, and then records 1 and 2 of head 1, begin at (17 - 1) * 512.
-fn are_alike(first: &Reading, second: &Reading, flat: &[u8]) -> bool {
+fn are_alike(first: &GuestRead, second: &GuestRead, flat: &[u8]) -> bool {
     let stayed = first.stayed && second.stayed;
     let alike = first.bytes == second.bytes && first.lines == second.lines;
     stayed && alike && flat.get(8_192..10_240) == Some(first.bytes.as_slice())

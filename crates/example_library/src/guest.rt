@@ -99,7 +99,7 @@ pub(crate) fn end(controller: &mut Controller, command: &[u8]) -> Result<[u8; 7]
 
 /// A read that is under way: what the channel took, and what was seen between device steps.
 #[derive(Drop)]
-pub(crate) struct Reading {
+pub(crate) struct GuestRead {
     pub bytes: Vec<u8>,
     /// INT and DRQ, one after the other.
     pub lines: Vec<bool>,
@@ -114,8 +114,8 @@ pub(crate) fn read_on(
     controller: &mut Controller,
     passed: &[u8],
     most: usize,
-) -> Result<Reading, NoMemory> {
-    let mut reading = Reading {
+) -> Result<GuestRead, NoMemory> {
+    let mut reading = GuestRead {
         bytes: Vec::from_slice(alloc, passed)?,
         lines: Vec::new(alloc),
         stayed: true,
@@ -129,7 +129,7 @@ pub(crate) fn read_on(
     Ok(reading)
 }
 
-impl Reading {
+impl GuestRead {
     /// Notes what is seen. Then the channel takes a byte, unless the read has ended or enough bytes have passed.
     fn goes_on(&mut self, controller: &mut Controller, most: usize) -> Result<bool, NoMemory> {
         self.look(controller)?;

@@ -25,17 +25,17 @@ use Rattle.fdc_chip.specs.Paces.{EndsAt, GoesOn, GoesOnIf, Paces, PulsesIf, is_d
 use Rattle.fdc_chip.specs.Quiet.{IsQuietFor, StepsBy, awaits_heads, due_steps, head_steps, is_for_heads, is_settled, is_still_at, quiet_steps, tells_alone, waits_at}
 use Rattle.fdc_chip.specs.Settings.{is_by_port, step_words}
 use Rattle.fdc_chip.specs.Steps.{Follows, HasLinesChip, StepsChip}
-use Rattle.fdc_chip.specs.declared.code.Code.{Code}
+use Rattle.fdc_chip.specs.declared.code.ChipOpcode.{ChipOpcode}
 use Rattle.fdc_chip.specs.declared.order.Order.{Order}
-use Rattle.fdc_chip.specs.declared.pace.Pace.{Pace}
-use Rattle.fdc_chip.specs.declared.stage.Stage.{Stage}
-use Rattle.fdc_chip.specs.declared.stage.Stage.TheVariants.{Ready, Held, Busy, Telling}
+use Rattle.fdc_chip.specs.declared.pace.PacedSeek.{PacedSeek}
+use Rattle.fdc_chip.specs.declared.stage.ChipStage.{ChipStage}
+use Rattle.fdc_chip.specs.declared.stage.ChipStage.TheVariants.{Ready, Held, Busy, Telling}
 use Rattle.fdc_chip.proofs.Giving.{IsTaking, bit_moves, none_moves, ready_taking, seek_given, taking_idle}
 use Rattle.fdc_chip.proofs.Heading.{IsAhead, ahead_down, ahead_drained, bare, bare_ahead, ended_drained, front_goes, none_pending, some_four}
 
 -- ---- the lines
 
-passes_none : (stage : Stage) (order : Order) → waits_at stage order ≡ true → passes_at stage ≡ false
+passes_none : (stage : ChipStage) (order : Order) → waits_at stage order ≡ true → passes_at stage ≡ false
 passes_none Ready order waits = refl
 passes_none Held order waits = refl
 passes_none (Telling answer read) order waits = refl
@@ -54,7 +54,7 @@ pub resting_asks : (chip : ChipState) → passes_at chip.stage ≡ false → ask
 resting_asks chip none =
     ap (λ b. b && asks_outside chip.front) (and_right (chip.gated && not (is_by_port chip.settings)) (passes chip) (no_passes chip none))
 
-shows_none : (stage : Stage) (front : Front) → interrupts_outside front ≡ false → shows_behind stage front ≡ false
+shows_none : (stage : ChipStage) (front : Front) → interrupts_outside front ≡ false → shows_behind stage front ≡ false
 shows_none Ready front down = down
 shows_none Held front down = refl
 shows_none (Busy task) front down = refl
@@ -111,7 +111,7 @@ one_fewer (Some target) cylinder most true is = omega arith
 one_fewer (Some target) cylinder most false is = omega arith
 
 -- a pulse leaves one fewer
-fewer_left : (words : ℕ) (pace : Pace) → pulses_left pace ≤ pulses_left (stepped words pace) + 1
+fewer_left : (words : ℕ) (pace : PacedSeek) → pulses_left pace ≤ pulses_left (stepped words pace) + 1
 fewer_left words pace = one_fewer pace.goal pace.cylinder pace.left (nat_lt pace.cylinder (target_of pace)) refl
 
 over_none : (goal : Option ℕ) (cylinder most : ℕ) → ((cylinder == unwrap_or goal 0) || (is_none goal && (most == 0))) ≡ true → pulses_to goal cylinder most ≡ 0
@@ -153,7 +153,7 @@ record StillMoves (left : ℕ) (old new : ChipState) : Type 0 where
   moves : is_moving new ≡ true
   keeps : KeepsLines old new
 
-some_pace : (pace : Option Pace) (one : Pace) (front : Front) → pace ≡ Some one → (is_some pace || moves_heads front) ≡ true
+some_pace : (pace : Option PacedSeek) (one : PacedSeek) (front : Front) → pace ≡ Some one → (is_some pace || moves_heads front) ≡ true
 some_pace pace one front is = ap (λ p. is_some p || moves_heads front) is
 
 -- the seek with which the inner controller comes to a cylinder
@@ -200,7 +200,7 @@ given_ahead unit pulses start was rests =
     )
 
 -- all but the inner controller and the pulses stays
-rest_keeps : (old new : ChipState) (pace : Option Pace) → new ≡ with_front new.front (record old { pace = pace }) → KeepsLines old new
+rest_keeps : (old new : ChipState) (pace : Option PacedSeek) → new ≡ with_front new.front (record old { pace = pace }) → KeepsLines old new
 rest_keeps old new pace rest = record {
   stage = ap (λ (chip : ChipState). chip.stage) rest;
   order = ap (λ (chip : ChipState). chip.order) rest;
@@ -210,7 +210,7 @@ rest_keeps old new pace rest = record {
 }
 
 -- the command that ends the seek is given
-end_moves : (goal : Option ℕ) (pace : Pace) (start old new : ChipState) → KeepsLines start old → IsAhead old.front → seek_bits old.front.adapter.controller.seeks ≡ 0 → EndsAt goal pace (record old { pace = None }) new → StillMoves 0 start new
+end_moves : (goal : Option ℕ) (pace : PacedSeek) (start old new : ChipState) → KeepsLines start old → IsAhead old.front → seek_bits old.front.adapter.controller.seeks ≡ 0 → EndsAt goal pace (record old { pace = None }) new → StillMoves 0 start new
 end_moves (Some target) pace start old new keeps was rests (sends, rest) =
     let (ahead, moves) = sent_ahead pace.unit target old.front new.front was rests sends in
     record {
@@ -229,7 +229,7 @@ end_moves None pace start old new keeps was rests is =
     })
 
 -- a pulse is given, or the command that ends the seek
-pulses_move : (over : Bool) (left : ℕ) (pace : Pace) (start old new : ChipState) → KeepsLines start old → IsAhead old.front → seek_bits old.front.adapter.controller.seeks ≡ 0 → left + 1 ≤ steps_left (step_words old.settings) pace
+pulses_move : (over : Bool) (left : ℕ) (pace : PacedSeek) (start old new : ChipState) → KeepsLines start old → IsAhead old.front → seek_bits old.front.adapter.controller.seeks ≡ 0 → left + 1 ≤ steps_left (step_words old.settings) pace
     → nat_le pace.wait 1 ≡ true → is_over pace ≡ over → PulsesIf over pace old new → StillMoves left start new
 pulses_move true left pace start old new keeps was rests within due over ends =
     let none = after_last left (pulses_left pace) (step_words old.settings) pace.wait within due (over_none pace.goal pace.cylinder pace.left over) in
@@ -248,7 +248,7 @@ pulses_move false left pace start old new keeps was rests within due over (sends
       keeps = keeps_both start old new keeps kept;
     }
 
-goes_move : (left : ℕ) (pace : Pace) (start old new : ChipState) → KeepsLines start old → IsAhead old.front → left + 1 ≤ steps_left (step_words old.settings) pace → GoesOn pace old new → StillMoves left start new
+goes_move : (left : ℕ) (pace : PacedSeek) (start old new : ChipState) → KeepsLines start old → IsAhead old.front → left + 1 ≤ steps_left (step_words old.settings) pace → GoesOn pace old new → StillMoves left start new
 goes_move left pace start old new keeps was within goes = by_due (is_due pace old) refl goes
   where
     by_due : (due : Bool) → is_due pace old ≡ due → GoesOnIf due pace old new → StillMoves left start new
@@ -265,7 +265,7 @@ goes_move left pace start old new keeps was within goes = by_due (is_due pace ol
     })
 
 -- a device step and what the chip does of the seek
-paced_moves : (left : ℕ) (pace : Option Pace) (old paced : ChipState) (between : Front) → old.pace ≡ pace → OnlyMoves (left + 1) old → StepsFront old.front between → Paces pace (with_front between old) paced → StillMoves left old paced
+paced_moves : (left : ℕ) (pace : Option PacedSeek) (old paced : ChipState) (between : Front) → old.pace ≡ pace → OnlyMoves (left + 1) old → StepsFront old.front between → Paces pace (with_front between old) paced → StillMoves left old paced
 paced_moves left None old paced between is was step same = elim (front_goes old.front between was.ahead step) [
   | inl goes ↦
       let most : left + 1 ≤ steps_ahead old.front.adapter = subst (λ p. left + 1 ≤ head_steps p old) is was.within in
@@ -311,7 +311,7 @@ stays_moving left old new waits still = record {
 }
 
 -- a command that is held stays held
-held_on : (code : Option Code) (paced new : ChipState) → is_for_heads code ≡ true → paced.stage ≡ Held → IsAhead paced.front → is_moving paced ≡ true → AttendsTo code paced new → new ≡ paced
+held_on : (code : Option ChipOpcode) (paced new : ChipState) → is_for_heads code ≡ true → paced.stage ≡ Held → IsAhead paced.front → is_moving paced ≡ true → AttendsTo code paced new → new ≡ paced
 held_on None paced new waits held ahead moves attends = absurd (false≢true waits)
 held_on (Some code) paced new waits held ahead moves attends =
     let same = ahead_drained paced ahead in
@@ -325,7 +325,7 @@ step_moves left old new was step = by_stage old.stage refl step.follows
     still : (paced : ChipState) → Paces old.pace (with_front step.between old) paced → StillMoves left old paced
     still paced paces = paced_moves left old.pace old paced step.between refl was step.steps paces
 
-    by_stage : (stage : Stage) → old.stage ≡ stage → Follows stage (with_front step.between old) new → StaysMoving left old new
+    by_stage : (stage : ChipStage) → old.stage ≡ stage → Follows stage (with_front step.between old) new → StaysMoving left old new
     by_stage Ready at (paced, paces, is) =
         let goes = still paced paces in
         let same : new ≡ paced = is ∙ ap (λ b. if b then drained paced else paced) (ahead_down paced.front goes.ahead) in

@@ -20,10 +20,10 @@ use Rattle.fdc_adapter.specs.Adapters.{AdapterState, StepsAdapter, selected_at}
 use Rattle.fdc_adapter.specs.Still.{heads_at, steps_ahead}
 use Rattle.fdc_sequencer.specs.Fronts.{Front, interrupts_at, interrupts_outside}
 use Rattle.fdc_sequencer.specs.Moves.{FollowsStep, StepsFront}
-use Rattle.fdc_sequencer.specs.declared.stage.Stage.TheVariants.{Through}
+use Rattle.fdc_sequencer.specs.declared.stage.FrontStage.TheVariants.{Through}
 use Rattle.fdc_chip.specs.Chips.{ChipState}
 use Rattle.fdc_chip.specs.Doing.{drained, drained_by, drained_one, is_told, moves_heads}
-use Rattle.fdc_chip.specs.declared.pace.Pace.{Pace}
+use Rattle.fdc_chip.specs.declared.pace.PacedSeek.{PacedSeek}
 use Rattle.fdc_chip.proofs.Giving.{IsTaking, bit_moves}
 
 -- ---- what is known
@@ -52,7 +52,7 @@ pub record HasEnded (front : Front) : Type 0 where
   pub cylinders : List ℕ
   pub seeks : front.adapter.controller.seeks
       ≡ record { cylinders = cylinders; seek = Some (record { drive = drive; motion = Ended }); pending = slice_set none_pending drive (Some status) }
-  pub untold : (pace : Pace) → is_told (Some pace) status ≡ false
+  pub untold : (pace : PacedSeek) → is_told (Some pace) status ≡ false
 
 -- ---- results that are taken over
 
@@ -119,7 +119,7 @@ untold_drained drive status cylinders up chip few free untold =
     ap (λ c. drained_one (drained_one (drained_one c))) (untold_one drive status cylinders up chip few free untold) ∙ (ap (λ c. drained_one (drained_one c)) same ∙ (ap drained_one same ∙ same))
 
 -- the result of a single pulse is taken over, and isn't reported
-pub ended_drained : (pace : Pace) (chip : ChipState) (over : HasEnded chip.front) → chip.pace ≡ Some pace → drained chip ≡ bare over.cylinders None false chip
+pub ended_drained : (pace : PacedSeek) (chip : ChipState) (over : HasEnded chip.front) → chip.pace ≡ Some pace → drained chip ≡ bare over.cylinders None false chip
 ended_drained pace chip over paced =
     let fdc = chip.front.adapter.controller in
     let same : chip ≡ ending over.drive over.status over.cylinders fdc.interrupt chip =
@@ -145,7 +145,7 @@ some_four seek few = λ one of. subst (λ n. n < 4) (ap (λ (s : Option DriveSee
 
 -- ---- ---- the motion in a device step
 
-status_untold : (drive : ℕ) (track0 : Bool) (pace : Pace) → drive < 4 → is_told (Some pace) (recalibrated drive track0) ≡ false
+status_untold : (drive : ℕ) (track0 : Bool) (pace : PacedSeek) → drive < 4 → is_told (Some pace) (recalibrated drive track0) ≡ false
 status_untold zero true pace few = refl
 status_untold zero false pace few = refl
 status_untold (suc zero) true pace few = refl
@@ -161,7 +161,7 @@ status_untold (suc (suc (suc (suc drive)))) track0 pace few = absurd (omega arit
 data Moved (here next : ℕ) (old new : Seeking) : Type 0 where
   unmoved : new ≡ old → pulses_ahead here old ≡ 0 → Moved here next old new
   pulsed : (drive : ℕ) (on : Motion) → drive < 4 → has_ended on ≡ false → new ≡ with_motion old drive on → pulses_ahead here old ≤ pulses_from next on + 1 → Moved here next old new
-  arrived : (drive cylinder status : ℕ) → drive < 4 → pulses_ahead here old ≡ 0 → new ≡ ended old drive cylinder status → ((pace : Pace) → is_told (Some pace) status ≡ false) → Moved here next old new
+  arrived : (drive cylinder status : ℕ) → drive < 4 → pulses_ahead here old ≡ 0 → new ≡ ended old drive cylinder status → ((pace : PacedSeek) → is_told (Some pace) status ≡ false) → Moved here next old new
 
 -- a RECALIBRATE brings the heads no more than one cylinder outward
 abbrev IsNear : ℕ → ℕ → Seeking → Type 0

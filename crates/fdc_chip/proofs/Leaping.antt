@@ -4,13 +4,13 @@ use Rattle.std.specs.Prelude.{◌==◌, bit_and}
 use Rattle.fdc_sequencer.specs.Fronts.{Front, interrupts_at, interrupts_outside, value_outside}
 use Rattle.fdc_sequencer.specs.Moves.{LeapsFront, MovesAlong, StepsFront}
 use Rattle.fdc_sequencer.specs.declared.stage.Moving.{Moving as MovingSector}
-use Rattle.fdc_sequencer.specs.declared.stage.Stage.TheVariants.{Moving}
+use Rattle.fdc_sequencer.specs.declared.stage.FrontStage.TheVariants.{Moving}
 use Rattle.fdc_chip.specs.Chips.{ChipState, with_front, interrupts_chip, asks_chip}
 use Rattle.fdc_chip.specs.Ending.{EndsIf, has_results}
 use Rattle.fdc_chip.specs.Steps.{Follows, HasLinesChip, RunsChipWith, StepsChip}
-use Rattle.fdc_chip.specs.declared.stage.Stage.{Stage}
-use Rattle.fdc_chip.specs.declared.stage.Stage.TheVariants.{Busy}
-use Rattle.fdc_chip.specs.declared.stage.Task.TheVariants.{Sent}
+use Rattle.fdc_chip.specs.declared.stage.ChipStage.{ChipStage}
+use Rattle.fdc_chip.specs.declared.stage.ChipStage.TheVariants.{Busy}
+use Rattle.fdc_chip.specs.declared.stage.ChipTask.TheVariants.{Sent}
 use Rattle.fdc_chip.proofs.Quieting.{same_lines}
 use Rattle.fdc_chip.proofs.Runs.{runs_one, runs_plus}
 
@@ -29,7 +29,7 @@ sent_step chip front at step along =
     record {
       between = front;
       steps = step;
-      follows = subst (λ (stage : Stage). Follows stage new new) (sym at)
+      follows = subst (λ (stage : ChipStage). Follows stage new new) (sym at)
           (subst (λ (ends : Bool). EndsIf ends Sent new new) (sym (moving_waits along.moving front along.is)) refl);
     }
 

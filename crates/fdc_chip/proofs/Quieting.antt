@@ -12,20 +12,20 @@ use Rattle.fdc_chip.specs.Paces.{EndsAt, GoesOnIf, Paces, PulsesIf, is_due, is_o
 use Rattle.fdc_chip.specs.Quiet.{IsQuietFor, IsSettled, IsStill, StepsBy, is_settled, rests_at, tells_alone}
 use Rattle.fdc_chip.specs.Settings.{step_words}
 use Rattle.fdc_chip.specs.Steps.{Follows, HasLinesChip, RunsChipWith, StepsChip}
-use Rattle.fdc_chip.specs.declared.pace.Pace.{Pace}
-use Rattle.fdc_chip.specs.declared.stage.Stage.{Stage}
-use Rattle.fdc_chip.specs.declared.stage.Stage.TheVariants.{Ready, Held, Busy, Telling}
+use Rattle.fdc_chip.specs.declared.pace.PacedSeek.{PacedSeek}
+use Rattle.fdc_chip.specs.declared.stage.ChipStage.{ChipStage}
+use Rattle.fdc_chip.specs.declared.stage.ChipStage.TheVariants.{Ready, Held, Busy, Telling}
 use Rattle.fdc_chip.proofs.Dues.{resting_asks, resting_interrupts}
 
 -- ---- what is done after a step
 
 -- if no pulses are to come, nothing is done for them
-paced_none : (pace : Option Pace) (old new : ChipState) → pace ≡ None → Paces pace old new → new ≡ old
+paced_none : (pace : Option PacedSeek) (old new : ChipState) → pace ≡ None → Paces pace old new → new ≡ old
 paced_none None old new unpaced paces = paces
 paced_none (Some pace) old new unpaced paces = absurd (true≢false (ap is_some unpaced))
 
 -- nothing is done after the step, if there is no result to be taken over
-follows_none : (stage : Stage) (old new : ChipState) → rests_at stage ≡ true → old.pace ≡ None → interrupts_outside old.front ≡ false → Follows stage old new → new ≡ old
+follows_none : (stage : ChipStage) (old new : ChipState) → rests_at stage ≡ true → old.pace ≡ None → interrupts_outside old.front ≡ false → Follows stage old new → new ≡ old
 follows_none Ready old new rests unpaced down (paced, paces, is) =
     is ∙ (ap (λ (c : ChipState). if interrupts_outside c.front then drained c else c) (paced_none old.pace old paced unpaced paces)
     ∙ ap (λ b. if b then drained old else old) down)
@@ -34,9 +34,9 @@ follows_none Held old new rests unpaced down follows = absurd (true≢false (sym
 follows_none (Busy task) old new rests unpaced down follows = absurd (true≢false (sym rests))
 
 paces_still : (chip : ChipState) → chip.pace ≡ None → Paces chip.pace chip chip
-paces_still chip unpaced = subst (λ (pace : Option Pace). Paces pace chip chip) (sym unpaced) refl
+paces_still chip unpaced = subst (λ (pace : Option PacedSeek). Paces pace chip chip) (sym unpaced) refl
 
-follows_still : (stage : Stage) (chip : ChipState) → rests_at stage ≡ true → chip.pace ≡ None → interrupts_outside chip.front ≡ false → Follows stage chip chip
+follows_still : (stage : ChipStage) (chip : ChipState) → rests_at stage ≡ true → chip.pace ≡ None → interrupts_outside chip.front ≡ false → Follows stage chip chip
 follows_still Ready chip rests unpaced down = (chip, paces_still chip unpaced, sym (ap (λ b. if b then drained chip else chip) down))
 follows_still (Telling answer read) chip rests unpaced down = paces_still chip unpaced
 follows_still Held chip rests unpaced down = absurd (true≢false (sym rests))
@@ -48,7 +48,7 @@ follows_still (Busy task) chip rests unpaced down = absurd (true≢false (sym re
 abbrev interrupts_by : ChipState → Bool → Bool → Bool
 interrupts_by chip asks shows = chip.gated && (if passes_by_port chip then asks else (chip.interrupts.line || shows))
 
-same_shows : (stage : Stage) (one other : Front) → interrupts_outside one ≡ interrupts_outside other → shows_behind stage one ≡ shows_behind stage other
+same_shows : (stage : ChipStage) (one other : Front) → interrupts_outside one ≡ interrupts_outside other → shows_behind stage one ≡ shows_behind stage other
 same_shows Ready one other same = same
 same_shows Held one other same = refl
 same_shows (Busy task) one other same = refl
@@ -176,28 +176,28 @@ shown_alike true old = drained_alike 4 old
 shown_alike false old = alike_itself old
 
 -- pulses that come in the time that SPECIFY sets
-sent_alike : (old new : ChipState) (pace : Option Pace) → new ≡ with_front new.front (record old { pace = pace }) → IsAlike old new
+sent_alike : (old new : ChipState) (pace : Option PacedSeek) → new ≡ with_front new.front (record old { pace = pace }) → IsAlike old new
 sent_alike old new pace rest = alike_as old (with_front new.front (record old { pace = pace })) new (record { stage = refl; gate = refl; up = λ was. was }) rest
 
-ends_alike : (goal : Option ℕ) (pace : Pace) (old new : ChipState) → EndsAt goal pace (record old { pace = None }) new → IsAlike old new
+ends_alike : (goal : Option ℕ) (pace : PacedSeek) (old new : ChipState) → EndsAt goal pace (record old { pace = None }) new → IsAlike old new
 ends_alike (Some target) pace old new (sends, rest) = sent_alike old new None rest
 ends_alike None pace old new is =
     alike_as old (with_front (recalibrated_outside pace.unit pace.left old.front) (record old { pace = None })) new (record { stage = refl; gate = refl; up = λ was. was }) is
 
-pulses_alike : (over : Bool) (pace : Pace) (old new : ChipState) → PulsesIf over pace old new → IsAlike old new
+pulses_alike : (over : Bool) (pace : PacedSeek) (old new : ChipState) → PulsesIf over pace old new → IsAlike old new
 pulses_alike true pace old new ends = ends_alike pace.goal pace old new ends
 pulses_alike false pace old new (sends, rest) = sent_alike old new (Some (stepped (step_words old.settings) pace)) rest
 
-goes_alike : (due : Bool) (pace : Pace) (old new : ChipState) → GoesOnIf due pace old new → IsAlike old new
+goes_alike : (due : Bool) (pace : PacedSeek) (old new : ChipState) → GoesOnIf due pace old new → IsAlike old new
 goes_alike true pace old new pulses = pulses_alike (is_over pace) pace old new pulses
 goes_alike false pace old new is =
     alike_as old (record old { pace = Some (record pace { wait = pace.wait - 1 }) }) new (record { stage = refl; gate = refl; up = λ was. was }) is
 
-paces_alike : (pace : Option Pace) (old new : ChipState) → Paces pace old new → IsAlike old new
+paces_alike : (pace : Option PacedSeek) (old new : ChipState) → Paces pace old new → IsAlike old new
 paces_alike None old new is = alike_as old old new (alike_itself old) is
 paces_alike (Some pace) old new goes = alike_both old (drained old) new (drained_alike 4 old) (goes_alike (is_due pace (drained old)) pace (drained old) new goes)
 
-follows_alike : (stage : Stage) (old new : ChipState) → rests_at stage ≡ true → Follows stage old new → IsAlike old new
+follows_alike : (stage : ChipStage) (old new : ChipState) → rests_at stage ≡ true → Follows stage old new → IsAlike old new
 follows_alike Ready old new rests (paced, paces, is) =
     alike_both old paced new (paces_alike old.pace old paced paces) (alike_as paced _ new (shown_alike (interrupts_outside paced.front) paced) is)
 follows_alike (Telling answer read) old new rests paces = paces_alike old.pace old new paces
@@ -217,7 +217,7 @@ settled_on first old new (settled, gate) step =
     let now : IsAlike old new = record { stage = alike.stage; gate = alike.gate; up = alike.up } in
     (settled_alike old new settled now, alike.gate ∙ gate)
 
-rests_none : (stage : Stage) → rests_at stage ≡ true → passes_at stage ≡ false
+rests_none : (stage : ChipStage) → rests_at stage ≡ true → passes_at stage ≡ false
 rests_none Ready rests = refl
 rests_none (Telling answer read) rests = refl
 rests_none Held rests = absurd (true≢false (sym rests))
@@ -256,7 +256,7 @@ settled_quiet most chip settled n new within steps =
 
 -- ---- the host reads an answer, and no pulses are to come
 
-tells_stage : (stage : Stage) (pace : Option Pace) → tells_alone stage pace ≡ true → (passes_at stage ≡ false) × (pace ≡ None)
+tells_stage : (stage : ChipStage) (pace : Option PacedSeek) → tells_alone stage pace ≡ true → (passes_at stage ≡ false) × (pace ≡ None)
 tells_stage (Telling answer read) None tells = (refl, refl)
 tells_stage (Telling answer read) (Some pace) tells = absurd (true≢false (sym tells))
 tells_stage Ready pace tells = absurd (true≢false (sym tells))
@@ -264,7 +264,7 @@ tells_stage Held pace tells = absurd (true≢false (sym tells))
 tells_stage (Busy task) pace tells = absurd (true≢false (sym tells))
 
 -- a device step changes nothing but the inner controller
-tells_same : (stage : Stage) (pace : Option Pace) (old new : ChipState) → tells_alone stage pace ≡ true → old.pace ≡ pace → Follows stage old new → new ≡ old
+tells_same : (stage : ChipStage) (pace : Option PacedSeek) (old new : ChipState) → tells_alone stage pace ≡ true → old.pace ≡ pace → Follows stage old new → new ≡ old
 tells_same (Telling answer read) None old new tells unpaced paces = paced_none old.pace old new unpaced paces
 tells_same (Telling answer read) (Some pace) old new tells unpaced paces = absurd (true≢false (sym tells))
 tells_same Ready pace old new tells unpaced follows = absurd (true≢false (sym tells))
@@ -278,7 +278,7 @@ tells_on first old new tells was step =
     let is = tells_same first.stage first.pace (with_front step.between old) new tells pace (subst (λ s. Follows s (with_front step.between old) new) stage step.follows) in
     is ∙ (ap (λ (c : ChipState). with_front step.between c) was ∙ ap (λ (c : ChipState). with_front c.front first) (sym is))
 
-telling_shows : (stage : Stage) (pace : Option Pace) (one other : Front) → tells_alone stage pace ≡ true → shows_behind stage one ≡ shows_behind stage other
+telling_shows : (stage : ChipStage) (pace : Option PacedSeek) (one other : Front) → tells_alone stage pace ≡ true → shows_behind stage one ≡ shows_behind stage other
 telling_shows (Telling answer read) pace one other tells = refl
 telling_shows Ready pace one other tells = absurd (true≢false (sym tells))
 telling_shows Held pace one other tells = absurd (true≢false (sym tells))

@@ -7,9 +7,9 @@ use Rattle.fdc_chip.specs.Chips.{ChipState, with_front, interrupts_chip, asks_ch
 use Rattle.fdc_chip.specs.Doing.{drained}
 use Rattle.fdc_chip.specs.Settings.{is_by_port}
 use Rattle.fdc_chip.specs.Steps.{HasLinesChip, StepsChip, Follows, RunsChipWith}
-use Rattle.fdc_chip.specs.declared.pace.Pace.{Pace}
-use Rattle.fdc_chip.specs.declared.stage.Stage.{Stage}
-use Rattle.fdc_chip.specs.declared.stage.Stage.TheVariants.{Ready}
+use Rattle.fdc_chip.specs.declared.pace.PacedSeek.{PacedSeek}
+use Rattle.fdc_chip.specs.declared.stage.ChipStage.{ChipStage}
+use Rattle.fdc_chip.specs.declared.stage.ChipStage.TheVariants.{Ready}
 
 pub runs_none : (int drq : Bool) (chip : ChipState) → RunsChipWith int drq 0 chip chip
 unfolding RunsChipWith
@@ -118,11 +118,11 @@ pub ready_runs : (most made : ℕ) (old : ChipState) (front : Front) (new : Chip
     → interrupts_outside old.front ≡ false → RunsFront most old.front made front → Follows old.stage (with_front front old) new
     → RunsChipWith (interrupts_chip old) (asks_chip old) made old new
 ready_runs most made old front new some is stands down quiet runs follows =
-    let at : Stage → Option Pace → ChipState = λ stage pace. record old { stage = stage; pace = pace } in
+    let at : ChipStage → Option PacedSeek → ChipState = λ stage pace. record old { stage = stage; pace = pace } in
     let begins = subst (λ (int : Bool). RunsFrontWith int (asks_outside old.front) made old.front front) quiet runs.runs in
-    subst (λ (stage : Stage). Follows stage (with_front front (at stage old.pace)) new → RunsChipWith (interrupts_chip (at stage old.pace)) (asks_chip (at stage old.pace)) made (at stage old.pace) new)
+    subst (λ (stage : ChipStage). Follows stage (with_front front (at stage old.pace)) new → RunsChipWith (interrupts_chip (at stage old.pace)) (asks_chip (at stage old.pace)) made (at stage old.pace) new)
     (sym is)
-    (subst (λ (pace : Option Pace). Follows Ready (with_front front (at Ready pace)) new → RunsChipWith (interrupts_chip (at Ready pace)) (asks_chip (at Ready pace)) made (at Ready pace) new)
+    (subst (λ (pace : Option PacedSeek). Follows Ready (with_front front (at Ready pace)) new → RunsChipWith (interrupts_chip (at Ready pace)) (asks_chip (at Ready pace)) made (at Ready pace) new)
     (sym stands)
     (λ follows. idle_runs_to old (asks_outside old.front) made old.front front new down quiet (ready_some most made old.front front some runs) begins follows))
     follows

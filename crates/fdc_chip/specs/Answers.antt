@@ -2,8 +2,8 @@
 use Rattle.std.specs.Prelude.{ℕ, Bool, true, false, List, [], ◌∷◌, if◌then◌else◌, bit_and}
 use Rattle.std.specs.Int.RustNames.{bit_or}
 use Rattle.fdc_commands.specs.Results.{result_bytes}
-use Rattle.fdc_chip.specs.declared.answer.Answer.{Answer}
-use Rattle.fdc_chip.specs.declared.answer.Answer.TheVariants as answer
+use Rattle.fdc_chip.specs.declared.answer.ChipAnswer.{ChipAnswer}
+use Rattle.fdc_chip.specs.declared.answer.ChipAnswer.TheVariants as answer
 use Rattle.fdc_chip.specs.declared.answer.Registers.{Registers}
 
 -- DUMPREG: the present cylinder numbers; SRT and HUT; HLT and ND; SC or EOT; LOCK, which drives are perpendicular, GAP
@@ -15,13 +15,13 @@ register_bytes registers = let settings = registers.settings in
     ∷ bit_or (if settings.locked then 0x80 else 0) settings.perpendicular
     ∷ bit_and settings.options 0x7F ∷ settings.precompensation ∷ []
 
-abbrev pub answer_bytes : Answer → List ℕ
+abbrev pub answer_bytes : ChipAnswer → List ℕ
 answer_bytes (answer.Byte byte) = byte ∷ []
 answer_bytes (answer.Sensed status cylinder) = status ∷ cylinder ∷ []
 answer_bytes (answer.Results results) = result_bytes results
 answer_bytes (answer.Registers registers) = register_bytes registers
 
 -- whether it is the answer of a data command
-abbrev pub is_of_data : Answer → Bool
+abbrev pub is_of_data : ChipAnswer → Bool
 is_of_data (answer.Results _) = true
 is_of_data _ = false

@@ -15,14 +15,14 @@ use Rattle.fdc_chip.specs.Orders.{blank, is_format}
 use Rattle.fdc_chip.specs.Settings.{at_power_up, is_by_port}
 use Rattle.fdc_chip.specs.declared.chip.Chip.{Chip}
 use Rattle.fdc_chip.specs.declared.order.Order.{Order}
-use Rattle.fdc_chip.specs.declared.pace.Pace.{Pace}
+use Rattle.fdc_chip.specs.declared.pace.PacedSeek.{PacedSeek}
 use Rattle.fdc_chip.specs.declared.settings.Settings.{Settings}
 use Rattle.fdc_chip.specs.declared.stage.Place.{Place}
 use Rattle.fdc_chip.specs.declared.stage.Place.TheVariants.{Data}
-use Rattle.fdc_chip.specs.declared.stage.Stage.{Stage}
-use Rattle.fdc_chip.specs.declared.stage.Stage.TheVariants.{Ready, Held, Busy, Telling}
-use Rattle.fdc_chip.specs.declared.stage.Task.{Task}
-use Rattle.fdc_chip.specs.declared.stage.Task.TheVariants.{Sent, Track}
+use Rattle.fdc_chip.specs.declared.stage.ChipStage.{ChipStage}
+use Rattle.fdc_chip.specs.declared.stage.ChipStage.TheVariants.{Ready, Held, Busy, Telling}
+use Rattle.fdc_chip.specs.declared.stage.ChipTask.{ChipTask}
+use Rattle.fdc_chip.specs.declared.stage.ChipTask.TheVariants.{Sent, Track}
 
 -- the inner controller (`front`), what is under way, the command that came last, and how many bytes came of a command
 -- that isn't whole. Then come results and interrupt line, what commands set, and the strap for implied seeks. The other
@@ -30,7 +30,7 @@ use Rattle.fdc_chip.specs.declared.stage.Task.TheVariants.{Sent, Track}
 -- seek whose pulses come in the time that SPECIFY sets, and the strap for such seeks. The last one is what TDR keeps
 pub record ChipState : Type 0 where
   pub front : Front
-  pub stage : Stage
+  pub stage : ChipStage
   pub order : Order
   pub count : ℕ
   pub interrupts : Interrupting
@@ -38,7 +38,7 @@ pub record ChipState : Type 0 where
   pub strapped : Bool
   pub keys : ℕ
   pub gated : Bool
-  pub pace : Option Pace
+  pub pace : Option PacedSeek
   pub paced : Bool
   pub tape : ℕ
 
@@ -101,12 +101,12 @@ is_data Data = true
 is_data _ = false
 
 -- whether the host takes or gives the bytes of what the inner controller executes
-abbrev pub passes_bytes : Task → Bool
+abbrev pub passes_bytes : ChipTask → Bool
 passes_bytes Sent = true
 passes_bytes (Track track) = is_data track.place
 passes_bytes _ = false
 
-abbrev pub passes_at : Stage → Bool
+abbrev pub passes_at : ChipStage → Bool
 passes_at (Busy task) = passes_bytes task
 passes_at _ = false
 
@@ -122,7 +122,7 @@ abbrev pub passes_by_channel : ChipState → Bool
 passes_by_channel chip = (chip.gated && not (is_by_port chip.settings)) && passes chip
 
 -- INT of the inner controller shows while nothing is under way
-abbrev pub shows_behind : Stage → Front → Bool
+abbrev pub shows_behind : ChipStage → Front → Bool
 shows_behind Ready front = interrupts_outside front
 shows_behind _ front = false
 
@@ -168,7 +168,7 @@ abbrev pub execution_bits : Bool → Bool → Bool → ℕ
 execution_bits true asked to_memory = bit_or (bit_or busy non_dma) (port_bits asked to_memory)
 execution_bits false asked to_memory = busy
 
-abbrev pub stage_bits : Stage → ChipState → ℕ
+abbrev pub stage_bits : ChipStage → ChipState → ℕ
 stage_bits Ready chip = bit_or (value_outside 0x3F4 chip.front) (if chip.count == 0 then 0 else busy)
 stage_bits Held chip = bit_or (bit_and (value_outside 0x3F4 chip.front) 0x0F) busy
 stage_bits (Busy task) chip = bit_or (bit_and (value_outside 0x3F4 chip.front) 0x0F)
@@ -176,7 +176,7 @@ stage_bits (Busy task) chip = bit_or (bit_and (value_outside 0x3F4 chip.front) 0
 stage_bits (Telling answer read) chip = bit_or (bit_and (value_outside 0x3F4 chip.front) 0x0F) (bit_or (bit_or rqm dio) busy)
 
 -- the seek bit of a drive whose pulses come in the time that SPECIFY sets
-abbrev pub pace_bit : Option Pace → ℕ
+abbrev pub pace_bit : Option PacedSeek → ℕ
 pace_bit None = 0
 pace_bit (Some pace) = drive_bit pace.unit
 

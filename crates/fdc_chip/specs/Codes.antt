@@ -1,7 +1,7 @@
 -- The codes of the commands (82077AA data sheet, command set).
 use Rattle.std.specs.Prelude.{ℕ, Bool, true, false, not, ◌==◌, ◌&&◌, ◌||◌, Option, Some, None, if◌then◌else◌, bit_and}
-use Rattle.fdc_chip.specs.declared.code.Code.{Code}
-use Rattle.fdc_chip.specs.declared.code.Code.TheVariants.{ReadTrack, Specify, SenseDrive, Transfer, Recalibrate, SenseInterrupt, ReadId, FormatTrack, DumpRegisters, Seek, RelativeSeek, Version, Perpendicular, Configure, Lock, Verify}
+use Rattle.fdc_chip.specs.declared.code.ChipOpcode.{ChipOpcode}
+use Rattle.fdc_chip.specs.declared.code.ChipOpcode.TheVariants.{ReadTrack, Specify, SenseDrive, Transfer, Recalibrate, SenseInterrupt, ReadId, FormatTrack, DumpRegisters, Seek, RelativeSeek, Version, Perpendicular, Configure, Lock, Verify}
 
 abbrev pub has_bit : ℕ → ℕ → Bool
 has_bit byte bit = not (bit_and byte bit == 0)
@@ -21,7 +21,7 @@ abbrev pub is_bare : ℕ → Bool
 is_bare byte = not (has_multitrack byte) && not (has_skip byte)
 
 -- the command whose code has these low five bits, by the bits above them. READ ID is taken with any MT and SK
-abbrev pub code_with : ℕ → ℕ → Option Code
+abbrev pub code_with : ℕ → ℕ → Option ChipOpcode
 code_with low byte =
     if low == 0x02 then (if is_bare byte then Some (ReadTrack (has_mfm byte)) else None) else (
     if low == 0x03 then (if byte == 0x03 then Some Specify else None) else (
@@ -44,11 +44,11 @@ code_with low byte =
     if low == 0x16 then Some (Verify (has_mfm byte)) else
     None)))))))))))))))))
 
-abbrev pub code_of : ℕ → Option Code
+abbrev pub code_of : ℕ → Option ChipOpcode
 code_of byte = code_with (bit_and byte 0x1F) byte
 
 -- how many bytes follow the code of a command
-abbrev pub parameters : Code → ℕ
+abbrev pub parameters : ChipOpcode → ℕ
 parameters SenseInterrupt = 0
 parameters DumpRegisters = 0
 parameters Version = 0

@@ -11,16 +11,16 @@ use Rattle.fdc_chip.specs.Codes.{has_bit}
 use Rattle.fdc_chip.specs.Interrupts.{with_result, without_results_of, sensed, after_sense, cylinder_of, with_cylinder}
 use Rattle.fdc_chip.specs.Orders.{order_bytes}
 use Rattle.fdc_chip.specs.Settings.{implies_seeks, perpendicular_set}
-use Rattle.fdc_chip.specs.declared.answer.Answer.{Answer}
-use Rattle.fdc_chip.specs.declared.answer.Answer.TheVariants as answer
-use Rattle.fdc_chip.specs.declared.code.Code.{Code}
-use Rattle.fdc_chip.specs.declared.code.Code.TheVariants.{ReadTrack, Specify, SenseDrive, Transfer, Recalibrate, SenseInterrupt, ReadId, FormatTrack, DumpRegisters, Seek, RelativeSeek, Version, Perpendicular, Configure, Lock, Verify}
+use Rattle.fdc_chip.specs.declared.answer.ChipAnswer.{ChipAnswer}
+use Rattle.fdc_chip.specs.declared.answer.ChipAnswer.TheVariants as answer
+use Rattle.fdc_chip.specs.declared.code.ChipOpcode.{ChipOpcode}
+use Rattle.fdc_chip.specs.declared.code.ChipOpcode.TheVariants.{ReadTrack, Specify, SenseDrive, Transfer, Recalibrate, SenseInterrupt, ReadId, FormatTrack, DumpRegisters, Seek, RelativeSeek, Version, Perpendicular, Configure, Lock, Verify}
 use Rattle.fdc_chip.specs.declared.order.Order.{Order}
-use Rattle.fdc_chip.specs.declared.pace.Pace.{Pace}
+use Rattle.fdc_chip.specs.declared.pace.PacedSeek.{PacedSeek}
 use Rattle.fdc_chip.specs.declared.stage.Place.TheVariants.{Index}
-use Rattle.fdc_chip.specs.declared.stage.Stage.TheVariants.{Ready, Held, Busy, Telling}
-use Rattle.fdc_chip.specs.declared.stage.Task.{Task}
-use Rattle.fdc_chip.specs.declared.stage.Task.TheVariants as task
+use Rattle.fdc_chip.specs.declared.stage.ChipStage.TheVariants.{Ready, Held, Busy, Telling}
+use Rattle.fdc_chip.specs.declared.stage.ChipTask.{ChipTask}
+use Rattle.fdc_chip.specs.declared.stage.ChipTask.TheVariants as task
 use Rattle.fdc_chip.specs.declared.stage.Track.{Track}
 
 -- ---- the inner controller
@@ -36,7 +36,7 @@ SendsOn bytes old new = Sends bytes old.front new.front × KeepsRest old new
 
 -- whether a result is reported to the host. While pulses come in the time that SPECIFY sets, the result of the poll is
 -- reported, and the result of a single pulse isn't
-abbrev pub is_told : Option Pace → ℕ → Bool
+abbrev pub is_told : Option PacedSeek → ℕ → Bool
 is_told pace status = (bit_and status seek_end == 0) || is_none pace
 
 -- the chip takes over a pending result of a seek or poll from the inner controller. If the result is to be reported,
@@ -69,7 +69,7 @@ is_moving chip = is_some chip.pace || moves_heads chip.front
 -- ---- answers
 
 -- the host reads this answer
-abbrev pub told : Answer → ChipState → ChipState
+abbrev pub told : ChipAnswer → ChipState → ChipState
 told answer old = record old { stage = Telling answer 0 }
 
 abbrev pub told_byte : ℕ → ChipState → ChipState
@@ -80,7 +80,7 @@ abbrev pub ready : ChipState → ChipState
 ready old = record old { stage = Ready }
 
 -- SENSE INTERRUPT gives the result of the lowest drive that has one, or 80 if none is pending
-abbrev pub answer_sensed : Option (ℕ × ℕ) → Answer
+abbrev pub answer_sensed : Option (ℕ × ℕ) → ChipAnswer
 answer_sensed None = answer.Byte 0x80
 answer_sensed (Some (status, cylinder)) = answer.Sensed status cylinder
 
@@ -139,7 +139,7 @@ moving unit (Some target) = 0x0F ∷ unit ∷ target ∷ []
 
 -- a seek begins at the cylinder number that the controller counts. The first pulse comes at once, and a RECALIBRATE
 -- gives at most 79
-abbrev pub pace_begun : ℕ → ℕ → Option ℕ → Pace
+abbrev pub pace_begun : ℕ → ℕ → Option ℕ → PacedSeek
 pace_begun unit cylinder goal = record { unit = unit; cylinder = cylinder; goal = goal; left = 79; wait = 0 }
 
 -- the pulses of the seek come in the time that SPECIFY sets, or the inner controller is given the seek
@@ -167,7 +167,7 @@ sought_if true old = record old { interrupts = with_cylinder old.order.unit old.
 sought_if false old = old
 
 -- a command of this task begins: INT falls, and the pending result of its drive is dropped
-abbrev pub begun : Task → ChipState → ChipState
+abbrev pub begun : ChipTask → ChipState → ChipState
 begun task old = record old {
   stage = Busy task;
   interrupts = without_results_of old.order.unit old.interrupts;
@@ -187,7 +187,7 @@ abbrev pub implying : Bool → ChipState → ChipState
 implying seeks old = with_front (with_seeks seeks old.front) old
 
 -- a command of this task begins, and the inner controller is given these bytes. A seek is implied for it, or none is
-pub record Begins (task : Task) (seeks : Bool) (bytes : List ℕ) (old new : ChipState) : Type 0 where
+pub record Begins (task : ChipTask) (seeks : Bool) (bytes : List ℕ) (old new : ChipState) : Type 0 where
   pub set : ChipState
   pub remembers : Remembers (begun task old) set
   pub sends : SendsOn bytes (implying seeks set) new
@@ -230,11 +230,11 @@ Formats mfm old new =
     FormatsIf (mfm && is_size old.order.key.c) mfm (with_keys old.order.key.h (with_last old.order.key.h old)) new
 
 -- a command of sectors, which this medium can have or can't
-abbrev pub TransfersIf : Bool → Bool → Task → List ℕ → ChipState → ChipState → Type 0
+abbrev pub TransfersIf : Bool → Bool → ChipTask → List ℕ → ChipState → ChipState → Type 0
 TransfersIf true mfm what bytes old new = Begins what (implies old) bytes (sought_if (implies old) old) new
 TransfersIf false mfm what bytes old new = Refuses old.order.key mfm old new
 
-abbrev pub Transfers : Bool → Task → List ℕ → ChipState → ChipState → Type 0
+abbrev pub Transfers : Bool → ChipTask → List ℕ → ChipState → ChipState → Type 0
 Transfers mfm what bytes old new =
     TransfersIf (mfm && is_size old.order.key.n) mfm what bytes (with_last old.order.last_sector old) new
 
@@ -294,7 +294,7 @@ ReadsTrack mfm old new = let order = old.order in
 
 -- ---- all commands
 
-abbrev pub Obeys : Code → ChipState → ChipState → Type 0
+abbrev pub Obeys : ChipOpcode → ChipState → ChipState → Type 0
 Obeys Specify old new = new ≡ specified old
 Obeys SenseDrive old new = Asks (0x04 ∷ old.order.unit ∷ []) old new
 Obeys SenseInterrupt old new = new ≡ sensing old
@@ -314,7 +314,7 @@ Obeys (Verify mfm) old new = Verifies mfm old new
 Obeys (ReadTrack mfm) old new = ReadsTrack mfm old new
 
 -- whether the command needs the inner controller. If it doesn't, it is done at once, even while heads move
-abbrev pub needs_heads : Code → Bool
+abbrev pub needs_heads : ChipOpcode → Bool
 needs_heads Specify = false
 needs_heads SenseInterrupt = false
 needs_heads Version = false
@@ -323,15 +323,15 @@ needs_heads DumpRegisters = false
 needs_heads (Lock _) = false
 needs_heads _ = true
 
-abbrev pub AttendsIf : Bool → Code → ChipState → ChipState → Type 0
+abbrev pub AttendsIf : Bool → ChipOpcode → ChipState → ChipState → Type 0
 AttendsIf true code old new = new ≡ record old { stage = Held }
 AttendsIf false code old new = Obeys code old new
 
 -- a whole command is done, or is held while heads move
-abbrev pub Attends : Code → ChipState → ChipState → Type 0
+abbrev pub Attends : ChipOpcode → ChipState → ChipState → Type 0
 Attends code old new = AttendsIf (needs_heads code && is_moving (drained old)) code (drained old) new
 
 -- a whole command is done by its code. If there is no such code, the answer is 80
-abbrev pub AttendsTo : Option Code → ChipState → ChipState → Type 0
+abbrev pub AttendsTo : Option ChipOpcode → ChipState → ChipState → Type 0
 AttendsTo None old new = new ≡ told_byte 0x80 old
 AttendsTo (Some code) old new = Attends code old new

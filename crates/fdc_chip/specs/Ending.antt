@@ -16,13 +16,13 @@ use Rattle.fdc_chip.specs.Chips.{ChipState, KeepsRest, with_front}
 use Rattle.fdc_chip.specs.Codes.{has_bit, has_multitrack}
 use Rattle.fdc_chip.specs.Doing.{SendsOn, told, identifying, is_size}
 use Rattle.fdc_chip.specs.Orders.{is_format}
-use Rattle.fdc_chip.specs.declared.answer.Answer.TheVariants as answer
+use Rattle.fdc_chip.specs.declared.answer.ChipAnswer.TheVariants as answer
 use Rattle.fdc_chip.specs.declared.order.Order.{Order}
 use Rattle.fdc_chip.specs.declared.stage.Place.{Place}
 use Rattle.fdc_chip.specs.declared.stage.Place.TheVariants.{Index, Address, Data}
-use Rattle.fdc_chip.specs.declared.stage.Stage.TheVariants.{Busy}
-use Rattle.fdc_chip.specs.declared.stage.Task.{Task}
-use Rattle.fdc_chip.specs.declared.stage.Task.TheVariants as task
+use Rattle.fdc_chip.specs.declared.stage.ChipStage.TheVariants.{Busy}
+use Rattle.fdc_chip.specs.declared.stage.ChipTask.{ChipTask}
+use Rattle.fdc_chip.specs.declared.stage.ChipTask.TheVariants as task
 use Rattle.fdc_chip.specs.declared.stage.Track.{Track}
 
 -- ---- the results of what the inner controller executed
@@ -274,17 +274,17 @@ EndsSent true results old new =
 EndsSent false results old new = new ≡ told_results results old
 
 -- what the inner controller executed for this task ended with these results
-abbrev pub Ends : Task → Results → ChipState → ChipState → Type 0
+abbrev pub Ends : ChipTask → Results → ChipState → ChipState → Type 0
 Ends task.Sent results old new = EndsSent (looks_for_cylinder old.order results) results old new
 Ends (task.Sought first) results old new = new ≡ told_results (with_cylinder_passed first results) old
 Ends (task.Refused unit key mfm) results old new = new ≡ told_results (refusal unit key (mfm && saw_marks results)) old
 Ends (task.Verify _) results old new = let told = verified old.order results in EndsSent (looks_for_cylinder old.order told) told old new
 Ends (task.Track track) results old new = EndsAt track.place track results old new
 
-abbrev pub EndsIf : Bool → Task → ChipState → ChipState → Type 0
+abbrev pub EndsIf : Bool → ChipTask → ChipState → ChipState → Type 0
 EndsIf true task old new = Ends task (results_judged old) (with_front (results_taken old.front) old) new
 EndsIf false task old new = new ≡ old
 
 -- if results of the task wait, they are taken, and `Ends` says what comes of them
-abbrev pub MayEnd : Task → ChipState → ChipState → Type 0
+abbrev pub MayEnd : ChipTask → ChipState → ChipState → Type 0
 MayEnd task old new = EndsIf (has_results old.front) task old new

@@ -12,12 +12,12 @@ use Rattle.fdc_chip.specs.Doing.{AttendsTo}
 use Rattle.fdc_chip.specs.Interrupts.{at_rest}
 use Rattle.fdc_chip.specs.Orders.{with_byte}
 use Rattle.fdc_chip.specs.Settings.{reset}
-use Rattle.fdc_chip.specs.declared.answer.Answer.{Answer}
-use Rattle.fdc_chip.specs.declared.code.Code.{Code}
-use Rattle.fdc_chip.specs.declared.stage.Stage.{Stage}
-use Rattle.fdc_chip.specs.declared.stage.Stage.TheVariants.{Ready, Held, Busy, Telling}
-use Rattle.fdc_chip.specs.declared.stage.Task.{Task}
-use Rattle.fdc_chip.specs.declared.stage.Task.TheVariants as task
+use Rattle.fdc_chip.specs.declared.answer.ChipAnswer.{ChipAnswer}
+use Rattle.fdc_chip.specs.declared.code.ChipOpcode.{ChipOpcode}
+use Rattle.fdc_chip.specs.declared.stage.ChipStage.{ChipStage}
+use Rattle.fdc_chip.specs.declared.stage.ChipStage.TheVariants.{Ready, Held, Busy, Telling}
+use Rattle.fdc_chip.specs.declared.stage.ChipTask.{ChipTask}
+use Rattle.fdc_chip.specs.declared.stage.ChipTask.TheVariants as task
 use Rattle.fdc_chip.specs.declared.stage.Track.{Track}
 
 -- ---- reads
@@ -28,7 +28,7 @@ quieted_if true old = record old { interrupts = record old.interrupts { line = f
 quieted_if false old = old
 
 -- a byte of an answer was read. After the last byte the controller takes commands
-abbrev pub byte_told : Answer → ℕ → ChipState → ChipState
+abbrev pub byte_told : ChipAnswer → ℕ → ChipState → ChipState
 byte_told answer read old =
     record (quieted_if (is_of_data answer && read == 0) old) { stage = if nat_le (length (answer_bytes answer)) (read + 1) then Ready else Telling answer (read + 1) }
 
@@ -43,7 +43,7 @@ abbrev pub ReadsIf : Bool → ChipState → ℕ → ChipState → Type 0
 ReadsIf true old value new = PassesOut old value new
 ReadsIf false old value new = (value ≡ 0xFF) × (new ≡ old)
 
-abbrev pub ReadsAt : Stage → ChipState → ℕ → ChipState → Type 0
+abbrev pub ReadsAt : ChipStage → ChipState → ℕ → ChipState → Type 0
 ReadsAt (Telling answer read) old value new = (value ≡ get_or (answer_bytes answer) read 0xFF) × (new ≡ byte_told answer read old)
 ReadsAt _ old value new = ReadsIf (passes_by_port old) old value new
 
@@ -56,12 +56,12 @@ pub record ReadsChip (port : ℕ) (old : ChipState) (value : ℕ) (new : ChipSta
 -- ---- writes
 
 -- the bytes so far are a whole command, or aren't one yet
-abbrev pub CollectsIf : Bool → Option Code → ChipState → ChipState → Type 0
+abbrev pub CollectsIf : Bool → Option ChipOpcode → ChipState → ChipState → Type 0
 CollectsIf true code old new = AttendsTo code (record old { count = 0 }) new
 CollectsIf false code old new = new ≡ old
 
 -- whether this many bytes are a whole command. If the code doesn't exist, one byte is
-abbrev pub is_whole : ℕ → Option Code → Bool
+abbrev pub is_whole : ℕ → Option ChipOpcode → Bool
 is_whole count None = true
 is_whole count (Some code) = nat_le (parameters code + 1) count
 
@@ -95,7 +95,7 @@ GivesIf true byte old new = PassesIn byte old new
 GivesIf false byte old new = new ≡ old
 
 -- a byte is written to the data port
-abbrev pub TakesByte : Stage → ℕ → ChipState → ChipState → Type 0
+abbrev pub TakesByte : ChipStage → ℕ → ChipState → ChipState → Type 0
 TakesByte Ready byte old new = ComesIf (may_come old) byte old new
 TakesByte _ byte old new = GivesIf (passes_by_port old) byte old new
 
@@ -144,7 +144,7 @@ abbrev pub counted_if : Bool → ChipState → ChipState
 counted_if true old = with_front (told_front old.front) old
 counted_if false old = old
 
-abbrev pub count_told : Stage → ChipState → ChipState
+abbrev pub count_told : ChipStage → ChipState → ChipState
 count_told (Busy task.Sent) old = counted_if true old
 count_told (Busy (task.Track track)) old =
     counted_if (is_data track.place) (record old { stage = Busy (task.Track (record track { counted = true })) })

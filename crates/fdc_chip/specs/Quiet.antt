@@ -11,11 +11,11 @@ use Rattle.fdc_chip.specs.Doing.{needs_heads}
 use Rattle.fdc_chip.specs.Paces.{steps_left}
 use Rattle.fdc_chip.specs.Settings.{step_words}
 use Rattle.fdc_chip.specs.Steps.{HasLinesChip, StepsChip}
-use Rattle.fdc_chip.specs.declared.code.Code.{Code}
+use Rattle.fdc_chip.specs.declared.code.ChipOpcode.{ChipOpcode}
 use Rattle.fdc_chip.specs.declared.order.Order.{Order}
-use Rattle.fdc_chip.specs.declared.pace.Pace.{Pace}
-use Rattle.fdc_chip.specs.declared.stage.Stage.{Stage}
-use Rattle.fdc_chip.specs.declared.stage.Stage.TheVariants.{Ready, Held, Busy, Telling}
+use Rattle.fdc_chip.specs.declared.pace.PacedSeek.{PacedSeek}
+use Rattle.fdc_chip.specs.declared.stage.ChipStage.{ChipStage}
+use Rattle.fdc_chip.specs.declared.stage.ChipStage.TheVariants.{Ready, Held, Busy, Telling}
 
 -- this many device steps, whatever the drives do in them
 unfoldable pub StepsBy : ℕ → ChipState → ChipState → Type 0
@@ -28,7 +28,7 @@ IsQuietFor most old =
     (n : ℕ) (new : ChipState) → n ≤ most → StepsBy n old new → HasLinesChip (interrupts_chip old) (asks_chip old) new
 
 -- no command is under way that a device step goes on with
-abbrev pub rests_at : Stage → Bool
+abbrev pub rests_at : ChipStage → Bool
 rests_at Ready = true
 rests_at (Telling _ _) = true
 rests_at _ = false
@@ -47,19 +47,19 @@ is_settled chip = if rests_at chip.stage then (if chip.gated then chip.interrupt
 
 -- the host reads an answer, and no pulses are to come in the time that SPECIFY sets. What the inner controller does
 -- isn't taken over before the answer is read
-abbrev pub tells_alone : Stage → Option Pace → Bool
+abbrev pub tells_alone : ChipStage → Option PacedSeek → Bool
 tells_alone (Telling _ _) None = true
 tells_alone _ _ = false
 
 -- ---- while heads move
 
 -- whether a held command with this code is held until the heads stand
-abbrev pub is_for_heads : Option Code → Bool
+abbrev pub is_for_heads : Option ChipOpcode → Bool
 is_for_heads None = false
 is_for_heads (Some code) = needs_heads code
 
 -- no command is executed, and a command that is held waits for the heads
-abbrev pub waits_at : Stage → Order → Bool
+abbrev pub waits_at : ChipStage → Order → Bool
 waits_at Ready order = true
 waits_at Held order = is_for_heads (code_of order.code)
 waits_at (Busy _) order = false
@@ -74,7 +74,7 @@ awaits_heads chip =
 
 -- the device steps in which the heads surely don't come to the end of their seek: one for each pulse, or what the time
 -- that SPECIFY sets makes of the pulses
-abbrev pub head_steps : Option Pace → ChipState → ℕ
+abbrev pub head_steps : Option PacedSeek → ChipState → ℕ
 head_steps None chip = steps_ahead chip.front.adapter
 head_steps (Some pace) chip = steps_left (step_words chip.settings) pace
 

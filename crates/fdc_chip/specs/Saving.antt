@@ -3,20 +3,20 @@ use Rattle.std.specs.Prelude.{ℕ, List, ◌∷◌}
 use Rattle.saved_state.specs.Saved.{spelled_byte, spelled_double, spelled_each, spelled_flag, spelled_key, spelled_option, spelled_word}
 use Rattle.fdc_commands.specs.Saving.{spelled_results}
 use Rattle.fdc_sequencer.specs.Saving.{spelled_sequencer, SequencerFits}
-use Rattle.fdc_chip.specs.declared.answer.Answer.{Answer}
-use Rattle.fdc_chip.specs.declared.answer.Answer.TheVariants as answer
+use Rattle.fdc_chip.specs.declared.answer.ChipAnswer.{ChipAnswer}
+use Rattle.fdc_chip.specs.declared.answer.ChipAnswer.TheVariants as answer
 use Rattle.fdc_chip.specs.declared.answer.Registers.{Registers}
 use Rattle.fdc_chip.specs.declared.chip.Chip.{Chip}
 use Rattle.fdc_chip.specs.Interrupts.{Interrupting, AreFour}
 use Rattle.fdc_chip.specs.declared.order.Order.{Order}
-use Rattle.fdc_chip.specs.declared.pace.Pace.{Pace}
+use Rattle.fdc_chip.specs.declared.pace.PacedSeek.{PacedSeek}
 use Rattle.fdc_chip.specs.declared.settings.Settings.{Settings}
 use Rattle.fdc_chip.specs.declared.stage.Place.{Place}
 use Rattle.fdc_chip.specs.declared.stage.Place.TheVariants as place
-use Rattle.fdc_chip.specs.declared.stage.Stage.{Stage}
-use Rattle.fdc_chip.specs.declared.stage.Stage.TheVariants as stage
-use Rattle.fdc_chip.specs.declared.stage.Task.{Task}
-use Rattle.fdc_chip.specs.declared.stage.Task.TheVariants as task
+use Rattle.fdc_chip.specs.declared.stage.ChipStage.{ChipStage}
+use Rattle.fdc_chip.specs.declared.stage.ChipStage.TheVariants as stage
+use Rattle.fdc_chip.specs.declared.stage.ChipTask.{ChipTask}
+use Rattle.fdc_chip.specs.declared.stage.ChipTask.TheVariants as task
 use Rattle.fdc_chip.specs.declared.stage.Track.{Track}
 
 -- the bytes of a command
@@ -42,7 +42,7 @@ spelled_registers registers rest =
     (spelled_settings registers.settings rest))))
 
 -- what the host reads
-unfoldable pub spelled_answer : Answer → List ℕ → List ℕ
+unfoldable pub spelled_answer : ChipAnswer → List ℕ → List ℕ
 spelled_answer (answer.Byte byte) rest = 0 ∷ spelled_byte byte rest
 spelled_answer (answer.Sensed status cylinder) rest = 1 ∷ spelled_byte status (spelled_byte cylinder rest)
 spelled_answer (answer.Results results) rest = 2 ∷ spelled_results results rest
@@ -60,7 +60,7 @@ spelled_track track rest =
     (spelled_flag track.met (spelled_flag track.seeks (spelled_byte track.st1.0 (spelled_byte track.st2.0 rest))))))))
 
 -- what the inner controller executes
-unfoldable pub spelled_task : Task → List ℕ → List ℕ
+unfoldable pub spelled_task : ChipTask → List ℕ → List ℕ
 spelled_task task.Sent rest = 0 ∷ rest
 spelled_task (task.Sought results) rest = 1 ∷ spelled_results results rest
 spelled_task (task.Refused unit key mfm) rest = 2 ∷ spelled_byte unit (spelled_key key (spelled_flag mfm rest))
@@ -68,12 +68,12 @@ spelled_task (task.Verify left) rest = 3 ∷ spelled_double left rest
 spelled_task (task.Track track) rest = 4 ∷ spelled_track track rest
 
 -- a seek whose pulses come in the time that SPECIFY sets
-unfoldable pub spelled_pace : Pace → List ℕ → List ℕ
+unfoldable pub spelled_pace : PacedSeek → List ℕ → List ℕ
 spelled_pace pace rest =
     spelled_byte pace.unit (spelled_byte pace.cylinder (spelled_option spelled_byte pace.goal (spelled_byte pace.left (spelled_word pace.wait rest))))
 
 -- what is under way
-unfoldable pub spelled_stage : Stage → List ℕ → List ℕ
+unfoldable pub spelled_stage : ChipStage → List ℕ → List ℕ
 spelled_stage stage.Ready rest = 0 ∷ rest
 spelled_stage stage.Held rest = 1 ∷ rest
 spelled_stage (stage.Busy task) rest = 2 ∷ spelled_task task rest

@@ -7,10 +7,10 @@ use Rattle.fdc_chip.specs.Codes.{code_of}
 use Rattle.fdc_chip.specs.Doing.{AttendsTo, drained}
 use Rattle.fdc_chip.specs.Ending.{MayEnd}
 use Rattle.fdc_chip.specs.Paces.{Paces}
-use Rattle.fdc_chip.specs.declared.stage.Stage.{Stage}
-use Rattle.fdc_chip.specs.declared.stage.Stage.TheVariants.{Ready, Held, Busy, Telling}
-use Rattle.fdc_chip.specs.declared.stage.Task.{Task}
-use Rattle.fdc_chip.specs.declared.stage.Task.TheVariants.{Verify}
+use Rattle.fdc_chip.specs.declared.stage.ChipStage.{ChipStage}
+use Rattle.fdc_chip.specs.declared.stage.ChipStage.TheVariants.{Ready, Held, Busy, Telling}
+use Rattle.fdc_chip.specs.declared.stage.ChipTask.{ChipTask}
+use Rattle.fdc_chip.specs.declared.stage.ChipTask.TheVariants.{Verify}
 
 -- ---- the bytes of a VERIFY
 
@@ -41,14 +41,14 @@ pub record SwallowsAll (left : ℕ) (old new : ChipState) : Type 0 where
 
 -- ---- what is done after a step
 
-abbrev pub FollowsTask : Task → ChipState → ChipState → Type 0
+abbrev pub FollowsTask : ChipTask → ChipState → ChipState → Type 0
 FollowsTask (Verify left) old new =
     (between : ChipState) × SwallowsAll left old between × MayEnd (Verify left) between new
 FollowsTask task old new = MayEnd task old new
 
 -- a seek goes on whose pulses come in time. Results of seeks and polls are taken over, once INT of the inner controller
 -- rises. A command that is held is done once the heads stand
-abbrev pub Follows : Stage → ChipState → ChipState → Type 0
+abbrev pub Follows : ChipStage → ChipState → ChipState → Type 0
 Follows Ready old new =
     (paced : ChipState) × Paces old.pace old paced × (new ≡ (if interrupts_outside paced.front then drained paced else paced))
 Follows Held old new = (paced : ChipState) × Paces old.pace old paced × AttendsTo (code_of paced.order.code) paced new

@@ -27,7 +27,7 @@ pub struct Registers {
 
 /// What the host reads after a command.
 #[derive(Clone, Copy, PartialEq, Eq, Debug)]
-pub enum Answer {
+pub enum ChipAnswer {
     /// One byte.
     Byte { byte: u8 },
     /// ST0 and the present cylinder number.
@@ -70,16 +70,16 @@ impl Registers {
     }
 }
 
-impl Answer {
+impl ChipAnswer {
     /// The byte that comes after this many, or FF if there is none.
     pub(crate) fn byte(self, read: u8) -> u8
         ensures { result ≡ get_or (answer_bytes self) read 0xFF }
     {
         match self {
-            Answer::Byte { byte } => nth(&[byte], read),
-            Answer::Sensed { status, cylinder } => nth(&[status, cylinder], read),
-            Answer::Results { results } => nth(&results.bytes(), read),
-            Answer::Registers { registers } => nth(&registers.bytes(), read),
+            ChipAnswer::Byte { byte } => nth(&[byte], read),
+            ChipAnswer::Sensed { status, cylinder } => nth(&[status, cylinder], read),
+            ChipAnswer::Results { results } => nth(&results.bytes(), read),
+            ChipAnswer::Registers { registers } => nth(&registers.bytes(), read),
         }
     }
 
@@ -89,10 +89,10 @@ impl Answer {
         ensures most { result ≤ 10 }
     {
         match self {
-            Answer::Byte { .. } => 1,
-            Answer::Sensed { .. } => 2,
-            Answer::Results { .. } => 7,
-            Answer::Registers { .. } => 10,
+            ChipAnswer::Byte { .. } => 1,
+            ChipAnswer::Sensed { .. } => 2,
+            ChipAnswer::Results { .. } => 7,
+            ChipAnswer::Registers { .. } => 10,
         }
     }
 
@@ -100,6 +100,6 @@ impl Answer {
     pub(crate) fn is_of_data(self) -> bool
         ensures { result ≡ is_of_data self }
     {
-        matches!(self, Answer::Results { .. })
+        matches!(self, ChipAnswer::Results { .. })
     }
 }

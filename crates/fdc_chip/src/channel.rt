@@ -6,7 +6,7 @@ ghost use Rattle.fdc_chip.specs.Chips.{chip_state, behind_of, is_data, KeepsRest
 ghost use Rattle.fdc_chip.specs.Ports.{TakesChip, GivesChip, given_one, counted_if, told_chip};
 
 use crate::chip::Chip;
-use crate::stage::{Place, Stage, Task, Track};
+use crate::stage::{ChipStage, ChipTask, Place, Track};
 use drive_model::Inspect;
 
 impl<D: Inspect> Chip<D> {
@@ -54,9 +54,11 @@ impl<D: Inspect> Chip<D> {
         ensures drives { SameDrives (adapter_of (behind_of self.old)) (adapter_of (behind_of self.new)) }
     {
         match self.stage {
-            Stage::Busy { task: Task::Sent } => self.behind.tc(),
-            Stage::Busy {
-                task: Task::Track { track },
+            ChipStage::Busy {
+                task: ChipTask::Sent,
+            } => self.behind.tc(),
+            ChipStage::Busy {
+                task: ChipTask::Track { track },
             } => self.count_track(track),
             _ => {}
         }
@@ -64,11 +66,11 @@ impl<D: Inspect> Chip<D> {
 
     /// Does what `tc` does in a READ TRACK.
     fn count_track(&mut self, track: Track)
-        ensures told { chip_state D.state self.new ≡ counted_if (is_data track.place) (record (chip_state D.state self.old) { stage = Stage.Busy (Task.Track (record track { counted = true })) }) }
+        ensures told { chip_state D.state self.new ≡ counted_if (is_data track.place) (record (chip_state D.state self.old) { stage = ChipStage.Busy (ChipTask.Track (record track { counted = true })) }) }
         ensures drives { SameDrives (adapter_of (behind_of self.old)) (adapter_of (behind_of self.new)) }
     {
-        self.stage = Stage::Busy {
-            task: Task::Track {
+        self.stage = ChipStage::Busy {
+            task: ChipTask::Track {
                 track: Track {
                     counted: true,
                     ..track

@@ -8,9 +8,9 @@ ghost use Rattle.fdc_chip.specs.Steps.{HasLinesChip};
 
 use crate::interrupts::Interrupts;
 use crate::order::Order;
-use crate::pace::Pace;
+use crate::pace::PacedSeek;
 use crate::settings::Settings;
-use crate::stage::{Place, Stage, Task};
+use crate::stage::{ChipStage, ChipTask, Place};
 use drive_model::Inspect;
 use fdc_sequencer::Sequencer;
 use flop_base::NoMemory;
@@ -20,7 +20,7 @@ use std::alloc::Global;
 #[derive(Drop)]
 pub struct Chip<D> {
     pub(crate) behind: Sequencer<D>,
-    pub(crate) stage: Stage,
+    pub(crate) stage: ChipStage,
     /// The bytes of the command that is coming, or that came last.
     pub(crate) order: Order,
     /// How many bytes came of a command that isn't whole.
@@ -34,21 +34,21 @@ pub struct Chip<D> {
     /// Whether DOR lets INT and DRQ out.
     pub(crate) gated: bool,
     /// A seek whose pulses come in the time that SPECIFY sets.
-    pub(crate) pace: Option<Pace>,
+    pub(crate) pace: Option<PacedSeek>,
     /// Whether a strap of the adapter lets the pulses of seeks come in that time.
     pub(crate) paced: bool,
     /// What TDR, the tape drive register, keeps: two bits that say which drive is a tape drive.
     pub(crate) tape: u8,
 }
 
-impl Task {
+impl ChipTask {
     /// Whether the host takes or gives the bytes of what the inner controller executes.
     pub(crate) fn passes_bytes(&self) -> bool
         ensures { result ≡ passes_bytes self.now }
     {
         match self {
-            Task::Sent => true,
-            Task::Track { track } => matches!(track.place, Place::Data),
+            ChipTask::Sent => true,
+            ChipTask::Track { track } => matches!(track.place, Place::Data),
             _ => false,
         }
     }
@@ -61,7 +61,7 @@ impl<D: Inspect> Chip<D> {
     {
         Ok(Chip {
             behind: Sequencer::new(alloc, bay0, bay1)?,
-            stage: Stage::Ready,
+            stage: ChipStage::Ready,
             order: Order::blank(),
             count: 0,
             interrupts: Interrupts::new(),
@@ -99,7 +99,7 @@ impl<D: Inspect> Chip<D> {
         ensures { result ≡ passes_at (chip_state D.state self.now).stage }
     {
         match &self.stage {
-            Stage::Busy { task } => task.passes_bytes(),
+            ChipStage::Busy { task } => task.passes_bytes(),
             _ => false,
         }
     }
@@ -138,7 +138,7 @@ impl<D: Inspect> Chip<D> {
             return self.behind.drq();
         }
         match self.stage {
-            Stage::Ready => self.interrupts.is_up() || self.behind.int(),
+            ChipStage::Ready => self.interrupts.is_up() || self.behind.int(),
             _ => self.interrupts.is_up(),
         }
     }

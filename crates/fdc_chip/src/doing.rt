@@ -5,13 +5,13 @@ ghost use Rattle.fdc_chip.specs.Chips.{chip_state, behind_of, KeepsRest};
 ghost use Rattle.fdc_chip.specs.Doing.{Sends, SendsOn, is_told, drained_one, drained, moves_heads, is_moving, told, ready, sensing, specified, configured, configuring, dumped, locked, made_perpendicular, relative_target, Asks, Moves, Obeys, AttendsTo, Attends, needs_heads};
 ghost use Rattle.fdc_chip.specs.Interrupts.{cylinder_of};
 
-use crate::answer::{Answer, Registers};
+use crate::answer::{ChipAnswer, Registers};
 use crate::chip::Chip;
-use crate::code::Code;
+use crate::code::ChipOpcode;
 use crate::order::Order;
-use crate::pace::Pace;
+use crate::pace::PacedSeek;
 use crate::settings::Settings;
-use crate::stage::{Stage, Task};
+use crate::stage::{ChipStage, ChipTask};
 use drive_model::Inspect;
 use fdc_registers::{Flags, St0};
 
@@ -36,18 +36,18 @@ const LOCKED: u8 = 0x10;
 /// All of CONFIGURE's options but EIS.
 const WITHOUT_IMPLIED_SEEK: u8 = 0x3F;
 
-impl Code {
+impl ChipOpcode {
     /// Whether the command needs the inner controller, which takes no command while heads move.
     pub(crate) fn needs_heads(self) -> bool
         ensures { result ≡ needs_heads self }
     {
         match self {
-            Code::Specify
-            | Code::SenseInterrupt
-            | Code::Version
-            | Code::Perpendicular
-            | Code::DumpRegisters
-            | Code::Lock { .. } => false,
+            ChipOpcode::Specify
+            | ChipOpcode::SenseInterrupt
+            | ChipOpcode::Version
+            | ChipOpcode::Perpendicular
+            | ChipOpcode::DumpRegisters
+            | ChipOpcode::Lock { .. } => false,
             _ => true,
         }
     }
@@ -75,10 +75,10 @@ impl<D: Inspect> Chip<D> {
     }
 
     /// Lets the host read this answer.
-    pub(crate) fn tell(&mut self, answer: Answer)
+    pub(crate) fn tell(&mut self, answer: ChipAnswer)
         ensures { chip_state D.state self.new ≡ told answer (chip_state D.state self.old) }
     {
-        self.stage = Stage::Telling { answer, read: 0 };
+        self.stage = ChipStage::Telling { answer, read: 0 };
     }
 
     /// Whether a result with this ST0 is reported to the host. While pulses come in the time that SPECIFY sets, the
@@ -126,50 +126,50 @@ impl<D: Inspect> Chip<D> {
     }
 
     /// Does or holds a whole command that came, if there is one with this code.
-    pub(crate) fn attend_to(&mut self, code: Option<Code>)
+    pub(crate) fn attend_to(&mut self, code: Option<ChipOpcode>)
         ensures { AttendsTo code (chip_state D.state self.old) (chip_state D.state self.new) }
     {
         match code {
             Some(code) => self.attend(code),
-            None => self.tell(Answer::Byte { byte: INVALID }),
+            None => self.tell(ChipAnswer::Byte { byte: INVALID }),
         }
     }
 
     /// Does a whole command, or holds it while heads move.
-    fn attend(&mut self, code: Code)
+    fn attend(&mut self, code: ChipOpcode)
         ensures { Attends code (chip_state D.state self.old) (chip_state D.state self.new) }
     {
         self.drain();
         if code.needs_heads() && self.is_moving() {
-            self.stage = Stage::Held;
+            self.stage = ChipStage::Held;
             return;
         }
         self.obey(code);
     }
 
     /// Does a command.
-    fn obey(&mut self, code: Code)
+    fn obey(&mut self, code: ChipOpcode)
         ensures { Obeys code (chip_state D.state self.old) (chip_state D.state self.new) }
     {
         let order = self.order;
         let Order { unit, key, .. } = order;
         match code {
-            Code::Specify => self.specify(),
-            Code::SenseDrive => self.ask(&[0x04, unit]),
-            Code::SenseInterrupt => self.sense_interrupt(),
-            Code::Recalibrate => self.move_heads(None),
-            Code::Seek => self.move_heads(Some(key.c)),
-            Code::RelativeSeek { inward } => self.seek_from_here(inward),
-            Code::Version => self.tell(Answer::Byte { byte: ENHANCED }),
-            Code::Perpendicular => self.make_perpendicular(),
-            Code::Configure => self.configure(),
-            Code::DumpRegisters => self.dump_registers(),
-            Code::Lock { on } => self.lock(on),
-            Code::ReadId { mfm } => self.read_id(mfm),
-            Code::FormatTrack { mfm } => self.format(mfm),
-            Code::Transfer { mfm } => self.transfer(mfm, Task::Sent, order),
-            Code::Verify { mfm } => self.verify(mfm),
-            Code::ReadTrack { mfm } => self.read_track(mfm),
+            ChipOpcode::Specify => self.specify(),
+            ChipOpcode::SenseDrive => self.ask(&[0x04, unit]),
+            ChipOpcode::SenseInterrupt => self.sense_interrupt(),
+            ChipOpcode::Recalibrate => self.move_heads(None),
+            ChipOpcode::Seek => self.move_heads(Some(key.c)),
+            ChipOpcode::RelativeSeek { inward } => self.seek_from_here(inward),
+            ChipOpcode::Version => self.tell(ChipAnswer::Byte { byte: ENHANCED }),
+            ChipOpcode::Perpendicular => self.make_perpendicular(),
+            ChipOpcode::Configure => self.configure(),
+            ChipOpcode::DumpRegisters => self.dump_registers(),
+            ChipOpcode::Lock { on } => self.lock(on),
+            ChipOpcode::ReadId { mfm } => self.read_id(mfm),
+            ChipOpcode::FormatTrack { mfm } => self.format(mfm),
+            ChipOpcode::Transfer { mfm } => self.transfer(mfm, ChipTask::Sent, order),
+            ChipOpcode::Verify { mfm } => self.verify(mfm),
+            ChipOpcode::ReadTrack { mfm } => self.read_track(mfm),
         }
     }
 
@@ -182,7 +182,7 @@ impl<D: Inspect> Chip<D> {
             head_load: self.order.key.c,
             ..self.settings
         };
-        self.stage = Stage::Ready;
+        self.stage = ChipStage::Ready;
     }
 
     /// Gives a command to the inner controller, which answers it with one byte.
@@ -191,7 +191,7 @@ impl<D: Inspect> Chip<D> {
     {
         self.send(bytes);
         let byte = self.behind.read(DATA);
-        self.tell(Answer::Byte { byte });
+        self.tell(ChipAnswer::Byte { byte });
     }
 
     /// SENSE INTERRUPT.
@@ -199,8 +199,8 @@ impl<D: Inspect> Chip<D> {
         ensures { chip_state D.state self.new ≡ sensing (chip_state D.state self.old) }
     {
         let answer = match self.interrupts.sense() {
-            Some((status, cylinder)) => Answer::Sensed { status, cylinder },
-            None => Answer::Byte { byte: INVALID },
+            Some((status, cylinder)) => ChipAnswer::Sensed { status, cylinder },
+            None => ChipAnswer::Byte { byte: INVALID },
         };
         self.tell(answer);
     }
@@ -210,10 +210,10 @@ impl<D: Inspect> Chip<D> {
     fn move_heads(&mut self, goal: Option<u8>)
         ensures { Moves goal (chip_state D.state self.old) (chip_state D.state self.new) }
     {
-        self.stage = Stage::Ready;
+        self.stage = ChipStage::Ready;
         let unit = self.order.unit;
         if self.paced {
-            self.pace = Some(Pace::of(unit, self.interrupts.cylinder(unit), goal));
+            self.pace = Some(PacedSeek::of(unit, self.interrupts.cylinder(unit), goal));
         } else {
             self.send_move(unit, goal);
         }
@@ -221,7 +221,7 @@ impl<D: Inspect> Chip<D> {
 
     /// RELATIVE SEEK.
     fn seek_from_here(&mut self, inward: bool)
-        ensures { Obeys (Code.RelativeSeek inward) (chip_state D.state self.old) (chip_state D.state self.new) }
+        ensures { Obeys (ChipOpcode.RelativeSeek inward) (chip_state D.state self.old) (chip_state D.state self.new) }
     {
         let Order { unit, key, .. } = self.order;
         let target = relative_target(inward, self.interrupts.cylinder(unit), key.c);
@@ -233,12 +233,12 @@ impl<D: Inspect> Chip<D> {
         ensures { chip_state D.state self.new ≡ made_perpendicular (chip_state D.state self.old) }
     {
         self.settings = self.settings.with_perpendicular(self.order.unit);
-        self.stage = Stage::Ready;
+        self.stage = ChipStage::Ready;
     }
 
     /// CONFIGURE. Whether a seek is implied is set in the inner controller with each command.
     fn configure(&mut self)
-        ensures { Obeys Code.Configure (chip_state D.state self.old) (chip_state D.state self.new) }
+        ensures { Obeys ChipOpcode.Configure (chip_state D.state self.old) (chip_state D.state self.new) }
     {
         let key = self.order.key;
         self.settings = Settings {
@@ -247,7 +247,7 @@ impl<D: Inspect> Chip<D> {
             forgotten: false,
             ..self.settings
         };
-        self.stage = Stage::Ready;
+        self.stage = ChipStage::Ready;
         self.configure_behind(key.c, key.h);
     }
 
@@ -269,7 +269,7 @@ impl<D: Inspect> Chip<D> {
             fourth: self.interrupts.cylinder(3),
             settings: self.settings,
         };
-        self.tell(Answer::Registers { registers });
+        self.tell(ChipAnswer::Registers { registers });
     }
 
     /// LOCK and UNLOCK.
@@ -280,7 +280,7 @@ impl<D: Inspect> Chip<D> {
             locked: on,
             ..self.settings
         };
-        self.tell(Answer::Byte {
+        self.tell(ChipAnswer::Byte {
             byte: if on { LOCKED } else { 0 },
         });
     }

@@ -4,12 +4,12 @@ ghost use Rattle.fdc_sequencer.specs.Fronts.{Front, front_state};
 ghost use Rattle.fdc_chip.specs.Chips.{chip_state, behind_of, with_front};
 ghost use Rattle.fdc_chip.specs.Ending.{behind_one, byte_behind, results_behind, results_taken, has_results, told_results, has_key, looks_for_cylinder, unit_of, cylinder_bits, with_cylinder_passed, saw_marks, refusal, behind_last, is_done, verified, EndsSent, Ends, MayEnd};
 
-use crate::answer::Answer;
+use crate::answer::ChipAnswer;
 use crate::chip::Chip;
 use crate::code::{MULTITRACK, has_bit};
 use crate::doing::{DATA, STATUS};
 use crate::order::Order;
-use crate::stage::{Stage, Task};
+use crate::stage::{ChipStage, ChipTask};
 use crate::starting::COUNTS;
 use drive_model::Inspect;
 use fdc_commands::Results;
@@ -169,11 +169,11 @@ impl<D: Inspect> Chip<D> {
         ensures { chip_state D.state self.new ≡ told_results results (chip_state D.state self.old) }
     {
         self.interrupts.set_line(true);
-        self.tell(Answer::Results { results });
+        self.tell(ChipAnswer::Results { results });
     }
 
     /// Takes the results of what the inner controller executed for a task, if they wait.
-    pub(crate) fn may_end(&mut self, task: Task)
+    pub(crate) fn may_end(&mut self, task: ChipTask)
         ensures { MayEnd task (chip_state D.state self.old) (chip_state D.state self.new) }
     {
         if self.has_results() {
@@ -183,19 +183,19 @@ impl<D: Inspect> Chip<D> {
     }
 
     /// Does what these results lead to.
-    fn end(&mut self, task: Task, results: Results)
+    fn end(&mut self, task: ChipTask, results: Results)
         ensures { Ends task results (chip_state D.state self.old) (chip_state D.state self.new) }
     {
         match task {
-            Task::Sent => self.end_sent(results),
-            Task::Verify { .. } => self.end_sent(self.order.verified(results)),
-            Task::Sought { results: first } => {
+            ChipTask::Sent => self.end_sent(results),
+            ChipTask::Verify { .. } => self.end_sent(self.order.verified(results)),
+            ChipTask::Sought { results: first } => {
                 self.tell_results(with_cylinder_passed(first, results));
             }
-            Task::Refused { unit, key, mfm } => {
+            ChipTask::Refused { unit, key, mfm } => {
                 self.tell_results(refusal(unit, key, mfm && saw_marks(results)));
             }
-            Task::Track { track } => self.end_part(track, results),
+            ChipTask::Track { track } => self.end_part(track, results),
         }
     }
 
@@ -207,8 +207,8 @@ impl<D: Inspect> Chip<D> {
             self.tell_results(results);
             return;
         }
-        self.stage = Stage::Busy {
-            task: Task::Sought { results },
+        self.stage = ChipStage::Busy {
+            task: ChipTask::Sought { results },
         };
         self.send(&[READ_ID, results.st0.bits() & UNIT]);
     }

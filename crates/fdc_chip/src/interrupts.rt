@@ -3,7 +3,7 @@ ghost use Rattle.std.specs.Prelude.{◌≡◌};
 ghost use Rattle.fdc_chip.specs.Interrupts.{at_rest, with_result, without_results_of, first_pending, sensed, after_sense, seek_bits, seek_bit, cylinder_of, with_cylinder};
 
 use fdc_registers::{Flags, Msr, St0};
-use saved_state::{Saved, Sink, Source, load_four, save_four};
+use saved_state::{Saved, SavedBytes, Source, load_four, save_four};
 use std::marker::Model;
 
 /// The results of seeks and polls that SENSE INTERRUPT takes, and the interrupt line.
@@ -143,7 +143,7 @@ impl Saved for Interrupts {
     ghost Fits = { AreFour };
 
     #[tactic(auto, unfolding(crate::specs::Saving::spelled_interrupts))]
-    fn save(&self, to: &mut Sink) {
+    fn save(&self, to: &mut SavedBytes) {
         save_four(&self.pending, to);
         save_four(&self.cylinders, to);
         self.line.save(to);

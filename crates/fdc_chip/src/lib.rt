@@ -29,11 +29,11 @@ mod stage;
 mod starting;
 mod track;
 
-pub use answer::{Answer, Registers};
+pub use answer::{ChipAnswer, Registers};
 pub use chip::Chip;
-pub use code::Code;
+pub use code::ChipOpcode;
 pub use interrupts::Interrupts;
 pub use order::Order;
-pub use pace::Pace;
+pub use pace::PacedSeek;
 pub use settings::Settings;
-pub use stage::{Place, Stage, Task, Track};
+pub use stage::{ChipStage, ChipTask, Place, Track};

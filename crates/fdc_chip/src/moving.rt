@@ -4,11 +4,11 @@ ghost use Rattle.fdc_sequencer.specs.Fronts.{front_state, interrupts_outside};
 ghost use Rattle.fdc_chip.specs.Chips.{chip_state, behind_of, interrupts_chip, asks_chip};
 ghost use Rattle.fdc_chip.specs.Doing.{drained};
 ghost use Rattle.fdc_chip.specs.Steps.{Swallows, SwallowsAll, Follows, FollowsTask, StepsChip, RunsChipWith, RunsChip};
-ghost use Rattle.fdc_chip.specs.declared.stage.Stage.TheVariants.{Ready};
+ghost use Rattle.fdc_chip.specs.declared.stage.ChipStage.TheVariants.{Ready};
 
 use crate::chip::Chip;
-use crate::code::Code;
-use crate::stage::{Stage, Task};
+use crate::code::ChipOpcode;
+use crate::stage::{ChipStage, ChipTask};
 use drive_model::Inspect;
 
 /// The most bytes that the FIFO has.
@@ -28,16 +28,16 @@ impl<D: Inspect> Chip<D> {
         ensures { Follows self.old.stage (chip_state D.state self.old) (chip_state D.state self.new) }
     {
         match self.stage {
-            Stage::Ready => {
+            ChipStage::Ready => {
                 self.keep_pace();
                 self.take_over();
             }
-            Stage::Held => {
+            ChipStage::Held => {
                 self.keep_pace();
-                self.attend_to(Code::of(self.order.code));
+                self.attend_to(ChipOpcode::of(self.order.code));
             }
-            Stage::Busy { task } => self.follow_task(task),
-            Stage::Telling { .. } => self.keep_pace(),
+            ChipStage::Busy { task } => self.follow_task(task),
+            ChipStage::Telling { .. } => self.keep_pace(),
         }
     }
 
@@ -51,10 +51,10 @@ impl<D: Inspect> Chip<D> {
     }
 
     /// Does what has to be done after a step while the inner controller executes something.
-    fn follow_task(&mut self, task: Task)
+    fn follow_task(&mut self, task: ChipTask)
         ensures { FollowsTask task (chip_state D.state self.old) (chip_state D.state self.new) }
     {
-        if let Task::Verify { left } = task {
+        if let ChipTask::Verify { left } = task {
             self.swallow_all(left);
         }
         self.may_end(task);
@@ -68,8 +68,8 @@ impl<D: Inspect> Chip<D> {
         for _place in 0..DEPTH {
             now = self.swallow(now);
         }
-        self.stage = Stage::Busy {
-            task: Task::Verify { left: now },
+        self.stage = ChipStage::Busy {
+            task: ChipTask::Verify { left: now },
         };
     }
 
@@ -115,8 +115,10 @@ impl<D: Inspect> Chip<D> {
             (chip_state D.state self.old) (chip_state D.state self.new) }
     {
         match self.stage {
-            Stage::Ready if self.pace.is_none() && !self.interrupts.is_up() && !self.behind.int() =>
-                { self.advance_ready(most) }
+            ChipStage::Ready
+                if self.pace.is_none() && !self.interrupts.is_up() && !self.behind.int() => {
+                self.advance_ready(most)
+            }
             _ => self.advance_other(most),
         }
     }

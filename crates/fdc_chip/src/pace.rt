@@ -22,7 +22,7 @@ const RECALIBRATE_PULSES: u8 = 79;
 
 /// A seek that goes on cylinder by cylinder.
 #[derive(Clone, Copy, PartialEq, Eq, Debug)]
-pub struct Pace {
+pub struct PacedSeek {
     /// The head in bit 2 and the drive in bits 1 and 0.
     pub unit: u8,
     /// The cylinder to which the seek has come, by the number that the controller counts.
@@ -36,7 +36,7 @@ pub struct Pace {
 }
 
 /// The seek bit of the drive of this seek.
-pub(crate) fn pace_bit(pace: Option<Pace>) -> u8
+pub(crate) fn pace_bit(pace: Option<PacedSeek>) -> u8
     ensures { result ≡ pace_bit pace }
 {
     match pace {
@@ -45,12 +45,12 @@ pub(crate) fn pace_bit(pace: Option<Pace>) -> u8
     }
 }
 
-impl Pace {
+impl PacedSeek {
     /// A seek that begins at the number that the controller counts.
-    pub(crate) fn of(unit: u8, cylinder: u8, goal: Option<u8>) -> Pace
+    pub(crate) fn of(unit: u8, cylinder: u8, goal: Option<u8>) -> PacedSeek
         ensures { result ≡ pace_begun unit cylinder goal }
     {
-        Pace {
+        PacedSeek {
             unit,
             cylinder,
             goal,
@@ -104,7 +104,7 @@ impl Pace {
     }
 
     /// The seek one cylinder nearer after a pulse, with this many word times until the next.
-    fn stepped(self, words: u16) -> Pace
+    fn stepped(self, words: u16) -> PacedSeek
         ensures { result ≡ stepped words self }
     {
         let cylinder = if self.cylinder < self.target() {
@@ -112,7 +112,7 @@ impl Pace {
         } else {
             self.cylinder.saturating_sub(1)
         };
-        Pace {
+        PacedSeek {
             cylinder,
             left: self.left.saturating_sub(1),
             wait: words,
@@ -144,13 +144,13 @@ impl<D: Inspect> Chip<D> {
     }
 
     /// Does a device step of such a seek, once no result of the inner controller waits.
-    fn pace_on(&mut self, pace: Pace)
+    fn pace_on(&mut self, pace: PacedSeek)
         ensures { GoesOn pace (chip_state D.state self.old) (chip_state D.state self.new) }
     {
         if self.is_due(pace) {
             self.pulse(pace);
         } else {
-            self.pace = Some(Pace {
+            self.pace = Some(PacedSeek {
                 wait: pace.wait.saturating_sub(1),
                 ..pace
             });
@@ -158,7 +158,7 @@ impl<D: Inspect> Chip<D> {
     }
 
     /// Whether the next pulse is due, and the inner controller takes the next command.
-    fn is_due(&mut self, pace: Pace) -> bool
+    fn is_due(&mut self, pace: PacedSeek) -> bool
         ensures due { result ≡ is_due pace (chip_state D.state self.old) }
         ensures same { chip_state D.state self.new ≡ chip_state D.state self.old }
     {
@@ -166,7 +166,7 @@ impl<D: Inspect> Chip<D> {
     }
 
     /// Gives the next pulse. If the seek is over, gives the command that ends it.
-    fn pulse(&mut self, pace: Pace)
+    fn pulse(&mut self, pace: PacedSeek)
         ensures { PulsesIf (is_over pace) pace (chip_state D.state self.old) (chip_state D.state self.new) }
     {
         if pace.is_over() {
@@ -181,7 +181,7 @@ impl<D: Inspect> Chip<D> {
 
     /// Gives the inner controller what ends the seek: a SEEK of its cylinder, or a RECALIBRATE with at most the pulses
     /// that are left of the 79.
-    fn end_pace(&mut self, pace: Pace)
+    fn end_pace(&mut self, pace: PacedSeek)
         ensures { EndsAt pace.goal pace (chip_state D.state self.old) (chip_state D.state self.new) }
     {
         match pace.goal {

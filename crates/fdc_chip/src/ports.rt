@@ -5,13 +5,13 @@ ghost use Rattle.fdc_sequencer.specs.Fronts.{adapter_of};
 ghost use Rattle.fdc_chip.specs.Chips.{chip_state, behind_of, status_of, stage_bits, execution_bits, port_bits, output_of};
 ghost use Rattle.fdc_chip.specs.Ports.{ReadsChip, ReadsAt, PassesOut, byte_told, WritesChip, TakesByte, Collects, may_come, with_next, PassesIn, is_whole, latched_by, value_behind};
 
-use crate::answer::{Answer, NOTHING};
+use crate::answer::{ChipAnswer, NOTHING};
 use crate::chip::Chip;
-use crate::code::{Code, has_bit};
+use crate::code::{ChipOpcode, has_bit};
 use crate::doing::{DATA, STATUS};
 use crate::interrupts::Interrupts;
 use crate::pace::pace_bit;
-use crate::stage::Stage;
+use crate::stage::ChipStage;
 use drive_model::Inspect;
 use fdc_core::Fdc;
 use fdc_registers::{Dor, Flags, Msr};
@@ -59,7 +59,7 @@ fn execution_bits(by_port: bool, asked: bool, to_memory: bool) -> Msr
 }
 
 /// Whether this many bytes are a whole command. If the code doesn't exist, one byte is.
-fn is_whole(count: u8, code: Option<Code>) -> bool
+fn is_whole(count: u8, code: Option<ChipOpcode>) -> bool
     ensures { result ≡ is_whole count code }
 {
     match code {
@@ -111,12 +111,12 @@ impl<D: Inspect> Chip<D> {
         ensures drives { SameDrives (adapter_of (behind_of self.old)) (adapter_of (behind_of self.new)) }
     {
         match self.stage {
-            Stage::Ready => {
+            ChipStage::Ready => {
                 let begun = if self.count == 0 { Msr(0) } else { Msr::BUSY };
                 Msr(self.behind.read(STATUS)).union(begun)
             }
-            Stage::Held => Msr(self.behind.read(STATUS) & SEEKING).union(Msr::BUSY),
-            Stage::Busy { .. } => {
+            ChipStage::Held => Msr(self.behind.read(STATUS) & SEEKING).union(Msr::BUSY),
+            ChipStage::Busy { .. } => {
                 let asked = self.passes() && self.behind.drq();
                 let bits = execution_bits(
                     self.settings.is_by_port(),
@@ -125,7 +125,7 @@ impl<D: Inspect> Chip<D> {
                 );
                 Msr(self.behind.read(STATUS) & SEEKING).union(bits)
             }
-            Stage::Telling { .. } => {
+            ChipStage::Telling { .. } => {
                 let told = Msr::RQM.union(Msr::DIO).union(Msr::BUSY);
                 Msr(self.behind.read(STATUS) & SEEKING).union(told)
             }
@@ -138,7 +138,7 @@ impl<D: Inspect> Chip<D> {
         ensures drives { SameDrives (adapter_of (behind_of self.old)) (adapter_of (behind_of self.new)) }
     {
         match self.stage {
-            Stage::Telling { answer, read } => {
+            ChipStage::Telling { answer, read } => {
                 self.tell_next(answer, read);
                 answer.byte(read)
             }
@@ -153,7 +153,7 @@ impl<D: Inspect> Chip<D> {
     }
 
     /// Moves on after a byte of an answer was read.
-    fn tell_next(&mut self, answer: Answer, read: u8)
+    fn tell_next(&mut self, answer: ChipAnswer, read: u8)
         ensures told { chip_state D.state self.new ≡ byte_told answer read (chip_state D.state self.old) }
         ensures drives { SameDrives (adapter_of (behind_of self.old)) (adapter_of (behind_of self.new)) }
     {
@@ -161,9 +161,9 @@ impl<D: Inspect> Chip<D> {
             self.interrupts.set_line(false);
         }
         self.stage = if u16::from(answer.count()) <= u16::from(read) + 1 {
-            Stage::Ready
+            ChipStage::Ready
         } else {
-            Stage::Telling {
+            ChipStage::Telling {
                 answer,
                 read: read + 1,
             }
@@ -191,7 +191,7 @@ impl<D: Inspect> Chip<D> {
         }
         let given = self.latch(port, value);
         if Fdc::is_reset_by(port, given) {
-            self.stage = Stage::Ready;
+            self.stage = ChipStage::Ready;
             self.count = 0;
             self.interrupts = Interrupts::new();
             self.settings = self.settings.reset();
@@ -222,7 +222,7 @@ impl<D: Inspect> Chip<D> {
         ensures { TakesByte self.old.stage byte (chip_state D.state self.old) (chip_state D.state self.new) }
     {
         match self.stage {
-            Stage::Ready => {
+            ChipStage::Ready => {
                 if self.may_come() {
                     self.add_byte(byte);
                     self.collect();
@@ -255,7 +255,7 @@ impl<D: Inspect> Chip<D> {
     fn collect(&mut self)
         ensures { Collects (chip_state D.state self.old) (chip_state D.state self.new) }
     {
-        let code = Code::of(self.order.code);
+        let code = ChipOpcode::of(self.order.code);
         if is_whole(self.count, code) {
             self.count = 0;
             self.attend_to(code);

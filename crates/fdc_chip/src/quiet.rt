@@ -5,20 +5,20 @@ ghost use Rattle.fdc_sequencer.specs.Ranges.{HasByteNumbers};
 ghost use Rattle.fdc_chip.specs.Chips.{chip_state, interrupts_chip, asks_chip};
 ghost use Rattle.fdc_chip.specs.Quiet.{IsIdle, IsQuietFor, IsStill, awaits_heads, due_steps, idles, is_for_heads, is_settled, is_still_at, quiet_steps, rests_at, tells_alone, waits_at};
 ghost use Rattle.fdc_chip.specs.Steps.{RunsChipWith};
-ghost use Rattle.fdc_chip.specs.declared.stage.Stage.TheVariants.{Busy};
-ghost use Rattle.fdc_chip.specs.declared.stage.Task.TheVariants.{Sent};
+ghost use Rattle.fdc_chip.specs.declared.stage.ChipStage.TheVariants.{Busy};
+ghost use Rattle.fdc_chip.specs.declared.stage.ChipTask.TheVariants.{Sent};
 
 use crate::chip::Chip;
-use crate::code::Code;
+use crate::code::ChipOpcode;
 use crate::order::Order;
-use crate::stage::{Stage, Task};
+use crate::stage::{ChipStage, ChipTask};
 use drive_model::Inspect;
 
 /// Nothing is said of the next device step.
 const UNKNOWN: u32 = 0;
 
 /// Whether a held command with this code is held until the heads stand.
-fn is_for_heads(code: Option<Code>) -> bool
+fn is_for_heads(code: Option<ChipOpcode>) -> bool
     ensures { result ≡ is_for_heads code }
 {
     match code {
@@ -27,12 +27,12 @@ fn is_for_heads(code: Option<Code>) -> bool
     }
 }
 
-impl Stage {
+impl ChipStage {
     /// Whether no command is under way that a device step goes on with.
     fn rests(&self) -> bool
         ensures { result ≡ rests_at self.now }
     {
-        matches!(self, Stage::Ready | Stage::Telling { .. })
+        matches!(self, ChipStage::Ready | ChipStage::Telling { .. })
     }
 
     /// Whether no command is executed, and a command that is held waits for the heads.
@@ -40,9 +40,9 @@ impl Stage {
         ensures { result ≡ waits_at self.now order }
     {
         match self {
-            Stage::Ready | Stage::Telling { .. } => true,
-            Stage::Held => is_for_heads(Code::of(order.code)),
-            Stage::Busy { .. } => false,
+            ChipStage::Ready | ChipStage::Telling { .. } => true,
+            ChipStage::Held => is_for_heads(ChipOpcode::of(order.code)),
+            ChipStage::Busy { .. } => false,
         }
     }
 }
@@ -130,7 +130,7 @@ impl<D: Inspect> Chip<D> {
         ensures { result ≡ tells_alone (chip_state D.state self.now).stage (chip_state D.state self.now).pace }
     {
         match self.stage {
-            Stage::Telling { .. } => self.pace.is_none(),
+            ChipStage::Telling { .. } => self.pace.is_none(),
             _ => false,
         }
     }
@@ -202,7 +202,7 @@ impl<D: Inspect> Chip<D> {
         ensures { result ≡ true → (chip_state D.state self.now).stage ≡ Busy Sent }
     {
         match self.stage {
-            Stage::Busy { task } => matches!(task, Task::Sent),
+            ChipStage::Busy { task } => matches!(task, ChipTask::Sent),
             _ => false,
         }
     }

@@ -1,16 +1,16 @@
 // A chip as bytes.
-use crate::answer::{Answer, Registers};
+use crate::answer::{ChipAnswer, Registers};
 use crate::chip::Chip;
 use crate::interrupts::Interrupts;
 use crate::order::Order;
-use crate::pace::Pace;
+use crate::pace::PacedSeek;
 use crate::settings::Settings;
-use crate::stage::{Place, Stage, Task, Track};
+use crate::stage::{ChipStage, ChipTask, Place, Track};
 use fdc_commands::Results;
 use fdc_registers::{St1, St2};
 use fdc_sequencer::Sequencer;
 use flop_base::{Chrn, NoMemory};
-use saved_state::{Saved, SavedWhole, Sink, Source};
+use saved_state::{Saved, SavedBytes, SavedWhole, Source};
 use std::alloc::Global;
 
 /// What the bytes of a chip begin with.
@@ -25,7 +25,7 @@ impl Saved for Order {
     ghost Fits = { λ _. ⊤ };
 
     #[tactic(auto, unfolding(crate::specs::Saving::spelled_order))]
-    fn save(&self, to: &mut Sink) {
+    fn save(&self, to: &mut SavedBytes) {
         self.code.save(to);
         self.unit.save(to);
         self.key.save(to);
@@ -62,7 +62,7 @@ impl Saved for Settings {
     ghost Fits = { λ _. ⊤ };
 
     #[tactic(auto, unfolding(crate::specs::Saving::spelled_settings))]
-    fn save(&self, to: &mut Sink) {
+    fn save(&self, to: &mut SavedBytes) {
         self.step_rate.save(to);
         self.head_load.save(to);
         self.last_sector.save(to);
@@ -105,7 +105,7 @@ impl Saved for Registers {
     ghost Fits = { λ _. ⊤ };
 
     #[tactic(auto, unfolding(crate::specs::Saving::spelled_registers))]
-    fn save(&self, to: &mut Sink) {
+    fn save(&self, to: &mut SavedBytes) {
         self.first.save(to);
         self.second.save(to);
         self.third.save(to);
@@ -130,7 +130,7 @@ impl Saved for Registers {
     }
 }
 
-impl Saved for Answer {
+impl Saved for ChipAnswer {
     ghost use Rattle.std.specs.Prelude.{⊤};
     ghost use Rattle.fdc_chip.specs.Saving.{spelled_answer};
 
@@ -139,22 +139,22 @@ impl Saved for Answer {
     ghost Fits = { λ _. ⊤ };
 
     #[tactic(auto, unfolding(crate::specs::Saving::spelled_answer))]
-    fn save(&self, to: &mut Sink) {
+    fn save(&self, to: &mut SavedBytes) {
         match *self {
-            Answer::Byte { byte } => {
+            ChipAnswer::Byte { byte } => {
                 to.byte(0);
                 byte.save(to);
             }
-            Answer::Sensed { status, cylinder } => {
+            ChipAnswer::Sensed { status, cylinder } => {
                 to.byte(1);
                 status.save(to);
                 cylinder.save(to);
             }
-            Answer::Results { results } => {
+            ChipAnswer::Results { results } => {
                 to.byte(2);
                 results.save(to);
             }
-            Answer::Registers { registers } => {
+            ChipAnswer::Registers { registers } => {
                 to.byte(3);
                 registers.save(to);
             }
@@ -162,24 +162,24 @@ impl Saved for Answer {
     }
 
     #[tactic(auto, unfolding(crate::specs::Saving::spelled_answer))]
-    fn load(from: &mut Source<'_>) -> Answer {
+    fn load(from: &mut Source<'_>) -> ChipAnswer {
         match from.byte() {
             1 => {
                 let status = u8::load(from);
                 let cylinder = u8::load(from);
-                Answer::Sensed { status, cylinder }
+                ChipAnswer::Sensed { status, cylinder }
             }
             2 => {
                 let results = Results::load(from);
-                Answer::Results { results }
+                ChipAnswer::Results { results }
             }
             3 => {
                 let registers = Registers::load(from);
-                Answer::Registers { registers }
+                ChipAnswer::Registers { registers }
             }
             _ => {
                 let byte = u8::load(from);
-                Answer::Byte { byte }
+                ChipAnswer::Byte { byte }
             }
         }
     }
@@ -194,7 +194,7 @@ impl Saved for Place {
     ghost Fits = { λ _. ⊤ };
 
     #[tactic(auto, unfolding(crate::specs::Saving::spelled_place))]
-    fn save(&self, to: &mut Sink) {
+    fn save(&self, to: &mut SavedBytes) {
         match *self {
             Place::Index => to.byte(0),
             Place::Address => to.byte(1),
@@ -221,7 +221,7 @@ impl Saved for Track {
     ghost Fits = { λ _. ⊤ };
 
     #[tactic(auto, unfolding(crate::specs::Saving::spelled_track))]
-    fn save(&self, to: &mut Sink) {
+    fn save(&self, to: &mut SavedBytes) {
         self.unit.save(to);
         self.key.save(to);
         self.left.save(to);
@@ -258,7 +258,7 @@ impl Saved for Track {
     }
 }
 
-impl Saved for Task {
+impl Saved for ChipTask {
     ghost use Rattle.std.specs.Prelude.{⊤};
     ghost use Rattle.fdc_chip.specs.Saving.{spelled_task};
 
@@ -267,24 +267,24 @@ impl Saved for Task {
     ghost Fits = { λ _. ⊤ };
 
     #[tactic(auto, unfolding(crate::specs::Saving::spelled_task))]
-    fn save(&self, to: &mut Sink) {
+    fn save(&self, to: &mut SavedBytes) {
         match *self {
-            Task::Sent => to.byte(0),
-            Task::Sought { results } => {
+            ChipTask::Sent => to.byte(0),
+            ChipTask::Sought { results } => {
                 to.byte(1);
                 results.save(to);
             }
-            Task::Refused { unit, key, mfm } => {
+            ChipTask::Refused { unit, key, mfm } => {
                 to.byte(2);
                 unit.save(to);
                 key.save(to);
                 mfm.save(to);
             }
-            Task::Verify { left } => {
+            ChipTask::Verify { left } => {
                 to.byte(3);
                 left.save(to);
             }
-            Task::Track { track } => {
+            ChipTask::Track { track } => {
                 to.byte(4);
                 track.save(to);
             }
@@ -292,32 +292,32 @@ impl Saved for Task {
     }
 
     #[tactic(auto, unfolding(crate::specs::Saving::spelled_task))]
-    fn load(from: &mut Source<'_>) -> Task {
+    fn load(from: &mut Source<'_>) -> ChipTask {
         match from.byte() {
             1 => {
                 let results = Results::load(from);
-                Task::Sought { results }
+                ChipTask::Sought { results }
             }
             2 => {
                 let unit = u8::load(from);
                 let key = Chrn::load(from);
                 let mfm = bool::load(from);
-                Task::Refused { unit, key, mfm }
+                ChipTask::Refused { unit, key, mfm }
             }
             3 => {
                 let left = u32::load(from);
-                Task::Verify { left }
+                ChipTask::Verify { left }
             }
             4 => {
                 let track = Track::load(from);
-                Task::Track { track }
+                ChipTask::Track { track }
             }
-            _ => Task::Sent,
+            _ => ChipTask::Sent,
         }
     }
 }
 
-impl Saved for Pace {
+impl Saved for PacedSeek {
     ghost use Rattle.std.specs.Prelude.{⊤};
     ghost use Rattle.fdc_chip.specs.Saving.{spelled_pace};
 
@@ -326,7 +326,7 @@ impl Saved for Pace {
     ghost Fits = { λ _. ⊤ };
 
     #[tactic(auto, unfolding(crate::specs::Saving::spelled_pace))]
-    fn save(&self, to: &mut Sink) {
+    fn save(&self, to: &mut SavedBytes) {
         self.unit.save(to);
         self.cylinder.save(to);
         self.goal.save(to);
@@ -335,13 +335,13 @@ impl Saved for Pace {
     }
 
     #[tactic(auto, unfolding(crate::specs::Saving::spelled_pace))]
-    fn load(from: &mut Source<'_>) -> Pace {
+    fn load(from: &mut Source<'_>) -> PacedSeek {
         let unit = u8::load(from);
         let cylinder = u8::load(from);
         let goal = Option::<u8>::load(from);
         let left = u8::load(from);
         let wait = u16::load(from);
-        Pace {
+        PacedSeek {
             unit,
             cylinder,
             goal,
@@ -351,7 +351,7 @@ impl Saved for Pace {
     }
 }
 
-impl Saved for Stage {
+impl Saved for ChipStage {
     ghost use Rattle.std.specs.Prelude.{⊤};
     ghost use Rattle.fdc_chip.specs.Saving.{spelled_stage};
 
@@ -360,15 +360,15 @@ impl Saved for Stage {
     ghost Fits = { λ _. ⊤ };
 
     #[tactic(auto, unfolding(crate::specs::Saving::spelled_stage))]
-    fn save(&self, to: &mut Sink) {
+    fn save(&self, to: &mut SavedBytes) {
         match *self {
-            Stage::Ready => to.byte(0),
-            Stage::Held => to.byte(1),
-            Stage::Busy { task } => {
+            ChipStage::Ready => to.byte(0),
+            ChipStage::Held => to.byte(1),
+            ChipStage::Busy { task } => {
                 to.byte(2);
                 task.save(to);
             }
-            Stage::Telling { answer, read } => {
+            ChipStage::Telling { answer, read } => {
                 to.byte(3);
                 answer.save(to);
                 read.save(to);
@@ -377,19 +377,19 @@ impl Saved for Stage {
     }
 
     #[tactic(auto, unfolding(crate::specs::Saving::spelled_stage))]
-    fn load(from: &mut Source<'_>) -> Stage {
+    fn load(from: &mut Source<'_>) -> ChipStage {
         match from.byte() {
-            1 => Stage::Held,
+            1 => ChipStage::Held,
             2 => {
-                let task = Task::load(from);
-                Stage::Busy { task }
+                let task = ChipTask::load(from);
+                ChipStage::Busy { task }
             }
             3 => {
-                let answer = Answer::load(from);
+                let answer = ChipAnswer::load(from);
                 let read = u8::load(from);
-                Stage::Telling { answer, read }
+                ChipStage::Telling { answer, read }
             }
-            _ => Stage::Ready,
+            _ => ChipStage::Ready,
         }
     }
 }
@@ -402,7 +402,7 @@ impl<D: SavedWhole + Drop> SavedWhole for Chip<D> {
     ghost Fits = { ChipFits D.Fits };
 
     #[tactic(auto, unfolding(crate::specs::Saving::spelled_chip))]
-    fn save(&self, alloc: Global, to: &mut Sink) {
+    fn save(&self, alloc: Global, to: &mut SavedBytes) {
         to.byte(KIND);
         self.behind.save(alloc, to);
         self.stage.save(to);
@@ -422,7 +422,7 @@ impl<D: SavedWhole + Drop> SavedWhole for Chip<D> {
     fn load(alloc: Global, from: &mut Source<'_>) -> Result<Chip<D>, NoMemory> {
         let _kind = from.byte();
         let behind = Sequencer::load(alloc, from)?;
-        let stage = Stage::load(from);
+        let stage = ChipStage::load(from);
         let order = Order::load(from);
         let count = u8::load(from);
         let interrupts = Interrupts::load(from);
@@ -430,7 +430,7 @@ impl<D: SavedWhole + Drop> SavedWhole for Chip<D> {
         let strapped = bool::load(from);
         let keys = u16::load(from);
         let gated = bool::load(from);
-        let pace = Option::<Pace>::load(from);
+        let pace = Option::<PacedSeek>::load(from);
         let paced = bool::load(from);
         let tape = u8::load(from);
         Ok(Chip {

@@ -1,25 +1,25 @@
 // What is under way.
-use crate::answer::Answer;
+use crate::answer::ChipAnswer;
 use fdc_commands::Results;
 use fdc_registers::{St1, St2};
 use flop_base::Chrn;
 
 /// What is under way.
 #[derive(Clone, Copy, PartialEq, Eq, Debug)]
-pub enum Stage {
+pub enum ChipStage {
     /// Nothing is under way: the bytes of a command come, and heads may move.
     Ready,
     /// A command is whole, and is done once the heads stand.
     Held,
     /// The inner controller executes a command.
-    Busy { task: Task },
+    Busy { task: ChipTask },
     /// The host reads an answer. It has read this many of its bytes.
-    Telling { answer: Answer, read: u8 },
+    Telling { answer: ChipAnswer, read: u8 },
 }
 
 /// What a command of the inner controller is executed for.
 #[derive(Clone, Copy, PartialEq, Eq, Debug)]
-pub enum Task {
+pub enum ChipTask {
     /// The command is the one that the host sent.
     Sent,
     /// A READ ID looks which cylinder passes, after a sector that wasn't found.

@@ -9,7 +9,7 @@ use crate::chip::Chip;
 use crate::code::{MULTITRACK, SKIP, has_bit};
 use crate::order::Order;
 use crate::settings::Settings;
-use crate::stage::{Place, Stage, Task, Track};
+use crate::stage::{ChipStage, ChipTask, Place, Track};
 use drive_model::Inspect;
 use fdc_registers::{St1, St2};
 use flop_base::Chrn;
@@ -157,10 +157,10 @@ impl Track {
 impl<D: Inspect> Chip<D> {
     /// Begins a command of this task: INT falls, the pending result of its drive is dropped, and the inner controller
     /// is given these bytes. `seeks` says whether a seek is implied for it.
-    fn begin(&mut self, task: Task, seeks: bool, bytes: &[u8])
+    fn begin(&mut self, task: ChipTask, seeks: bool, bytes: &[u8])
         ensures { Begins task seeks bytes.now (chip_state D.state self.old) (chip_state D.state self.new) }
     {
-        self.stage = Stage::Busy { task };
+        self.stage = ChipStage::Busy { task };
         let unit = self.order.unit;
         self.interrupts.forget(unit);
         self.remember();
@@ -193,7 +193,11 @@ impl<D: Inspect> Chip<D> {
         ensures { Refuses key mfm (chip_state D.state self.old) (chip_state D.state self.new) }
     {
         let unit = self.order.unit;
-        self.begin(Task::Refused { unit, key, mfm }, false, &[READ_ID, unit]);
+        self.begin(
+            ChipTask::Refused { unit, key, mfm },
+            false,
+            &[READ_ID, unit],
+        );
     }
 
     /// READ ID.
@@ -202,7 +206,7 @@ impl<D: Inspect> Chip<D> {
     {
         if mfm {
             let unit = self.order.unit;
-            self.begin(Task::Sent, false, &[READ_ID, unit]);
+            self.begin(ChipTask::Sent, false, &[READ_ID, unit]);
         } else {
             self.refuse(NO_KEY, false);
         }
@@ -227,7 +231,7 @@ impl<D: Inspect> Chip<D> {
         self.keys = bytes_of_keys(key.h);
         if mfm && is_size(key.c) {
             self.begin(
-                Task::Sent,
+                ChipTask::Sent,
                 false,
                 &[FORMAT_TRACK, unit, key.c, key.h, key.r, key.n],
             );
@@ -244,7 +248,7 @@ impl<D: Inspect> Chip<D> {
     }
 
     /// Begins a command of sectors, for which the inner controller is given the bytes of another command.
-    pub(crate) fn transfer(&mut self, mfm: bool, task: Task, order: Order)
+    pub(crate) fn transfer(&mut self, mfm: bool, task: ChipTask, order: Order)
         ensures { Transfers mfm task (order_bytes order) (chip_state D.state self.old) (chip_state D.state self.new) }
     {
         let Order {
@@ -271,7 +275,7 @@ impl<D: Inspect> Chip<D> {
     {
         let order = self.order;
         let left = order.bytes_verified();
-        self.transfer(mfm, Task::Verify { left }, order.verifying());
+        self.transfer(mfm, ChipTask::Verify { left }, order.verifying());
     }
 
     /// READ TRACK. It begins with a search that ends with the index pulse.
@@ -286,6 +290,6 @@ impl<D: Inspect> Chip<D> {
             n: 6,
         };
         let track = Track::of(self.implies_seeks(), order);
-        self.transfer(mfm, Task::Track { track }, order.reading_one(absent));
+        self.transfer(mfm, ChipTask::Track { track }, order.reading_one(absent));
     }
 }

@@ -6,7 +6,7 @@ ghost use Rattle.fdc_chip.specs.Doing.{is_size};
 ghost use Rattle.fdc_chip.specs.Ending.{without_one, is_same_key, met_key, sector_met, track_faults, results_of_track, with_fault, track_told, track_at, is_over, unread, LooksOn, ReadsOn, EndsAt};
 
 use crate::chip::Chip;
-use crate::stage::{Place, Stage, Task, Track};
+use crate::stage::{ChipStage, ChipTask, Place, Track};
 use crate::starting::is_size;
 use drive_model::Inspect;
 use fdc_commands::Results;
@@ -140,8 +140,8 @@ impl<D: Inspect> Chip<D> {
         ensures { chip_state D.state self.new ≡ track_at track (chip_state D.state self.old) }
     {
         self.behind.imply_seeks(false);
-        self.stage = Stage::Busy {
-            task: Task::Track { track },
+        self.stage = ChipStage::Busy {
+            task: ChipTask::Track { track },
         };
     }
 

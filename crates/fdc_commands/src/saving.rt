@@ -2,7 +2,7 @@
 use crate::Results;
 use fdc_registers::{St0, St1, St2};
 use flop_base::Chrn;
-use saved_state::{Saved, Sink, Source};
+use saved_state::{Saved, SavedBytes, Source};
 
 impl Saved for Results {
     ghost use Rattle.std.specs.Prelude.{⊤};
@@ -13,7 +13,7 @@ impl Saved for Results {
     ghost Fits = { λ _. ⊤ };
 
     #[tactic(auto, unfolding(crate::specs::Saving::spelled_results))]
-    fn save(&self, to: &mut Sink) {
+    fn save(&self, to: &mut SavedBytes) {
         self.st0.save(to);
         self.st1.save(to);
         self.st2.save(to);

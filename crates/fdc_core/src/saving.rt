@@ -5,7 +5,7 @@ use fdc_commands::{CommandBytes, Seeks};
 use fdc_phases::{DataRate, Phase};
 use fdc_registers::{Dor, Fifo};
 use flop_base::NoMemory;
-use saved_state::{Saved, SavedWhole, Sink, Source};
+use saved_state::{Saved, SavedBytes, SavedWhole, Source};
 use std::alloc::Global;
 
 impl SavedWhole for Fdc {
@@ -16,7 +16,7 @@ impl SavedWhole for Fdc {
     ghost Fits = { FdcFits };
 
     #[tactic(auto, unfolding(crate::specs::Saving::spelled_fdc, crate::specs::Saving::spelled_flags))]
-    fn save(&self, alloc: Global, to: &mut Sink) {
+    fn save(&self, alloc: Global, to: &mut SavedBytes) {
         self.dor.save(to);
         self.rate.save(to);
         self.non_dma.save(to);

@@ -10,7 +10,7 @@ use crate::transfers::{Formatting, Reading, Writing};
 use fdc_commands::Results;
 use fdc_stages::{Ending, FormatStage, ReadStage, Search, WriteStage};
 use flop_base::Chrn;
-use saved_state::{Saved, Sink, Source};
+use saved_state::{Saved, SavedBytes, Source};
 
 /// A key as one whose size code is that of a sector; any other size code becomes that of 256 bytes.
 fn sized(key: Chrn) -> SizedKey
@@ -35,7 +35,7 @@ impl Saved for SizedKey {
     ghost Fits = { λ _. ⊤ };
 
     #[tactic(auto, unfolding(crate::specs::Saving::spelled_sized_key))]
-    fn save(&self, to: &mut Sink) {
+    fn save(&self, to: &mut SavedBytes) {
         self.key.save(to);
     }
 
@@ -54,7 +54,7 @@ impl Saved for DataRate {
     ghost Fits = { λ _. ⊤ };
 
     #[tactic(auto, unfolding(crate::specs::Saving::spelled_rate))]
-    fn save(&self, to: &mut Sink) {
+    fn save(&self, to: &mut SavedBytes) {
         match *self {
             DataRate::Kbit500 => to.byte(0),
             DataRate::Kbit300 => to.byte(1),
@@ -83,7 +83,7 @@ impl Saved for Answer {
     ghost Fits = { λ _. ⊤ };
 
     #[tactic(auto, unfolding(crate::specs::Saving::spelled_answer))]
-    fn save(&self, to: &mut Sink) {
+    fn save(&self, to: &mut SavedBytes) {
         match *self {
             Answer::Short { next, last } => {
                 to.byte(0);
@@ -134,7 +134,7 @@ impl Saved for Reading {
     ghost Fits = { λ _. ⊤ };
 
     #[tactic(auto, unfolding(crate::specs::Saving::spelled_reading))]
-    fn save(&self, to: &mut Sink) {
+    fn save(&self, to: &mut SavedBytes) {
         self.wanted.save(to);
         self.last_sector.save(to);
         self.counted.save(to);
@@ -165,7 +165,7 @@ impl Saved for Writing {
     ghost Fits = { λ _. ⊤ };
 
     #[tactic(auto, unfolding(crate::specs::Saving::spelled_writing))]
-    fn save(&self, to: &mut Sink) {
+    fn save(&self, to: &mut SavedBytes) {
         self.wanted.save(to);
         self.deleted.save(to);
         self.last_sector.save(to);
@@ -199,7 +199,7 @@ impl Saved for Formatting {
     ghost Fits = { λ _. ⊤ };
 
     #[tactic(auto, unfolding(crate::specs::Saving::spelled_formatting))]
-    fn save(&self, to: &mut Sink) {
+    fn save(&self, to: &mut SavedBytes) {
         self.counted.save(to);
         self.stage.save(to);
     }
@@ -221,7 +221,7 @@ impl Saved for Task {
     ghost Fits = { λ _. ⊤ };
 
     #[tactic(auto, unfolding(crate::specs::Saving::spelled_task))]
-    fn save(&self, to: &mut Sink) {
+    fn save(&self, to: &mut SavedBytes) {
         match *self {
             Task::ReadId { search } => {
                 to.byte(0);
@@ -274,7 +274,7 @@ impl Saved for Execution {
     ghost Fits = { λ _. ⊤ };
 
     #[tactic(auto, unfolding(crate::specs::Saving::spelled_execution))]
-    fn save(&self, to: &mut Sink) {
+    fn save(&self, to: &mut SavedBytes) {
         self.head_drive.save(to);
         self.steps.save(to);
         self.task.save(to);
@@ -302,7 +302,7 @@ impl Saved for Phase {
     ghost Fits = { λ _. ⊤ };
 
     #[tactic(auto, unfolding(crate::specs::Saving::spelled_phase))]
-    fn save(&self, to: &mut Sink) {
+    fn save(&self, to: &mut SavedBytes) {
         match *self {
             Phase::Command => to.byte(0),
             Phase::Execute { execution } => {

@@ -1,6 +1,6 @@
 // Registers as bytes.
 use crate::{Dor, St0, St1, St2};
-use saved_state::{Saved, Sink, Source};
+use saved_state::{Saved, SavedBytes, Source};
 
 impl Saved for Dor {
     ghost use Rattle.std.specs.Prelude.{⊤};
@@ -10,7 +10,7 @@ impl Saved for Dor {
 
     ghost Fits = { λ _. ⊤ };
 
-    fn save(&self, to: &mut Sink) {
+    fn save(&self, to: &mut SavedBytes) {
         self.0.save(to);
     }
 
@@ -27,7 +27,7 @@ impl Saved for St0 {
 
     ghost Fits = { λ _. ⊤ };
 
-    fn save(&self, to: &mut Sink) {
+    fn save(&self, to: &mut SavedBytes) {
         self.0.save(to);
     }
 
@@ -44,7 +44,7 @@ impl Saved for St1 {
 
     ghost Fits = { λ _. ⊤ };
 
-    fn save(&self, to: &mut Sink) {
+    fn save(&self, to: &mut SavedBytes) {
         self.0.save(to);
     }
 
@@ -61,7 +61,7 @@ impl Saved for St2 {
 
     ghost Fits = { λ _. ⊤ };
 
-    fn save(&self, to: &mut Sink) {
+    fn save(&self, to: &mut SavedBytes) {
         self.0.save(to);
     }
 

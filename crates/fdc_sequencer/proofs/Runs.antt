@@ -14,8 +14,8 @@ use Rattle.fdc_core.specs.declared.controller.Fdc.{Fdc}
 use Rattle.fdc_sequencer.specs.Fronts.{Front, asks_at, asks_outside, interrupts_at, interrupts_outside}
 use Rattle.fdc_sequencer.specs.Moves.{FollowsStep, HasLinesOutside, IsUnderWay, LeapsFront, MovesAlong, MovesOn, StepsFront, RunsFrontWith, RunsFront, is_unwanted, judged_if, passed_over_if}
 use Rattle.fdc_sequencer.specs.declared.stage.Moving.{Moving as MovingSector}
-use Rattle.fdc_sequencer.specs.declared.stage.Stage.{Stage}
-use Rattle.fdc_sequencer.specs.declared.stage.Stage.TheVariants.{Through, Moving}
+use Rattle.fdc_sequencer.specs.declared.stage.FrontStage.{FrontStage}
+use Rattle.fdc_sequencer.specs.declared.stage.FrontStage.TheVariants.{Through, Moving}
 
 pub runs_none : (int drq : Bool) (front : Front) → RunsFrontWith int drq 0 front front
 unfolding RunsFrontWith
@@ -101,7 +101,7 @@ under_way_step front mid under steps holds =
     record {
       between = mid;
       steps = steps;
-      follows = subst (λ (stage : Stage). FollowsStep was stage new new) (sym under.at)
+      follows = subst (λ (stage : FrontStage). FollowsStep was stage new new) (sym under.at)
           (subst (λ ending. MovesOn was (judged_if under.moving ending) under.moving new new) (sym goes) moves);
     }
 
@@ -167,6 +167,6 @@ through_to most front old steps new runs = record {
 pub adapter_runs : (most : ℕ) (front : Front) (steps : ℕ) (new : AdapterState) → front.stage ≡ Through → RunsTo most front.adapter steps new
     → RunsFront most front steps (record front { adapter = new })
 adapter_runs most front steps new is runs =
-    let with : Stage → AdapterState → Front = λ stage adapter. record front { adapter = adapter; stage = stage } in
-    subst (λ (stage : Stage). RunsFront most (with stage front.adapter) steps (with stage new)) (sym is)
+    let with : FrontStage → AdapterState → Front = λ stage adapter. record front { adapter = adapter; stage = stage } in
+    subst (λ (stage : FrontStage). RunsFront most (with stage front.adapter) steps (with stage new)) (sym is)
     (through_to most front front.adapter steps new runs)

@@ -7,11 +7,11 @@ use Rattle.fdc_core.specs.Whole.{mark_of}
 use Rattle.fdc_sequencer.specs.Fronts.{Front, KeepsFront}
 use Rattle.fdc_sequencer.specs.Moves.{FollowsStep, StepsFront}
 use Rattle.fdc_sequencer.specs.Still.{StandsFront, rests_at}
-use Rattle.fdc_sequencer.specs.declared.stage.Stage.{Stage}
-use Rattle.fdc_sequencer.specs.declared.stage.Stage.TheVariants.{Through, Collecting, Seeking, Moving, Telling}
+use Rattle.fdc_sequencer.specs.declared.stage.FrontStage.{FrontStage}
+use Rattle.fdc_sequencer.specs.declared.stage.FrontStage.TheVariants.{Through, Collecting, Seeking, Moving, Telling}
 
 -- nothing is done after the adapter's step
-follows_none : (mark : Option Bool) (stage : Stage) (old new : Front) → rests_at stage ≡ true → FollowsStep mark stage old new → new ≡ old
+follows_none : (mark : Option Bool) (stage : FrontStage) (old new : Front) → rests_at stage ≡ true → FollowsStep mark stage old new → new ≡ old
 follows_none mark Through old new rests follows = follows
 follows_none mark (Collecting opcode) old new rests follows = follows
 follows_none mark (Telling results read) old new rests follows = follows

@@ -25,15 +25,15 @@ use Rattle.fdc_sequencer.specs.declared.opcode.Opcode.{Opcode}
 use Rattle.fdc_sequencer.specs.declared.opcode.Operation.TheVariants.{Read}
 use Rattle.fdc_sequencer.specs.declared.sequencer.Sequencer.{Sequencer}
 use Rattle.fdc_sequencer.specs.declared.stage.Moving.{Moving as MovingSector}
-use Rattle.fdc_sequencer.specs.declared.stage.Stage.{Stage}
-use Rattle.fdc_sequencer.specs.declared.stage.Stage.TheVariants.{Through, Collecting, Seeking, Moving, Telling}
+use Rattle.fdc_sequencer.specs.declared.stage.FrontStage.{FrontStage}
+use Rattle.fdc_sequencer.specs.declared.stage.FrontStage.TheVariants.{Through, Collecting, Seeking, Moving, Telling}
 use Rattle.fdc_sequencer.specs.declared.transfer.Transfer.{Transfer}
 
 -- the adapter, what is done in front of it, and the bytes of the command that comes. The last two fields say whether
 -- seeks are implied: by a strap, or by CONFIGURE
 pub record Front : Type 0 where
   pub adapter : AdapterState
-  pub stage : Stage
+  pub stage : FrontStage
   pub bytes : List ℕ
   pub strapped : Bool
   pub configured : Bool
@@ -87,7 +87,7 @@ with_controller controller old = record old { controller = controller }
 
 -- INT falls when a command of several sectors begins. It rises with the command's results, and stays up until the first
 -- of them is read
-abbrev pub interrupts_at : Stage → Fdc → Bool
+abbrev pub interrupts_at : FrontStage → Fdc → Bool
 interrupts_at Through fdc = interrupts fdc
 interrupts_at (Collecting _) fdc = interrupts fdc
 interrupts_at (Seeking _ _) fdc = false
@@ -98,7 +98,7 @@ abbrev pub interrupts_outside : Front → Bool
 interrupts_outside front = interrupts_at front.stage front.adapter.controller
 
 -- DRQ is up only while bytes of the sector still have to pass
-abbrev pub asks_at : Stage → Fdc → Bool
+abbrev pub asks_at : FrontStage → Fdc → Bool
 asks_at Through fdc = asks fdc
 asks_at (Moving moving) fdc = nat_lt 0 moving.left && asks fdc
 asks_at _ fdc = false
@@ -115,12 +115,12 @@ drive_bit head_drive =
 
 -- the seek bit of the drive whose heads an implied seek moves. No other seek bit shows during a command of several
 -- sectors
-abbrev pub seeking_bit : Stage → ℕ
+abbrev pub seeking_bit : FrontStage → ℕ
 seeking_bit (Seeking transfer _) = drive_bit transfer.head_drive
 seeking_bit _ = 0
 
 -- MSR: busy during a command of several sectors
-abbrev pub status_at : Stage → Fdc → ℕ
+abbrev pub status_at : FrontStage → Fdc → ℕ
 status_at Through fdc = main_status fdc
 status_at (Collecting _) fdc = bit_or (main_status fdc) busy
 status_at (Seeking transfer _) fdc = bit_or busy (drive_bit transfer.head_drive)
@@ -128,7 +128,7 @@ status_at (Moving _) fdc = busy
 status_at (Telling _ _) fdc = bit_or (bit_or rqm dio) busy
 
 -- the data port: the next result byte, or FF if there is none
-abbrev pub byte_at : Stage → Fdc → ℕ
+abbrev pub byte_at : FrontStage → Fdc → ℕ
 byte_at Through fdc = result_byte fdc.phase
 byte_at (Telling results read) fdc = get_or (result_bytes results) read 0xFF
 byte_at _ fdc = 0xFF
@@ -140,7 +140,7 @@ value_outside port front =
     value_read port (lines_at front.adapter) front.adapter.controller)
 
 -- the front after the data port was read. After the seventh result byte, each access is the controller's again
-abbrev pub byte_given : Stage → Front → Front
+abbrev pub byte_given : FrontStage → Front → Front
 byte_given Through old = record old { adapter = with_controller (given old.adapter.controller) old.adapter }
 byte_given (Telling results read) old = record old { stage = if nat_le 6 read then Through else Telling results (read + 1) }
 byte_given _ old = old
@@ -243,7 +243,7 @@ PassesAs None byte old new =
 abbrev pub begins_with : ℕ → Fdc → Option Opcode
 begins_with byte fdc = if is_idle fdc then opcode_of byte else None
 
-abbrev pub TakesByte : Stage → ℕ → Front → Front → Type 0
+abbrev pub TakesByte : FrontStage → ℕ → Front → Front → Type 0
 TakesByte Through byte old new = PassesAs (begins_with byte old.adapter.controller) byte old new
 TakesByte (Collecting opcode) byte old new = Collects opcode byte old new
 TakesByte _ byte old new = new ≡ old
@@ -274,7 +274,7 @@ TakesMoving moving old None new = let fdc = old.adapter.controller in
     ((nat_lt 0 moving.left && (asks fdc && to_memory_of fdc)) ≡ false) × (new ≡ old)
 
 -- the channel takes a byte, if one is asked for in this direction
-abbrev pub TakesAt : Stage → Front → Option ℕ → Front → Type 0
+abbrev pub TakesAt : FrontStage → Front → Option ℕ → Front → Type 0
 TakesAt Through old byte new = Takes old.adapter.controller byte new.adapter.controller × (new ≡ record old { adapter = with_controller new.adapter.controller old.adapter })
 TakesAt (Moving moving) old byte new = TakesMoving moving old byte new
 TakesAt _ old byte new = (byte ≡ None) × (new ≡ old)
@@ -289,7 +289,7 @@ GivesMoving moving byte old false new = let fdc = old.adapter.controller in
     ((nat_lt 0 moving.left && (asks fdc && not (to_memory_of fdc))) ≡ false) × (new ≡ old)
 
 -- the channel gives a byte, if one is asked for in this direction
-abbrev pub GivesAt : Stage → ℕ → Front → Bool → Front → Type 0
+abbrev pub GivesAt : FrontStage → ℕ → Front → Bool → Front → Type 0
 GivesAt Through byte old was new = Gives byte old.adapter.controller was new.adapter.controller × (new ≡ record old { adapter = with_controller new.adapter.controller old.adapter })
 GivesAt (Moving moving) byte old was new = GivesMoving moving byte old was new
 GivesAt _ byte old was new = (was ≡ false) × (new ≡ old)
@@ -298,7 +298,7 @@ abbrev pub GivesFront : ℕ → Front → Bool → Front → Type 0
 GivesFront byte old was new = GivesAt old.stage byte old was new
 
 -- the terminal count comes: the command ends after its sector
-abbrev pub count_told : Stage → Front → Front
+abbrev pub count_told : FrontStage → Front → Front
 count_told Through old = record old { adapter = told_if true old.adapter }
 count_told (Seeking transfer _) old = record old { stage = Seeking transfer true }
 count_told (Moving moving) old = record old { adapter = told_if true old.adapter; stage = Moving (record moving { counted = true }) }

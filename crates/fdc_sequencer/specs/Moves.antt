@@ -11,8 +11,8 @@ use Rattle.fdc_sequencer.specs.Fronts.{Front, with_controller, told_if, BeginsSe
 use Rattle.fdc_sequencer.specs.Transfers.{next_of, is_last, is_other, other_mark, is_skipping, results_told, size_of}
 use Rattle.fdc_sequencer.specs.declared.opcode.Operation.{Operation}
 use Rattle.fdc_sequencer.specs.declared.stage.Moving.{Moving as MovingSector}
-use Rattle.fdc_sequencer.specs.declared.stage.Stage.{Stage}
-use Rattle.fdc_sequencer.specs.declared.stage.Stage.TheVariants.{Seeking, Moving, Telling}
+use Rattle.fdc_sequencer.specs.declared.stage.FrontStage.{FrontStage}
+use Rattle.fdc_sequencer.specs.declared.stage.FrontStage.TheVariants.{Seeking, Moving, Telling}
 use Rattle.fdc_sequencer.specs.declared.transfer.Transfer.{Transfer}
 
 -- ---- the end of a sector
@@ -100,7 +100,7 @@ SeeksOn true transfer counted old new =
 SeeksOn false transfer counted old new = new ≡ old
 
 -- what the front does after the controller's step, before which this mark of a field was known
-abbrev pub FollowsStep : Option Bool → Stage → Front → Front → Type 0
+abbrev pub FollowsStep : Option Bool → FrontStage → Front → Front → Type 0
 FollowsStep mark (Seeking transfer counted) old new = SeeksOn (has_ended_seek old.adapter.controller.seeks) transfer counted old new
 FollowsStep mark (Moving moving) old new = MovesOn mark (judged_if moving (ending_told old.adapter.controller)) moving old new
 FollowsStep mark _ old new = new ≡ old

@@ -8,8 +8,8 @@ use Rattle.fdc_sequencer.specs.declared.opcode.Operation.TheVariants.{Read, Writ
 use Rattle.fdc_sequencer.specs.declared.opcode.Opcode.{Opcode}
 use Rattle.fdc_sequencer.specs.declared.transfer.Transfer.{Transfer}
 use Rattle.fdc_sequencer.specs.declared.stage.Moving.{Moving}
-use Rattle.fdc_sequencer.specs.declared.stage.Stage.{Stage}
-use Rattle.fdc_sequencer.specs.declared.stage.Stage.TheVariants as stage
+use Rattle.fdc_sequencer.specs.declared.stage.FrontStage.{FrontStage}
+use Rattle.fdc_sequencer.specs.declared.stage.FrontStage.TheVariants as stage
 use Rattle.fdc_sequencer.specs.declared.sequencer.Sequencer.{Sequencer}
 
 -- what a command does with its sectors
@@ -34,7 +34,7 @@ spelled_moving moving rest =
     (spelled_flag moving.passed_over (spelled_flag moving.skipped rest))))
 
 -- what is done in front of the controller
-unfoldable pub spelled_stage : Stage → List ℕ → List ℕ
+unfoldable pub spelled_stage : FrontStage → List ℕ → List ℕ
 spelled_stage stage.Through rest = 0 ∷ rest
 spelled_stage (stage.Collecting opcode) rest = 1 ∷ spelled_opcode opcode rest
 spelled_stage (stage.Seeking transfer counted) rest = 2 ∷ spelled_transfer transfer (spelled_flag counted rest)

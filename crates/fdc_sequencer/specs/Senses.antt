@@ -4,16 +4,16 @@ use Rattle.fdc_adapter.specs.Senses.{pending_result, after_result}
 use Rattle.fdc_core.specs.Whole.{is_idle, recalibrated_within}
 use Rattle.fdc_core.specs.declared.controller.Fdc.{Fdc}
 use Rattle.fdc_sequencer.specs.Fronts.{Front, with_controller}
-use Rattle.fdc_sequencer.specs.declared.stage.Stage.{Stage}
-use Rattle.fdc_sequencer.specs.declared.stage.Stage.TheVariants.{Through}
+use Rattle.fdc_sequencer.specs.declared.stage.FrontStage.{FrontStage}
+use Rattle.fdc_sequencer.specs.declared.stage.FrontStage.TheVariants.{Through}
 
 -- each access is the controller's: no command of several sectors comes, is under way or gives results
-abbrev pub is_through : Stage → Bool
+abbrev pub is_through : FrontStage → Bool
 is_through Through = true
 is_through _ = false
 
 -- no command of several sectors is under way, and the controller takes the first byte of a command
-abbrev pub is_ready_at : Stage → Fdc → Bool
+abbrev pub is_ready_at : FrontStage → Fdc → Bool
 is_ready_at Through fdc = is_idle fdc
 is_ready_at _ fdc = false
 
@@ -21,7 +21,7 @@ abbrev pub is_ready : Front → Bool
 is_ready front = is_ready_at front.stage front.adapter.controller
 
 -- the result that SENSE INTERRUPT would give
-abbrev pub pending_at : Stage → Fdc → Option (ℕ × ℕ)
+abbrev pub pending_at : FrontStage → Fdc → Option (ℕ × ℕ)
 pending_at Through fdc = pending_result fdc
 pending_at _ fdc = None
 
@@ -29,7 +29,7 @@ abbrev pub pending_outside : Front → Option (ℕ × ℕ)
 pending_outside front = pending_at front.stage front.adapter.controller
 
 -- the front after that result was taken
-abbrev pub sensed_at : Stage → Front → Front
+abbrev pub sensed_at : FrontStage → Front → Front
 sensed_at Through old = record old { adapter = with_controller (after_result old.adapter.controller) old.adapter }
 sensed_at _ old = old
 
@@ -37,7 +37,7 @@ abbrev pub sensed_outside : Front → Front
 sensed_outside old = sensed_at old.stage old
 
 -- a RECALIBRATE begins that gives at most this many pulses, if the first byte of a command may come and no heads move
-abbrev pub recalibrated_at : Stage → ℕ → ℕ → Front → Front
+abbrev pub recalibrated_at : FrontStage → ℕ → ℕ → Front → Front
 recalibrated_at Through drive pulses old =
     record old { adapter = with_controller (recalibrated_within drive pulses old.adapter.controller) old.adapter }
 recalibrated_at _ drive pulses old = old

@@ -3,11 +3,11 @@ use Rattle.std.specs.Prelude.{Bool, true, false, if◌then◌else◌}
 use Rattle.fdc_core.specs.Courses.{is_at_rest}
 use Rattle.fdc_sequencer.specs.Fronts.{Front, KeepsFront}
 use Rattle.fdc_sequencer.specs.Moves.{StepsFront}
-use Rattle.fdc_sequencer.specs.declared.stage.Stage.{Stage}
-use Rattle.fdc_sequencer.specs.declared.stage.Stage.TheVariants.{Seeking, Moving}
+use Rattle.fdc_sequencer.specs.declared.stage.FrontStage.{FrontStage}
+use Rattle.fdc_sequencer.specs.declared.stage.FrontStage.TheVariants.{Seeking, Moving}
 
 -- a device step is the adapter's, and nothing is done after it
-abbrev pub rests_at : Stage → Bool
+abbrev pub rests_at : FrontStage → Bool
 rests_at (Seeking _ _) = false
 rests_at (Moving _) = false
 rests_at _ = true

@@ -4,7 +4,7 @@ ghost use Rattle.fdc_adapter.specs.Adapters.{controller_of, SameDrives};
 ghost use Rattle.fdc_sequencer.specs.Fronts.{front_state, adapter_of, TakesFront, TakesMoving, GivesFront, GivesMoving, passed_one, told_front};
 
 use crate::sequencer::Sequencer;
-use crate::stage::{Moving, Stage};
+use crate::stage::{FrontStage, Moving};
 use drive_model::Inspect;
 
 impl<D: Inspect> Sequencer<D> {
@@ -14,8 +14,8 @@ impl<D: Inspect> Sequencer<D> {
         ensures drives { SameDrives (adapter_of self.old) (adapter_of self.new) }
     {
         match self.stage {
-            Stage::Through => self.adapter.dack_read(),
-            Stage::Moving { moving } => self.take_for(moving),
+            FrontStage::Through => self.adapter.dack_read(),
+            FrontStage::Moving { moving } => self.take_for(moving),
             _ => None,
         }
     }
@@ -39,8 +39,8 @@ impl<D: Inspect> Sequencer<D> {
         ensures drives { SameDrives (adapter_of self.old) (adapter_of self.new) }
     {
         match self.stage {
-            Stage::Through => self.adapter.dack_write(byte),
-            Stage::Moving { moving } => self.give_for(moving, byte),
+            FrontStage::Through => self.adapter.dack_write(byte),
+            FrontStage::Moving { moving } => self.give_for(moving, byte),
             _ => false,
         }
     }
@@ -67,7 +67,7 @@ impl<D: Inspect> Sequencer<D> {
         if left == 0 {
             self.adapter.tc();
         }
-        self.stage = Stage::Moving {
+        self.stage = FrontStage::Moving {
             moving: Moving { left, ..moving },
         };
     }
@@ -78,16 +78,16 @@ impl<D: Inspect> Sequencer<D> {
         ensures drives { SameDrives (adapter_of self.old) (adapter_of self.new) }
     {
         match self.stage {
-            Stage::Through => self.adapter.tc(),
-            Stage::Seeking { transfer, .. } => {
-                self.stage = Stage::Seeking {
+            FrontStage::Through => self.adapter.tc(),
+            FrontStage::Seeking { transfer, .. } => {
+                self.stage = FrontStage::Seeking {
                     transfer,
                     counted: true,
                 };
             }
-            Stage::Moving { moving } => {
+            FrontStage::Moving { moving } => {
                 self.adapter.tc();
-                self.stage = Stage::Moving {
+                self.stage = FrontStage::Moving {
                     moving: Moving {
                         counted: true,
                         ..moving

@@ -4,7 +4,7 @@ ghost use Rattle.fdc_sequencer.specs.Fronts.{front_state, sector_alone, ReadsSec
 
 use crate::opcode::{Opcode, Operation};
 use crate::sequencer::Sequencer;
-use crate::stage::{Moving, Stage};
+use crate::stage::{FrontStage, Moving};
 use crate::transfer::Transfer;
 use drive_model::Inspect;
 use flop_base::Chrn;
@@ -40,7 +40,7 @@ impl<D: Inspect> Sequencer<D> {
     {
         let transfer = sector_alone(head_drive, key);
         self.adapter.read_field(head_drive, key, key.r);
-        self.stage = Stage::Moving {
+        self.stage = FrontStage::Moving {
             moving: Moving::of(transfer, false, false),
         };
     }

@@ -21,5 +21,5 @@ mod transfer;
 
 pub use opcode::{Opcode, Operation};
 pub use sequencer::Sequencer;
-pub use stage::{Moving, Stage};
+pub use stage::{FrontStage, Moving};
 pub use transfer::{Transfer, drive_bit};

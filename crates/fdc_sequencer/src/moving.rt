@@ -8,7 +8,7 @@ ghost use Rattle.fdc_sequencer.specs.Fronts.{front_state, adapter_of, told_if, b
 ghost use Rattle.fdc_sequencer.specs.Moves.{StepsFront, FollowsStep, MovesOn, EndsSector, SeeksOn, passed_over_if, would_go_on, goes_on, is_unwanted, judged, judged_if, results_behind, results_failed, has_met_other, has_failed_other, is_bad_other};
 
 use crate::sequencer::Sequencer;
-use crate::stage::{Moving, Stage};
+use crate::stage::{FrontStage, Moving};
 use crate::transfer::Transfer;
 use drive_model::Inspect;
 use fdc_commands::{Accepted, Results};
@@ -30,8 +30,8 @@ impl<D: Inspect> Sequencer<D> {
         ensures { FollowsStep mark self.old.stage (front_state D.state self.old) (front_state D.state self.new) }
     {
         match self.stage {
-            Stage::Seeking { transfer, counted } => self.follow_seek(transfer, counted),
-            Stage::Moving { moving } => self.follow_sector(mark, moving),
+            FrontStage::Seeking { transfer, counted } => self.follow_seek(transfer, counted),
+            FrontStage::Moving { moving } => self.follow_sector(mark, moving),
             _ => {}
         }
     }
@@ -65,7 +65,7 @@ impl<D: Inspect> Sequencer<D> {
         ensures { front_state D.state self.new ≡ passed_over_if true moving (front_state D.state self.old) }
     {
         self.adapter.tc();
-        self.stage = Stage::Moving {
+        self.stage = FrontStage::Moving {
             moving: Moving {
                 left: 0,
                 passed_over: true,
@@ -91,9 +91,9 @@ impl<D: Inspect> Sequencer<D> {
 
     /// Lets the host read results.
     fn tell(&mut self, results: Results)
-        ensures { self.new ≡ record self.old { stage = Stage.Telling results 0 } }
+        ensures { self.new ≡ record self.old { stage = FrontStage.Telling results 0 } }
     {
-        self.stage = Stage::Telling { results, read: 0 };
+        self.stage = FrontStage::Telling { results, read: 0 };
     }
 
     /// The controller's own command for a sector begins.
@@ -111,11 +111,11 @@ impl<D: Inspect> Sequencer<D> {
             transfer counted passed_over (front_state D.state self.old).adapter (front_state D.state self.old) }
     {
         if !self.adapter.is_executing() {
-            self.stage = Stage::Through;
+            self.stage = FrontStage::Through;
             return;
         }
         self.tell_if(counted);
-        self.stage = Stage::Moving {
+        self.stage = FrontStage::Moving {
             moving: Moving::of(transfer, counted, passed_over),
         };
     }

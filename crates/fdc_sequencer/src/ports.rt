@@ -6,7 +6,7 @@ ghost use Rattle.fdc_sequencer.specs.Opcodes.{plain_code};
 
 use crate::opcode::Opcode;
 use crate::sequencer::Sequencer;
-use crate::stage::Stage;
+use crate::stage::FrontStage;
 use crate::transfer::{Transfer, drive_bit};
 use drive_model::Inspect;
 use fdc_commands::{Accepted, Command, CommandBytes, Results};
@@ -49,13 +49,13 @@ impl<D: Inspect> Sequencer<D> {
         ensures drives { SameDrives (adapter_of self.old) (adapter_of self.new) }
     {
         match self.stage {
-            Stage::Through => self.adapter.read(STATUS),
-            Stage::Collecting { .. } => Msr(self.adapter.read(STATUS)).union(Msr::BUSY).bits(),
-            Stage::Seeking { transfer, .. } => Msr::BUSY
+            FrontStage::Through => self.adapter.read(STATUS),
+            FrontStage::Collecting { .. } => Msr(self.adapter.read(STATUS)).union(Msr::BUSY).bits(),
+            FrontStage::Seeking { transfer, .. } => Msr::BUSY
                 .union(drive_bit(transfer.head_drive))
                 .bits(),
-            Stage::Moving { .. } => Msr::BUSY.bits(),
-            Stage::Telling { .. } => Msr::RQM.union(Msr::DIO).union(Msr::BUSY).bits(),
+            FrontStage::Moving { .. } => Msr::BUSY.bits(),
+            FrontStage::Telling { .. } => Msr::RQM.union(Msr::DIO).union(Msr::BUSY).bits(),
         }
     }
 
@@ -66,8 +66,8 @@ impl<D: Inspect> Sequencer<D> {
         ensures drives { SameDrives (adapter_of self.old) (adapter_of self.new) }
     {
         match self.stage {
-            Stage::Through => self.adapter.read(DATA),
-            Stage::Telling { results, read } => {
+            FrontStage::Through => self.adapter.read(DATA),
+            FrontStage::Telling { results, read } => {
                 self.stage = after_byte(results, read);
                 match results.bytes().get(usize::from(read)) {
                     Some(byte) => *byte,
@@ -87,7 +87,7 @@ impl<D: Inspect> Sequencer<D> {
             return;
         }
         if Fdc::is_reset_by(port, value) {
-            self.stage = Stage::Through;
+            self.stage = FrontStage::Through;
             self.configured = false;
         }
         self.adapter.write(port, value);
@@ -98,8 +98,8 @@ impl<D: Inspect> Sequencer<D> {
         ensures { TakesByte self.old.stage byte (front_state D.state self.old) (front_state D.state self.new) }
     {
         match self.stage {
-            Stage::Through => self.pass_byte(byte),
-            Stage::Collecting { opcode } => {
+            FrontStage::Through => self.pass_byte(byte),
+            FrontStage::Collecting { opcode } => {
                 let accepted = self.bytes.accept(byte);
                 self.collect(opcode, accepted);
             }
@@ -138,13 +138,13 @@ impl<D: Inspect> Sequencer<D> {
     #[tactic(auto, using(crate::proofs::Codes::plain_begins))]
     fn begin_bytes(&mut self, opcode: Opcode)
         ensures { front_state D.state self.new ≡ record (front_state D.state self.old) {
-          stage = Stage.Collecting opcode;
+          stage = FrontStage.Collecting opcode;
           bytes = plain_code opcode.operation ∷ [];
         } }
     {
         self.bytes = CommandBytes::new();
         self.bytes.accept(opcode.plain());
-        self.stage = Stage::Collecting { opcode };
+        self.stage = FrontStage::Collecting { opcode };
     }
 
     /// Does what the bytes of a command came to.
@@ -165,7 +165,7 @@ impl<D: Inspect> Sequencer<D> {
     fn refuse(&mut self)
         ensures { Refuses (front_state D.state self.old) (front_state D.state self.new) }
     {
-        self.stage = Stage::Through;
+        self.stage = FrontStage::Through;
         self.adapter.take_accepted(Accepted::Invalid);
     }
 
@@ -176,7 +176,7 @@ impl<D: Inspect> Sequencer<D> {
         match transfer {
             Some(transfer) if transfer.seeks => self.seek_first(transfer),
             Some(transfer) => self.begin_sector(transfer, false, false),
-            None => self.stage = Stage::Through,
+            None => self.stage = FrontStage::Through,
         }
     }
 
@@ -189,24 +189,24 @@ impl<D: Inspect> Sequencer<D> {
             ncn: transfer.key.c,
         }));
         self.stage = if self.adapter.is_idle() {
-            Stage::Seeking {
+            FrontStage::Seeking {
                 transfer,
                 counted: false,
             }
         } else {
-            Stage::Through
+            FrontStage::Through
         };
     }
 }
 
 /// The stage after a result byte was read.
-fn after_byte(results: Results, read: u8) -> Stage
-    ensures { result ≡ (if nat_le 6 read then Stage.Through else Stage.Telling results (read + 1)) }
+fn after_byte(results: Results, read: u8) -> FrontStage
+    ensures { result ≡ (if nat_le 6 read then FrontStage.Through else FrontStage.Telling results (read + 1)) }
 {
     if read >= LAST_RESULT {
-        return Stage::Through;
+        return FrontStage::Through;
     }
-    Stage::Telling {
+    FrontStage::Telling {
         results,
         read: read + 1,
     }

@@ -1,12 +1,12 @@
 // A sequencer as bytes.
 use crate::opcode::{Opcode, Operation};
 use crate::sequencer::Sequencer;
-use crate::stage::{Moving, Stage};
+use crate::stage::{FrontStage, Moving};
 use crate::transfer::Transfer;
 use fdc_adapter::DisketteAdapter;
 use fdc_commands::{CommandBytes, Results};
 use flop_base::{Chrn, NoMemory};
-use saved_state::{Saved, SavedWhole, Sink, Source};
+use saved_state::{Saved, SavedBytes, SavedWhole, Source};
 use std::alloc::Global;
 
 /// What the bytes of a sequencer begin with.
@@ -21,7 +21,7 @@ impl Saved for Operation {
     ghost Fits = { λ _. ⊤ };
 
     #[tactic(auto, unfolding(crate::specs::Saving::spelled_operation))]
-    fn save(&self, to: &mut Sink) {
+    fn save(&self, to: &mut SavedBytes) {
         match *self {
             Operation::Read { deleted, skip } => {
                 to.byte(0);
@@ -60,7 +60,7 @@ impl Saved for Opcode {
     ghost Fits = { λ _. ⊤ };
 
     #[tactic(auto, unfolding(crate::specs::Saving::spelled_opcode))]
-    fn save(&self, to: &mut Sink) {
+    fn save(&self, to: &mut SavedBytes) {
         self.operation.save(to);
         self.multitrack.save(to);
     }
@@ -85,7 +85,7 @@ impl Saved for Transfer {
     ghost Fits = { λ _. ⊤ };
 
     #[tactic(auto, unfolding(crate::specs::Saving::spelled_transfer))]
-    fn save(&self, to: &mut Sink) {
+    fn save(&self, to: &mut SavedBytes) {
         self.opcode.save(to);
         self.head_drive.save(to);
         self.key.save(to);
@@ -125,7 +125,7 @@ impl Saved for Moving {
     ghost Fits = { λ _. ⊤ };
 
     #[tactic(auto, unfolding(crate::specs::Saving::spelled_moving))]
-    fn save(&self, to: &mut Sink) {
+    fn save(&self, to: &mut SavedBytes) {
         self.transfer.save(to);
         self.left.save(to);
         self.counted.save(to);
@@ -150,7 +150,7 @@ impl Saved for Moving {
     }
 }
 
-impl Saved for Stage {
+impl Saved for FrontStage {
     ghost use Rattle.std.specs.Prelude.{⊤};
     ghost use Rattle.fdc_sequencer.specs.Saving.{spelled_stage};
 
@@ -159,23 +159,23 @@ impl Saved for Stage {
     ghost Fits = { λ _. ⊤ };
 
     #[tactic(auto, unfolding(crate::specs::Saving::spelled_stage))]
-    fn save(&self, to: &mut Sink) {
+    fn save(&self, to: &mut SavedBytes) {
         match *self {
-            Stage::Through => to.byte(0),
-            Stage::Collecting { opcode } => {
+            FrontStage::Through => to.byte(0),
+            FrontStage::Collecting { opcode } => {
                 to.byte(1);
                 opcode.save(to);
             }
-            Stage::Seeking { transfer, counted } => {
+            FrontStage::Seeking { transfer, counted } => {
                 to.byte(2);
                 transfer.save(to);
                 counted.save(to);
             }
-            Stage::Moving { moving } => {
+            FrontStage::Moving { moving } => {
                 to.byte(3);
                 moving.save(to);
             }
-            Stage::Telling { results, read } => {
+            FrontStage::Telling { results, read } => {
                 to.byte(4);
                 results.save(to);
                 read.save(to);
@@ -184,27 +184,27 @@ impl Saved for Stage {
     }
 
     #[tactic(auto, unfolding(crate::specs::Saving::spelled_stage))]
-    fn load(from: &mut Source<'_>) -> Stage {
+    fn load(from: &mut Source<'_>) -> FrontStage {
         match from.byte() {
             1 => {
                 let opcode = Opcode::load(from);
-                Stage::Collecting { opcode }
+                FrontStage::Collecting { opcode }
             }
             2 => {
                 let transfer = Transfer::load(from);
                 let counted = bool::load(from);
-                Stage::Seeking { transfer, counted }
+                FrontStage::Seeking { transfer, counted }
             }
             3 => {
                 let moving = Moving::load(from);
-                Stage::Moving { moving }
+                FrontStage::Moving { moving }
             }
             4 => {
                 let results = Results::load(from);
                 let read = u8::load(from);
-                Stage::Telling { results, read }
+                FrontStage::Telling { results, read }
             }
-            _ => Stage::Through,
+            _ => FrontStage::Through,
         }
     }
 }
@@ -217,7 +217,7 @@ impl<D: SavedWhole + Drop> SavedWhole for Sequencer<D> {
     ghost Fits = { SequencerFits D.Fits };
 
     #[tactic(auto, unfolding(crate::specs::Saving::spelled_sequencer))]
-    fn save(&self, alloc: Global, to: &mut Sink) {
+    fn save(&self, alloc: Global, to: &mut SavedBytes) {
         to.byte(KIND);
         self.adapter.save(alloc, to);
         self.stage.save(to);
@@ -230,7 +230,7 @@ impl<D: SavedWhole + Drop> SavedWhole for Sequencer<D> {
     fn load(alloc: Global, from: &mut Source<'_>) -> Result<Sequencer<D>, NoMemory> {
         let _kind = from.byte();
         let adapter = DisketteAdapter::load(alloc, from)?;
-        let stage = Stage::load(from);
+        let stage = FrontStage::load(from);
         let bytes = CommandBytes::load(from);
         let strapped = bool::load(from);
         let configured = bool::load(from);

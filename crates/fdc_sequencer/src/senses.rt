@@ -6,7 +6,7 @@ ghost use Rattle.fdc_sequencer.specs.Fronts.{front_state, adapter_of};
 ghost use Rattle.fdc_sequencer.specs.Senses.{is_ready, is_through, pending_outside, recalibrated_outside, sensed_outside};
 
 use crate::sequencer::Sequencer;
-use crate::stage::Stage;
+use crate::stage::FrontStage;
 use drive_model::Inspect;
 
 impl<D: Inspect> Sequencer<D> {
@@ -15,7 +15,7 @@ impl<D: Inspect> Sequencer<D> {
         ensures { result ≡ is_ready (front_state D.state self.now) }
     {
         match self.stage {
-            Stage::Through => self.adapter.is_idle(),
+            FrontStage::Through => self.adapter.is_idle(),
             _ => false,
         }
     }
@@ -24,7 +24,7 @@ impl<D: Inspect> Sequencer<D> {
     pub fn is_through(&self) -> bool
         ensures { result ≡ is_through (front_state D.state self.now).stage }
     {
-        matches!(self.stage, Stage::Through)
+        matches!(self.stage, FrontStage::Through)
     }
 
     /// Whether DOR lets INT and DRQ out.
@@ -42,7 +42,7 @@ impl<D: Inspect> Sequencer<D> {
         ensures drives { SameDrives (adapter_of self.old) (adapter_of self.new) }
     {
         match self.stage {
-            Stage::Through => self.adapter.sense(),
+            FrontStage::Through => self.adapter.sense(),
             _ => None,
         }
     }
@@ -53,7 +53,7 @@ impl<D: Inspect> Sequencer<D> {
         ensures after { front_state D.state self.new ≡ recalibrated_outside drive pulses (front_state D.state self.old) }
         ensures drives { SameDrives (adapter_of self.old) (adapter_of self.new) }
     {
-        if let Stage::Through = self.stage {
+        if let FrontStage::Through = self.stage {
             self.adapter.recalibrate_within(drive, pulses);
         }
     }

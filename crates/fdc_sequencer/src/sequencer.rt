@@ -6,7 +6,7 @@ ghost use Rattle.fdc_core.specs.Whole.{ending_told, mark_of};
 ghost use Rattle.fdc_sequencer.specs.Fronts.{front_state, adapter_of, with_seeks, IsNewFront, interrupts_outside, asks_outside};
 ghost use Rattle.fdc_sequencer.specs.Moves.{HasLinesOutside, IsUnderWay, LeapsFront, RunsFront, RunsFrontWith, is_unwanted};
 
-use crate::stage::{Moving, Stage};
+use crate::stage::{FrontStage, Moving};
 use drive_model::Inspect;
 use fdc_adapter::DisketteAdapter;
 use fdc_commands::CommandBytes;
@@ -17,7 +17,7 @@ use std::alloc::Global;
 #[derive(Drop)]
 pub struct Sequencer<D> {
     pub(crate) adapter: DisketteAdapter<D>,
-    pub(crate) stage: Stage,
+    pub(crate) stage: FrontStage,
     /// The bytes of the command that comes. They begin with the code of the controller's own command.
     pub(crate) bytes: CommandBytes,
     /// Whether a strap of the adapter implies seeks.
@@ -33,7 +33,7 @@ impl<D: Inspect> Sequencer<D> {
     {
         Ok(Sequencer {
             adapter: DisketteAdapter::new(alloc, bay0, bay1)?,
-            stage: Stage::Through,
+            stage: FrontStage::Through,
             bytes: CommandBytes::new(),
             strapped: false,
             configured: false,
@@ -63,9 +63,9 @@ impl<D: Inspect> Sequencer<D> {
         ensures { result ≡ interrupts_outside (front_state D.state self.now) }
     {
         match self.stage {
-            Stage::Through | Stage::Collecting { .. } => self.adapter.int(),
-            Stage::Seeking { .. } | Stage::Moving { .. } => false,
-            Stage::Telling { read, .. } => read == 0 && self.adapter.is_gated(),
+            FrontStage::Through | FrontStage::Collecting { .. } => self.adapter.int(),
+            FrontStage::Seeking { .. } | FrontStage::Moving { .. } => false,
+            FrontStage::Telling { read, .. } => read == 0 && self.adapter.is_gated(),
         }
     }
 
@@ -74,8 +74,8 @@ impl<D: Inspect> Sequencer<D> {
         ensures { result ≡ asks_outside (front_state D.state self.now) }
     {
         match self.stage {
-            Stage::Through => self.adapter.drq(),
-            Stage::Moving { moving } => moving.left > 0 && self.adapter.drq(),
+            FrontStage::Through => self.adapter.drq(),
+            FrontStage::Moving { moving } => moving.left > 0 && self.adapter.drq(),
             _ => false,
         }
     }
@@ -100,7 +100,7 @@ impl<D: Inspect> Sequencer<D> {
         ensures { RunsFront most (front_state D.state self.old) result (front_state D.state self.new) }
     {
         match self.stage {
-            Stage::Through => self.run_through(most),
+            FrontStage::Through => self.run_through(most),
             _ => self.run_on(most),
         }
     }
@@ -108,7 +108,7 @@ impl<D: Inspect> Sequencer<D> {
     /// Does what `run` does, if nothing is done after a step and the lines are the adapter's. The adapter makes many
     /// steps at once.
     fn run_through(&mut self, most: u32) -> u32
-        requires { self.old.stage ≡ Stage.Through }
+        requires { self.old.stage ≡ FrontStage.Through }
         ensures { RunsFront most (front_state D.state self.old) result (front_state D.state self.new) }
     {
         self.adapter.run(most)
@@ -164,7 +164,7 @@ impl<D: Inspect> Sequencer<D> {
         ensures { result ≡ true → IsUnderWay (front_state D.state self.now) }
     {
         match self.stage {
-            Stage::Moving { moving } => self.goes_along(moving),
+            FrontStage::Moving { moving } => self.goes_along(moving),
             _ => false,
         }
     }

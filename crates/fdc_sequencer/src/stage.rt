@@ -20,7 +20,7 @@ pub struct Moving {
 
 /// What is done in front of the controller.
 #[derive(Clone, Copy, PartialEq, Eq, Debug)]
-pub enum Stage {
+pub enum FrontStage {
     /// Nothing is done: each access is the controller's.
     Through,
     /// The bytes of a command with this code are coming.

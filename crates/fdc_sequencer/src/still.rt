@@ -6,7 +6,7 @@ ghost use Rattle.fdc_sequencer.specs.Ranges.{HasByteNumbers, HasByteRecords};
 ghost use Rattle.fdc_sequencer.specs.Still.{rests_at, stands_at, StandsFront};
 
 use crate::sequencer::Sequencer;
-use crate::stage::Stage;
+use crate::stage::FrontStage;
 use crate::transfer::Transfer;
 use drive_model::Inspect;
 
@@ -25,14 +25,14 @@ impl Transfer {
     }
 }
 
-impl Stage {
+impl FrontStage {
     /// The numbers of a command of several sectors that is under way are bytes. The function does nothing.
     fn ranges(&self)
         ensures { HasByteNumbers self.now }
     {
         match self {
-            Stage::Seeking { transfer, .. } => transfer.ranges(),
-            Stage::Moving { moving } => moving.transfer.ranges(),
+            FrontStage::Seeking { transfer, .. } => transfer.ranges(),
+            FrontStage::Moving { moving } => moving.transfer.ranges(),
             _ => {}
         }
     }
@@ -53,7 +53,7 @@ impl<D: Inspect> Sequencer<D> {
         ensures { result ≡ rests_at (front_state D.state self.now).stage }
     {
         match self.stage {
-            Stage::Seeking { .. } | Stage::Moving { .. } => false,
+            FrontStage::Seeking { .. } | FrontStage::Moving { .. } => false,
             _ => true,
         }
     }

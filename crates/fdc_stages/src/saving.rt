@@ -2,7 +2,7 @@
 use crate::ending::Ending;
 use crate::reading::ReadStage;
 use crate::searching::Search;
-use saved_state::{Saved, Sink, Source};
+use saved_state::{Saved, SavedBytes, Source};
 use track_separator::Separator;
 
 impl Saved for Ending {
@@ -14,7 +14,7 @@ impl Saved for Ending {
     ghost Fits = { λ _. ⊤ };
 
     #[tactic(auto, unfolding(crate::specs::Saving::spelled_ending))]
-    fn save(&self, to: &mut Sink) {
+    fn save(&self, to: &mut SavedBytes) {
         match *self {
             Ending::Done { deleted } => {
                 to.byte(0);
@@ -59,7 +59,7 @@ impl Saved for Search {
     ghost Fits = { λ _. ⊤ };
 
     #[tactic(auto, unfolding(crate::specs::Saving::spelled_search))]
-    fn save(&self, to: &mut Sink) {
+    fn save(&self, to: &mut SavedBytes) {
         self.separator.save(to);
         self.turned.save(to);
         self.marked.save(to);
@@ -87,7 +87,7 @@ impl Saved for ReadStage {
     ghost Fits = { λ _. ⊤ };
 
     #[tactic(auto, unfolding(crate::specs::Saving::spelled_read))]
-    fn save(&self, to: &mut Sink) {
+    fn save(&self, to: &mut SavedBytes) {
         match *self {
             ReadStage::Search(search) => {
                 to.byte(0);

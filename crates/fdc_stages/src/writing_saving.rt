@@ -4,7 +4,7 @@ use crate::formatting::{FormatPart, FormatStage};
 use crate::window::{Part, Window};
 use crate::writing::WriteStage;
 use flop_base::Chrn;
-use saved_state::{Saved, Sink, Source};
+use saved_state::{Saved, SavedBytes, Source};
 use track_format::FormatStream;
 
 impl Saved for Part {
@@ -16,7 +16,7 @@ impl Saved for Part {
     ghost Fits = { λ _. ⊤ };
 
     #[tactic(auto, unfolding(crate::specs::WritingSaving::spelled_part))]
-    fn save(&self, to: &mut Sink) {
+    fn save(&self, to: &mut SavedBytes) {
         match *self {
             Part::Sync { more } => {
                 to.byte(0);
@@ -67,7 +67,7 @@ impl Saved for Window {
     ghost Fits = { λ _. ⊤ };
 
     #[tactic(auto, unfolding(crate::specs::WritingSaving::spelled_window))]
-    fn save(&self, to: &mut Sink) {
+    fn save(&self, to: &mut SavedBytes) {
         self.deleted.save(to);
         self.more.save(to);
         self.part.save(to);
@@ -101,7 +101,7 @@ impl Saved for WriteStage {
     ghost Fits = { λ _. ⊤ };
 
     #[tactic(auto, unfolding(crate::specs::WritingSaving::spelled_write))]
-    fn save(&self, to: &mut Sink) {
+    fn save(&self, to: &mut SavedBytes) {
         match *self {
             WriteStage::Search(search) => {
                 to.byte(0);
@@ -140,7 +140,7 @@ impl Saved for FormatPart {
     ghost Fits = { λ _. ⊤ };
 
     #[tactic(auto, unfolding(crate::specs::WritingSaving::spelled_format_part))]
-    fn save(&self, to: &mut Sink) {
+    fn save(&self, to: &mut SavedBytes) {
         match *self {
             FormatPart::Await => to.byte(0),
             FormatPart::Due => to.byte(1),
@@ -169,7 +169,7 @@ impl Saved for FormatStage {
     ghost Fits = { λ _. ⊤ };
 
     #[tactic(auto, unfolding(crate::specs::WritingSaving::spelled_format))]
-    fn save(&self, to: &mut Sink) {
+    fn save(&self, to: &mut SavedBytes) {
         self.part.save(to);
         self.stream.save(to);
         self.key.save(to);

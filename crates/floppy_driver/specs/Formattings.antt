@@ -18,10 +18,10 @@ use Rattle.sector_model.specs.Orders.{IsDeviceRefusal}
 use Rattle.sector_model.specs.Formats.{Lays, IsFormatted, IsUnformatted}
 use Rattle.floppy_driver.specs.Rigs.{Rig, HeadsStay, track_under}
 use Rattle.floppy_driver.specs.Reading.{IsReadCode}
-use Rattle.floppy_driver.specs.declared.formatting.Asked.{Asked}
+use Rattle.floppy_driver.specs.declared.formatting.AskedFormat.{AskedFormat}
 
 -- the format that is asked for
-abbrev pub format_of : Asked → Format
+abbrev pub format_of : AskedFormat → Format
 format_of asked = record { c = asked.c; h = asked.h; rate = asked.rate; gap3 = asked.gap3; fill = asked.fill }
 
 -- a format of a track of a drive, with a gap 3 and a byte

@@ -24,7 +24,7 @@ const LEAST_GAP: u8 = 16;
 
 /// What is asked of a format, at the rate of the bay.
 #[derive(Clone, Copy)]
-struct Asked {
+struct AskedFormat {
     c: u8,
     h: u8,
     rate: Rate,
@@ -74,7 +74,7 @@ impl Driver {
         if machine.is_protected(bay) {
             return Err(Code::Protected);
         }
-        let asked = Asked {
+        let asked = AskedFormat {
             c,
             h,
             rate,
@@ -100,7 +100,7 @@ impl Driver {
         &mut self,
         machine: &mut C,
         bay: u8,
-        asked: Asked,
+        asked: AskedFormat,
     ) -> Result<(), Code>
         requires idle { C.is_idle machine.old }
         requires asked { IsValidFormat (format_of asked) }
@@ -132,7 +132,7 @@ impl Driver {
         &mut self,
         machine: &mut C,
         bay: u8,
-        asked: Asked,
+        asked: AskedFormat,
     ) -> Result<(), Code>
         requires idle { C.is_idle machine.old }
         requires asked { IsValidFormat (format_of asked) }
@@ -173,7 +173,7 @@ fn is_asked(bay: u8, c: u8, h: u8, gap3: u8) -> bool
 
 /// Reads each record of a formatted track back. The first record that fails, or has another byte than the fill, decides
 /// the answer.
-fn read_back_all<C: Commands>(machine: &mut C, bay: u8, asked: Asked) -> Result<(), Code>
+fn read_back_all<C: Commands>(machine: &mut C, bay: u8, asked: AskedFormat) -> Result<(), Code>
     requires idle { C.is_idle machine.old }
     requires bay { bay ≤ 1 }
     requires asked { IsValidFormat (format_of asked) }

@@ -52,13 +52,13 @@ fn rate_word(rate: Rate) -> &'static str
 
 /// A bay, a key and an address, shown as the words of a line.
 #[derive(Drop)]
-struct Sector {
+struct SectorWords {
     bay: u8,
     key: Chrn,
     address: u32,
 }
 
-impl fmt::Display for Sector {
+impl fmt::Display for SectorWords {
     ghost output = { λ sector. Some (join_with_byte 32 (sector_texts sector.bay sector.key sector.address)) };
 
     fn fmt<W: fmt::Write>(&self, f: &mut fmt::Formatter<W>) -> fmt::Result {
@@ -125,8 +125,8 @@ impl fmt::Display for Request {
     }
 }
 
-fn sector_words(bay: u8, key: Chrn, address: u32) -> Sector
+fn sector_words(bay: u8, key: Chrn, address: u32) -> SectorWords
     ensures { result ≡ record { bay = bay; key = key; address = address } }
 {
-    Sector { bay, key, address }
+    SectorWords { bay, key, address }
 }

@@ -21,13 +21,13 @@ use Rattle.fdc_chip.specs.Codes.{code_of}
 use Rattle.fdc_chip.specs.Doing.{Asks, AttendsIf, AttendsTo, Begins, BeginsReadId, FormatsIf, MovesIf, Obeys, Sends, SendsOn, TransfersIf, absent_key, configured, configuring, drained, format_bytes, identifying, implies, is_moving, is_size, moves_heads, moving, needs_heads, no_key, ready, relative_target, sectors_verified, track_begun, verifying, with_keys, with_last}
 use Rattle.fdc_chip.specs.Interrupts.{cylinder_of}
 use Rattle.fdc_chip.specs.Orders.{order_bytes}
-use Rattle.fdc_chip.specs.declared.answer.Answer.TheVariants as answer
-use Rattle.fdc_chip.specs.declared.code.Code.{Code}
-use Rattle.fdc_chip.specs.declared.code.Code.TheVariants.{ReadTrack, Specify, SenseDrive, Transfer, Recalibrate, SenseInterrupt, ReadId, FormatTrack, DumpRegisters, Seek, RelativeSeek, Version, Perpendicular, Configure, Lock, Verify}
+use Rattle.fdc_chip.specs.declared.answer.ChipAnswer.TheVariants as answer
+use Rattle.fdc_chip.specs.declared.code.ChipOpcode.{ChipOpcode}
+use Rattle.fdc_chip.specs.declared.code.ChipOpcode.TheVariants.{ReadTrack, Specify, SenseDrive, Transfer, Recalibrate, SenseInterrupt, ReadId, FormatTrack, DumpRegisters, Seek, RelativeSeek, Version, Perpendicular, Configure, Lock, Verify}
 use Rattle.fdc_chip.specs.declared.order.Order.{Order}
-use Rattle.fdc_chip.specs.declared.stage.Stage.TheVariants.{Ready, Telling}
-use Rattle.fdc_chip.specs.declared.stage.Task.{Task}
-use Rattle.fdc_chip.specs.declared.stage.Task.TheVariants as task
+use Rattle.fdc_chip.specs.declared.stage.ChipStage.TheVariants.{Ready, Telling}
+use Rattle.fdc_chip.specs.declared.stage.ChipTask.{ChipTask}
+use Rattle.fdc_chip.specs.declared.stage.ChipTask.TheVariants as task
 use Rattle.laws_chip.specs.Beginning.{IsOfFour}
 use Rattle.laws_chip.specs.Sound.{ExecutesBehind, IsBusyWith, IsSound, RestsBehind, ServesBehind}
 use Rattle.laws_chip.proofs.CommandsBegun.{IsSent, begins_sent, codes_served, configured_stands, sought_sent}
@@ -158,12 +158,12 @@ configure_sound old new basis stands (sends, rest) =
 
 -- ---- ---- a command that the inner controller executes
 
-busy_sound : (what : Task) (seeks : Bool) (bytes : List ℕ) (old new : ChipState) → IsBasis old → (sent : IsSent what seeks bytes old new) → IsBusyWith what new.front → IsBase sent.set.adapter.controller new.front.adapter.controller → IsSound new
+busy_sound : (what : ChipTask) (seeks : Bool) (bytes : List ℕ) (old new : ChipState) → IsBasis old → (sent : IsSent what seeks bytes old new) → IsBusyWith what new.front → IsBase sent.set.adapter.controller new.front.adapter.controller → IsSound new
 busy_sound what seeks bytes old new basis sent busy base =
     basis_busy new what (basis_same old new basis (base_on old.front.adapter.controller sent.set.adapter.controller new.front.adapter.controller sent.base base) sent.count sent.order) busy sent.stage
 
 -- READ ID
-id_sound : (what : Task) (unit : ℕ) (old new : ChipState) → IsBasis old → Stands old.front → (ExecutesBehind new.front → IsBusyWith what new.front) → Begins what false (identifying unit) old new → IsSound new
+id_sound : (what : ChipTask) (unit : ℕ) (old new : ChipState) → IsBasis old → Stands old.front → (ExecutesBehind new.front → IsBusyWith what new.front) → Begins what false (identifying unit) old new → IsSound new
 id_sound what unit old new basis stands busy begins =
     let sent = begins_sent what false (identifying unit) old new stands begins in
     let obeyed = id_obeyed unit sent.set new.front sent.stands sent.sends in
@@ -193,7 +193,7 @@ formats_sound true mfm old new basis stands is begins =
 formats_sound false mfm old new basis stands is begins = id_sound (task.Refused old.order.unit no_key mfm) old.order.unit old new basis stands (λ executes. executes) begins
 
 -- a command of sectors
-transfers_sound : (b mfm : Bool) (what : Task) (opcode : Opcode) (order : Order) (old new : ChipState) → IsBasis old → Stands old.front → opcode_of order.code ≡ Some opcode
+transfers_sound : (b mfm : Bool) (what : ChipTask) (opcode : Opcode) (order : Order) (old new : ChipState) → IsBasis old → Stands old.front → opcode_of order.code ≡ Some opcode
     → (is_size old.order.key.n ≡ true → is_size order.key.n ≡ true) → (ServesBehind new.front → IsBusyWith what new.front) → (mfm && is_size old.order.key.n) ≡ b → TransfersIf b mfm what (order_bytes order) old new → IsSound new
 transfers_sound true mfm what opcode order old new basis stands served sized busy is begins =
     let sent = sought_sent (implies old) what (implies old) (order_bytes order) old new stands begins in
@@ -239,7 +239,7 @@ read_track_sound mfm old new basis stands obeys =
 
 -- ---- all commands
 
-obeys_sound : (code : Code) (old new : ChipState) → IsBasis old → RestsBehind old.front → code_of old.order.code ≡ Some code → (needs_heads code && is_moving old) ≡ false → Obeys code old new → IsSound new
+obeys_sound : (code : ChipOpcode) (old new : ChipState) → IsBasis old → RestsBehind old.front → code_of old.order.code ≡ Some code → (needs_heads code && is_moving old) ≡ false → Obeys code old new → IsSound new
 obeys_sound Specify old new basis rests found free is = done_sound old _ new basis rests (record { front = refl; count = refl; order = refl }) refl is
 obeys_sound SenseInterrupt old new basis rests found free is = done_sound old _ new basis rests (record { front = refl; count = refl; order = refl }) refl is
 obeys_sound Version old new basis rests found free is = done_sound old _ new basis rests (record { front = refl; count = refl; order = refl }) refl is
@@ -260,12 +260,12 @@ obeys_sound (Transfer mfm) old new basis rests found free obeys = transfer_sound
 obeys_sound (Verify mfm) old new basis rests found free obeys = verify_sound mfm old new basis (free_stands old basis rests free) obeys
 obeys_sound (ReadTrack mfm) old new basis rests found free obeys = read_track_sound mfm old new basis (free_stands old basis rests free) obeys
 
-attends_by : (b : Bool) (code : Code) (old new : ChipState) → IsBasis old → RestsBehind old.front → code_of old.order.code ≡ Some code → (needs_heads code && is_moving old) ≡ b → AttendsIf b code old new → IsSound new
+attends_by : (b : Bool) (code : ChipOpcode) (old new : ChipState) → IsBasis old → RestsBehind old.front → code_of old.order.code ≡ Some code → (needs_heads code && is_moving old) ≡ b → AttendsIf b code old new → IsSound new
 attends_by true code old new basis rests found moves is = done_sound old _ new basis rests (record { front = refl; count = refl; order = refl }) refl is
 attends_by false code old new basis rests found free obeys = obeys_sound code old new basis rests found free obeys
 
 -- a whole command is attended to, or bytes that aren't one
-pub attended_sound : (found : Option Code) (old new : ChipState) → IsBasis old → RestsBehind old.front → code_of old.order.code ≡ found → AttendsTo found old new → IsSound new
+pub attended_sound : (found : Option ChipOpcode) (old new : ChipState) → IsBasis old → RestsBehind old.front → code_of old.order.code ≡ found → AttendsTo found old new → IsSound new
 attended_sound None old new basis rests is told = done_sound old _ new basis rests (record { front = refl; count = refl; order = refl }) refl told
 attended_sound (Some code) old new basis rests is attends =
     let set = drained old in

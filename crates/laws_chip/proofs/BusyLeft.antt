@@ -20,10 +20,10 @@ use Rattle.fdc_chip.specs.Steps.{Follows, StepsChip, SwallowsAll}
 use Rattle.fdc_chip.specs.declared.order.Order.{Order}
 use Rattle.fdc_chip.specs.declared.stage.Place.{Place}
 use Rattle.fdc_chip.specs.declared.stage.Place.TheVariants.{Index, Address, Data}
-use Rattle.fdc_chip.specs.declared.stage.Stage.{Stage}
-use Rattle.fdc_chip.specs.declared.stage.Stage.TheVariants.{Busy}
-use Rattle.fdc_chip.specs.declared.stage.Task.{Task}
-use Rattle.fdc_chip.specs.declared.stage.Task.TheVariants as task
+use Rattle.fdc_chip.specs.declared.stage.ChipStage.{ChipStage}
+use Rattle.fdc_chip.specs.declared.stage.ChipStage.TheVariants.{Busy}
+use Rattle.fdc_chip.specs.declared.stage.ChipTask.{ChipTask}
+use Rattle.fdc_chip.specs.declared.stage.ChipTask.TheVariants as task
 use Rattle.fdc_chip.specs.declared.stage.Track.{Track}
 use Rattle.laws_chip.specs.Bounds.{has_command}
 use Rattle.laws_chip.specs.Calls as made
@@ -66,7 +66,7 @@ pub record SingleLeft (n : ℕ) (chip : ChipState) : Type 0 where
 pub record LastLeft (n : ℕ) (chip : ChipState) : Type 0 where
   pub few : steps_left chip.front.adapter.controller.phase ≤ n
 
-abbrev pub TaskLeft : Task → ℕ → ChipState → Type 0
+abbrev pub TaskLeft : ChipTask → ℕ → ChipState → Type 0
 TaskLeft task.Sent n chip = ServedLeft n chip ⊎ SingleLeft n chip
 TaskLeft (task.Sought _) n chip = LastLeft n chip
 TaskLeft (task.Refused _ _ _) n chip = LastLeft n chip
@@ -74,7 +74,7 @@ TaskLeft (task.Verify _) n chip = ServedLeft n chip
 TaskLeft (task.Track _) n chip = Leaves n chip
 
 pub record BusyLeft (n : ℕ) (chip : ChipState) : Type 0 where
-  pub task : Task
+  pub task : ChipTask
   pub at : chip.stage ≡ Busy task
   pub left : TaskLeft task n chip
 
@@ -146,7 +146,7 @@ serves_left n old between sound step silent serves was = elim (serves_step old.f
 -- ---- ---- a command of the controller's own
 
 -- the call leaves it at its task
-single_left : (call : Call) (what : Task) (n : ℕ) (old new : ChipState) → IsSound old → old.stage ≡ Busy what → ExecutesBehind old.front → steps_left old.front.adapter.controller.phase ≤ n → Does call old new
+single_left : (call : Call) (what : ChipTask) (n : ℕ) (old new : ChipState) → IsSound old → old.stage ≡ Busy what → ExecutesBehind old.front → steps_left old.front.adapter.controller.phase ≤ n → Does call old new
     → stage_kind new.stage ≡ kind_of what → is_busy new.stage ≡ true → StaysSingle (steps_of call) old.front new.front × (steps_left new.front.adapter.controller.phase ≤ n - steps_of call)
 single_left call what n old new sound at was few does same still =
     let on = single_call call what old new sound at was does still same in
@@ -295,7 +295,7 @@ track_step n track old new step sound still at was works =
     let tracks = track_ends (has_results step.between) track (with_front step.between old) new at works (subst (λ stage. Follows stage (with_front step.between old) new) at step.follows) in
     leaves_left (n - 1) new (call_leaves made.Steps n old new sound still was step tracks)
 
-step_left : (what : Task) (n : ℕ) (old new : ChipState) (step : StepsChip old new) → IsSound old → IsSound new → old.stage ≡ Busy what → TaskLeft what n old → has_command new.stage ≡ true → BusyLeft (n - 1) new
+step_left : (what : ChipTask) (n : ℕ) (old new : ChipState) (step : StepsChip old new) → IsSound old → IsSound new → old.stage ≡ Busy what → TaskLeft what n old → has_command new.stage ≡ true → BusyLeft (n - 1) new
 step_left task.Sent n old new step sound still at left works = sent_step n old new step sound at left works
 step_left (task.Sought first) n old new step sound still at left works = sought_step n first old new step sound at left works
 step_left (task.Refused unit key mfm) n old new step sound still at left works = refused_step n unit key mfm old new step sound at left works
@@ -331,7 +331,7 @@ served_call call n old new sound at was does other quiet =
       left = inl (served_within n (steps_of call) old new (serves_of old sound at was.under) was (none_one (steps_of call) (none_of call other)) after.under_way within);
     }
 
-other_left : (call : Call) (what : Task) (n : ℕ) (old new : ChipState) → IsSound old → IsSound new → old.stage ≡ Busy what → TaskLeft what n old → Does call old new → is_step call ≡ false → is_reset call ≡ false → KeepsTask what old new
+other_left : (call : Call) (what : ChipTask) (n : ℕ) (old new : ChipState) → IsSound old → IsSound new → old.stage ≡ Busy what → TaskLeft what n old → Does call old new → is_step call ≡ false → is_reset call ≡ false → KeepsTask what old new
     → BusyLeft (n - steps_of call) new
 other_left call task.Sent n old new sound still at (inl was) does other quiet keeps = served_call call n old new sound at was does other quiet
 other_left call task.Sent n old new sound still at (inr was) does other quiet keeps =
@@ -379,7 +379,7 @@ last_some now n some few = omega arith
 executes_some : (n : ℕ) (chip : ChipState) → ExecutesBehind chip.front → steps_left chip.front.adapter.controller.phase ≤ n → 0 < n
 executes_some n chip was few = let phase = chip.front.adapter.controller.phase in last_some (steps_left phase) n (left_some phase was.executes was.counted) few
 
-task_some : (what : Task) (n : ℕ) (chip : ChipState) → IsSound chip → chip.stage ≡ Busy what → TaskLeft what n chip → 0 < n
+task_some : (what : ChipTask) (n : ℕ) (chip : ChipState) → IsSound chip → chip.stage ≡ Busy what → TaskLeft what n chip → 0 < n
 task_some task.Sent n chip sound at (inl was) = served_some was.here n (some_here was.here chip.front (serves_of chip sound at was.under) was.lasts) was.few
 task_some task.Sent n chip sound at (inr was) = executes_some n chip was.executes was.few
 task_some (task.Sought first) n chip sound at was = executes_some n chip (busy_at chip (task.Sought first) at sound) was.few
@@ -413,7 +413,7 @@ more_served n m chip more was = record { under = was.under; here = was.here; las
 more_last : (n m : ℕ) (chip : ChipState) → n ≤ m → LastLeft n chip → LastLeft m chip
 more_last n m chip more was = record { few = more_few (steps_left chip.front.adapter.controller.phase) n m more was.few }
 
-more_task : (what : Task) (n m : ℕ) (chip : ChipState) → n ≤ m → TaskLeft what n chip → TaskLeft what m chip
+more_task : (what : ChipTask) (n m : ℕ) (chip : ChipState) → n ≤ m → TaskLeft what n chip → TaskLeft what m chip
 more_task task.Sent n m chip more (inl was) = inl (more_served n m chip more was)
 more_task task.Sent n m chip more (inr was) =
     inr (record { executes = was.executes; few = more_few (steps_left chip.front.adapter.controller.phase) n m more was.few; never = was.never })

@@ -11,7 +11,7 @@ use Rattle.fdc_core.specs.declared.controller.Fdc.{Fdc}
 use Rattle.fdc_sequencer.specs.Fronts.{Front, implies_seeks, with_seeks}
 use Rattle.fdc_sequencer.specs.Opcodes.{opcode_of}
 use Rattle.fdc_sequencer.specs.declared.opcode.Opcode.{Opcode}
-use Rattle.fdc_sequencer.specs.declared.stage.Stage.TheVariants as behind
+use Rattle.fdc_sequencer.specs.declared.stage.FrontStage.TheVariants as behind
 use Rattle.fdc_sequencer.specs.declared.transfer.Transfer.{Transfer}
 use Rattle.laws_sequencer.specs.Calls as call
 use Rattle.laws_sequencer.proofs.Called.{both_within}
@@ -21,11 +21,11 @@ use Rattle.fdc_chip.specs.Codes.{code_of}
 use Rattle.fdc_chip.specs.Doing.{Begins, Obeys, RemembersIf, Sends, TransfersIf, begun, implies, is_size, sought_if, with_last}
 use Rattle.fdc_chip.specs.Orders.{order_bytes}
 use Rattle.fdc_chip.specs.Steps.{StepsChip}
-use Rattle.fdc_chip.specs.declared.code.Code.{Code}
-use Rattle.fdc_chip.specs.declared.code.Code.TheVariants.{Transfer as TransferCode}
-use Rattle.fdc_chip.specs.declared.stage.Stage.TheVariants.{Busy}
-use Rattle.fdc_chip.specs.declared.stage.Task.{Task}
-use Rattle.fdc_chip.specs.declared.stage.Task.TheVariants.{Sent}
+use Rattle.fdc_chip.specs.declared.code.ChipOpcode.{ChipOpcode}
+use Rattle.fdc_chip.specs.declared.code.ChipOpcode.TheVariants.{Transfer as TransferCode}
+use Rattle.fdc_chip.specs.declared.stage.ChipStage.TheVariants.{Busy}
+use Rattle.fdc_chip.specs.declared.stage.ChipTask.{ChipTask}
+use Rattle.fdc_chip.specs.declared.stage.ChipTask.TheVariants.{Sent}
 use Rattle.laws_chip.specs.Beginning.{IsBegun, IsFreeBehind, IsServed, transfer_sent}
 use Rattle.laws_chip.specs.Calls.{AreServed, Call}
 use Rattle.laws_chip.proofs.FirstSectors.{IsBase}
@@ -63,7 +63,7 @@ sought_stands on front stands =
 -- ---- a command begins
 
 -- the inner controller was given these bytes for this task. The Bool says whether a seek was implied for them
-pub record IsSent (task : Task) (seeks : Bool) (bytes : List ℕ) (old new : ChipState) : Type 0 where
+pub record IsSent (task : ChipTask) (seeks : Bool) (bytes : List ℕ) (old new : ChipState) : Type 0 where
   pub set : Front
   pub implied : implies_seeks set ≡ seeks
   pub stands : Stands set
@@ -99,7 +99,7 @@ only_strapped : (on : Bool) → (on || false) ≡ on
 only_strapped true = refl
 only_strapped false = refl
 
-pub begins_sent : (task : Task) (seeks : Bool) (bytes : List ℕ) (old new : ChipState) → Stands old.front → Begins task seeks bytes old new → IsSent task seeks bytes old new
+pub begins_sent : (task : ChipTask) (seeks : Bool) (bytes : List ℕ) (old new : ChipState) → Stands old.front → Begins task seeks bytes old new → IsSent task seeks bytes old new
 begins_sent task seeks bytes old new stands begins =
     let start = begun task old in
     let ready = remembers_stands old.settings.forgotten start begins.set stands begins.remembers in
@@ -115,7 +115,7 @@ begins_sent task seeks bytes old new stands begins =
     }
 
 -- a seek is implied, or not
-pub sought_sent : (b : Bool) (task : Task) (seeks : Bool) (bytes : List ℕ) (old new : ChipState) → Stands old.front → Begins task seeks bytes (sought_if b old) new → IsSent task seeks bytes old new
+pub sought_sent : (b : Bool) (task : ChipTask) (seeks : Bool) (bytes : List ℕ) (old new : ChipState) → Stands old.front → Begins task seeks bytes (sought_if b old) new → IsSent task seeks bytes old new
 sought_sent true task seeks bytes old new stands begins =
     let sent = begins_sent task seeks bytes (sought_if true old) new stands begins in
     record { set = sent.set; implied = sent.implied; stands = sent.stands; base = sent.base; sends = sent.sends; stage = sent.stage; count = sent.count; order = sent.order }
@@ -123,7 +123,7 @@ sought_sent false task seeks bytes old new stands begins = begins_sent task seek
 
 -- ---- the codes
 
-abbrev is_transfer : Option Code → Bool
+abbrev is_transfer : Option ChipOpcode → Bool
 is_transfer (Some (TransferCode true)) = true
 is_transfer _ = false
 

@@ -9,8 +9,8 @@ use Rattle.fdc_core.specs.State.{asks}
 use Rattle.fdc_core.specs.declared.controller.Fdc.{Fdc}
 use Rattle.fdc_adapter.specs.Adapters.{Takes}
 use Rattle.fdc_sequencer.specs.Fronts.{Front, TakesAt, asks_at, asks_outside, interrupts_outside, told_front, with_controller}
-use Rattle.fdc_sequencer.specs.declared.stage.Stage.{Stage as FrontStage}
-use Rattle.fdc_sequencer.specs.declared.stage.Stage.TheVariants as behind
+use Rattle.fdc_sequencer.specs.declared.stage.FrontStage.{FrontStage}
+use Rattle.fdc_sequencer.specs.declared.stage.FrontStage.TheVariants as behind
 use Rattle.fdc_chip.specs.Answers.{answer_bytes, is_of_data}
 use Rattle.fdc_chip.specs.Chips.{ChipState, KeepsRest, interrupts_chip, is_data, passes, passes_at, passes_by_channel, passes_by_port, shows_behind, with_front}
 use Rattle.fdc_chip.specs.Doing.{Begins, RemembersIf, begun, sensing}
@@ -18,12 +18,12 @@ use Rattle.fdc_chip.specs.Interrupts.{Interrupting, first_pending, sensed, statu
 use Rattle.fdc_chip.specs.Orders.{is_format}
 use Rattle.fdc_chip.specs.Ports.{GivesChipIf, ReadsAt, ReadsChip, ReadsIf, TakesIf, byte_told, count_told, counted_if, given_one, quieted_if, told_chip}
 use Rattle.fdc_chip.specs.Settings.{is_by_port}
-use Rattle.fdc_chip.specs.declared.answer.Answer.{Answer}
-use Rattle.fdc_chip.specs.declared.answer.Answer.TheVariants as answer
-use Rattle.fdc_chip.specs.declared.stage.Stage.{Stage}
-use Rattle.fdc_chip.specs.declared.stage.Stage.TheVariants.{Ready, Held, Busy, Telling}
-use Rattle.fdc_chip.specs.declared.stage.Task.{Task}
-use Rattle.fdc_chip.specs.declared.stage.Task.TheVariants as task
+use Rattle.fdc_chip.specs.declared.answer.ChipAnswer.{ChipAnswer}
+use Rattle.fdc_chip.specs.declared.answer.ChipAnswer.TheVariants as answer
+use Rattle.fdc_chip.specs.declared.stage.ChipStage.{ChipStage}
+use Rattle.fdc_chip.specs.declared.stage.ChipStage.TheVariants.{Ready, Held, Busy, Telling}
+use Rattle.fdc_chip.specs.declared.stage.ChipTask.{ChipTask}
+use Rattle.fdc_chip.specs.declared.stage.ChipTask.TheVariants as task
 use Rattle.fdc_chip.specs.declared.stage.Track.{Track}
 use Rattle.laws_chip.specs.Calls as call
 use Rattle.laws_chip.specs.Calls.{Call, Does}
@@ -55,7 +55,7 @@ no_bytes chip none =
     no_port chip (and_right (is_by_port chip.settings) (passes chip) (and_left (passes_at chip.stage) (not (is_format chip.order && chip.keys == 0)) none))
 
 -- while a command is executed, INT of the inner controller doesn't show
-shows_none : (stage : Stage) (behind_it : Front) → passes_at stage ≡ true → shows_behind stage behind_it ≡ false
+shows_none : (stage : ChipStage) (behind_it : Front) → passes_at stage ≡ true → shows_behind stage behind_it ≡ false
 shows_none Ready behind_it passing = absurd (false≢true passing)
 shows_none Held behind_it passing = refl
 shows_none (Busy what) behind_it passing = refl
@@ -107,26 +107,26 @@ channel_leaves (call.StrapsSteps on) old new is does = absurd (false≢true is)
 -- ---- the terminal count
 
 -- while a task is executed INT goes by the line, whatever front there is
-abbrev at_task : ChipState → Task → Front → ChipState
+abbrev at_task : ChipState → ChipTask → Front → ChipState
 at_task chip what behind_it = record chip { stage = Busy what; front = behind_it }
 
-task_line : (chip : ChipState) (what : Task) (behind_it : Front) → is_by_port chip.settings ≡ false → interrupts_chip (at_task chip what behind_it) ≡ (chip.gated && chip.interrupts.line)
+task_line : (chip : ChipState) (what : ChipTask) (behind_it : Front) → is_by_port chip.settings ≡ false → interrupts_chip (at_task chip what behind_it) ≡ (chip.gated && chip.interrupts.line)
 task_line chip what behind_it dma = by_dma (at_task chip what behind_it) dma ∙ ap (λ b. chip.gated && b) (or_none chip.interrupts.line)
 
 -- the terminal count was given or not, and the task may be another
-task_told : (b : Bool) (chip : ChipState) (one other : Task) → is_by_port chip.settings ≡ false
+task_told : (b : Bool) (chip : ChipState) (one other : ChipTask) → is_by_port chip.settings ≡ false
     → interrupts_chip (counted_if b (at_task chip other chip.front)) ≡ interrupts_chip (at_task chip one chip.front)
 task_told true chip one other dma = task_line chip other (told_front chip.front) dma ∙ sym (task_line chip one chip.front dma)
 task_told false chip one other dma = task_line chip other chip.front dma ∙ sym (task_line chip one chip.front dma)
 
-busy_told : (what : Task) (chip : ChipState) → is_by_port chip.settings ≡ false → interrupts_chip (count_told (Busy what) (at_task chip what chip.front)) ≡ interrupts_chip (at_task chip what chip.front)
+busy_told : (what : ChipTask) (chip : ChipState) → is_by_port chip.settings ≡ false → interrupts_chip (count_told (Busy what) (at_task chip what chip.front)) ≡ interrupts_chip (at_task chip what chip.front)
 busy_told task.Sent chip dma = task_told true chip task.Sent task.Sent dma
 busy_told (task.Sought first) chip dma = refl
 busy_told (task.Refused unit key mfm) chip dma = refl
 busy_told (task.Verify left) chip dma = refl
 busy_told (task.Track track) chip dma = task_told (is_data track.place) chip (task.Track track) (task.Track (record track { counted = true })) dma
 
-stage_told : (stage : Stage) (chip : ChipState) → is_by_port chip.settings ≡ false → interrupts_chip (count_told stage (record chip { stage = stage })) ≡ interrupts_chip (record chip { stage = stage })
+stage_told : (stage : ChipStage) (chip : ChipState) → is_by_port chip.settings ≡ false → interrupts_chip (count_told stage (record chip { stage = stage })) ≡ interrupts_chip (record chip { stage = stage })
 stage_told Ready chip dma = refl
 stage_told Held chip dma = refl
 stage_told (Telling told read) chip dma = refl
@@ -177,15 +177,15 @@ port_read true old value new passing out down up = either_way old.gated
 port_read false old value new passing (value_is, is) down up = unmoved old new is down up
 
 -- a byte of an answer was read. The line falls or doesn't, and the chip is then at this stage
-abbrev told_at : Bool → Stage → ChipState → ChipState
+abbrev told_at : Bool → ChipStage → ChipState → ChipState
 told_at first stage old = record (quieted_if first old) { stage = stage }
 
-told_line : (first : Bool) (stage : Stage) (old : ChipState) → passes_at stage ≡ false
+told_line : (first : Bool) (stage : ChipStage) (old : ChipState) → passes_at stage ≡ false
     → interrupts_chip (told_at first stage old) ≡ (old.gated && ((quieted_if first old).interrupts.line || shows_behind stage old.front))
 told_line true stage old none = no_bytes (told_at true stage old) none
 told_line false stage old none = no_bytes (told_at false stage old) none
 
-front_stays : (first : Bool) (stage : Stage) (old : ChipState) → (told_at first stage old).front ≡ old.front
+front_stays : (first : Bool) (stage : ChipStage) (old : ChipState) → (told_at first stage old).front ≡ old.front
 front_stays true stage old = refl
 front_stays false stage old = refl
 
@@ -199,18 +199,18 @@ falls : (first : Bool) (old : ChipState) → (old.gated && old.interrupts.line) 
 falls true old down = and_right old.gated false refl
 falls false old down = down
 
-answer_down : (told : Answer) (read : ℕ) (old : ChipState) → old.stage ≡ Telling told read → interrupts_chip old ≡ false → (old.gated && old.interrupts.line) ≡ false
+answer_down : (told : ChipAnswer) (read : ℕ) (old : ChipState) → old.stage ≡ Telling told read → interrupts_chip old ≡ false → (old.gated && old.interrupts.line) ≡ false
 answer_down told read old tells down =
     sym (no_bytes old (ap passes_at tells) ∙ line_alone old (ap (λ stage. shows_behind stage old.front) tells)) ∙ down
 
 -- if INT rises after the byte of an answer, INT of the inner controller shows
-rises : (first : Bool) (stage : Stage) (old new : ChipState) → new ≡ told_at first stage old → passes_at stage ≡ false → (old.gated && old.interrupts.line) ≡ false → interrupts_chip new ≡ true
+rises : (first : Bool) (stage : ChipStage) (old new : ChipState) → new ≡ told_at first stage old → passes_at stage ≡ false → (old.gated && old.interrupts.line) ≡ false → interrupts_chip new ≡ true
     → shows_behind stage old.front ≡ true
 rises first stage old new is none down up =
     shown old.gated (quieted_if first old).interrupts.line (shows_behind stage old.front) (falls first old down)
     (sym (int_same (told_at first stage old) new is ∙ told_line first stage old none) ∙ up)
 
-answer_read : (last first : Bool) (told : Answer) (read : ℕ) (old new : ChipState) → old.stage ≡ Telling told read
+answer_read : (last first : Bool) (told : ChipAnswer) (read : ℕ) (old new : ChipState) → old.stage ≡ Telling told read
     → new ≡ told_at first (if last then Ready else Telling told (read + 1)) old → interrupts_chip old ≡ false → interrupts_chip new ≡ true → EndsAnswer old new
 answer_read true first told read old new tells is down up = record {
   answer = told;
@@ -223,7 +223,7 @@ answer_read true first told read old new tells is down up = record {
 answer_read false first told read old new tells is down up =
     absurd (false≢true (rises first (Telling told (read + 1)) old new is refl (answer_down told read old tells down) up))
 
-data_read : (stage : Stage) (old : ChipState) (value : ℕ) (new : ChipState) → old.stage ≡ stage → ReadsAt stage old value new → interrupts_chip old ≡ false → interrupts_chip new ≡ true → EndsAnswer old new
+data_read : (stage : ChipStage) (old : ChipState) (value : ℕ) (new : ChipState) → old.stage ≡ stage → ReadsAt stage old value new → interrupts_chip old ≡ false → interrupts_chip new ≡ true → EndsAnswer old new
 data_read (Telling told read) old value new at (value_is, is) down up =
     answer_read (nat_le (length (answer_bytes told)) (read + 1)) (is_of_data told && read == 0) told read old new at is down up
 data_read Ready old value new at reads down up = port_read (passes_by_port old) old value new refl reads down up
@@ -254,29 +254,29 @@ sense_down status cylinder old is =
     ∙ (ap (λ b. old.gated && (b || false)) (line_down (first_pending old.interrupts) old.interrupts status cylinder is) ∙ and_right old.gated false refl)
 
 -- a command begins for a task with DMA, and INT is down
-record IsDown (what : Task) (chip : ChipState) : Type 0 where
+record IsDown (what : ChipTask) (chip : ChipState) : Type 0 where
   dma : is_by_port chip.settings ≡ false
   line : chip.interrupts.line ≡ false
   stage : chip.stage ≡ Busy what
 
-down_int : (what : Task) (chip : ChipState) → IsDown what chip → interrupts_chip chip ≡ false
+down_int : (what : ChipTask) (chip : ChipState) → IsDown what chip → interrupts_chip chip ≡ false
 down_int what chip down =
     by_dma chip down.dma ∙ (ap (λ b. chip.gated && (b || shows_behind chip.stage chip.front)) down.line
     ∙ (ap (λ stage. chip.gated && (false || shows_behind stage chip.front)) down.stage ∙ and_right chip.gated false refl))
 
-down_kept : (what : Task) (old new : ChipState) → IsDown what old → KeepsRest old new → IsDown what new
+down_kept : (what : ChipTask) (old new : ChipState) → IsDown what old → KeepsRest old new → IsDown what new
 down_kept what old new down rest = record {
   dma = ap (λ (chip : ChipState). is_by_port chip.settings) rest ∙ down.dma;
   line = ap (λ (chip : ChipState). chip.interrupts.line) rest ∙ down.line;
   stage = ap (λ (chip : ChipState). chip.stage) rest ∙ down.stage;
 }
 
-remembers_down : (b : Bool) (what : Task) (old new : ChipState) → IsDown what old → RemembersIf b old new → IsDown what new
+remembers_down : (b : Bool) (what : ChipTask) (old new : ChipState) → IsDown what old → RemembersIf b old new → IsDown what new
 remembers_down true what old new down (sends, rest) =
     down_kept what (record old { settings = record old.settings { forgotten = false } }) new (record { dma = down.dma; line = down.line; stage = down.stage }) rest
 remembers_down false what old new down is = subst (λ (chip : ChipState). IsDown what chip) (sym is) down
 
-pub begins_down : (what : Task) (seeks : Bool) (bytes : List ℕ) (old new : ChipState) → is_by_port old.settings ≡ false → Begins what seeks bytes old new → interrupts_chip new ≡ false
+pub begins_down : (what : ChipTask) (seeks : Bool) (bytes : List ℕ) (old new : ChipState) → is_by_port old.settings ≡ false → Begins what seeks bytes old new → interrupts_chip new ≡ false
 begins_down what seeks bytes old new dma begins =
     let start : IsDown what (begun what old) = record { dma = dma; line = refl; stage = refl } in
     down_int what new (down_kept what begins.set new (remembers_down old.settings.forgotten what (begun what old) begins.set start begins.remembers) begins.sends.1)

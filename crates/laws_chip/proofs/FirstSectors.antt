@@ -22,8 +22,8 @@ use Rattle.fdc_sequencer.specs.Fronts.{BeginsSector, Front, SeeksFirst, StartsIf
 use Rattle.fdc_sequencer.specs.Transfers.{command_for}
 use Rattle.fdc_sequencer.specs.declared.opcode.Operation.{Operation}
 use Rattle.fdc_sequencer.specs.declared.opcode.Operation.TheVariants.{Read, Write}
-use Rattle.fdc_sequencer.specs.declared.stage.Stage.{Stage}
-use Rattle.fdc_sequencer.specs.declared.stage.Stage.TheVariants.{Through, Moving, Seeking}
+use Rattle.fdc_sequencer.specs.declared.stage.FrontStage.{FrontStage}
+use Rattle.fdc_sequencer.specs.declared.stage.FrontStage.TheVariants.{Through, Moving, Seeking}
 use Rattle.fdc_sequencer.specs.declared.transfer.Transfer.{Transfer}
 use Rattle.laws_sequencer.specs.Lasting.{is_under_way}
 use Rattle.laws_sequencer.specs.Serving.{IsFree}
@@ -90,7 +90,7 @@ pub record IsCarried (old new : Front) : Type 0 where
   pub waits : WaitsForHeads new.stage new.adapter.controller.phase
   pub base : IsBase old.adapter.controller new.adapter.controller
 
-carried_at : (stage : Stage) (old new : Front) → new.stage ≡ stage → is_under_way stage ≡ true → WaitsForHeads stage new.adapter.controller.phase → IsBase old.adapter.controller new.adapter.controller
+carried_at : (stage : FrontStage) (old new : Front) → new.stage ≡ stage → is_under_way stage ≡ true → WaitsForHeads stage new.adapter.controller.phase → IsBase old.adapter.controller new.adapter.controller
     → IsCarried old new
 carried_at stage old new is under waits base = record {
   under_way = ap is_under_way is ∙ under;

@@ -46,15 +46,15 @@ use Rattle.fdc_adapter.specs.Adapters.{AdapterState, StepsAdapter, drive_at, sel
 use Rattle.fdc_sequencer.specs.Fronts.{Front, GivesAt, GivesFront, TakesAt, TakesFront, told_front, told_if, with_controller}
 use Rattle.fdc_sequencer.specs.Fronts as fronts
 use Rattle.fdc_sequencer.specs.Moves.{StepsFront}
-use Rattle.fdc_sequencer.specs.declared.stage.Stage.TheVariants.{Through}
+use Rattle.fdc_sequencer.specs.declared.stage.FrontStage.TheVariants.{Through}
 use Rattle.fdc_chip.specs.Chips.{ChipState, passes_by_channel, passes_by_port, with_front}
 use Rattle.fdc_chip.specs.Doing.{FormatsIf, Obeys, is_size, with_keys, with_last}
 use Rattle.fdc_chip.specs.Ports as ports
 use Rattle.fdc_chip.specs.Ports.{GivesChipIf, GivesIf, ReadsAt, ReadsIf, TakesByte, TakesIf}
 use Rattle.fdc_chip.specs.Steps.{StepsChip}
-use Rattle.fdc_chip.specs.declared.code.Code.TheVariants as code
-use Rattle.fdc_chip.specs.declared.stage.Stage.TheVariants.{Busy}
-use Rattle.fdc_chip.specs.declared.stage.Task.TheVariants.{Sent}
+use Rattle.fdc_chip.specs.declared.code.ChipOpcode.TheVariants as code
+use Rattle.fdc_chip.specs.declared.stage.ChipStage.TheVariants.{Busy}
+use Rattle.fdc_chip.specs.declared.stage.ChipTask.TheVariants.{Sent}
 use Rattle.laws_sequencer.specs.Serving.{passed_in}
 use Rattle.laws_sequencer.proofs.LateWriting.{window_none}
 use Rattle.laws_chip.specs.Beginning.{IsFreeBehind}

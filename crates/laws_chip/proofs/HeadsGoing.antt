@@ -19,14 +19,14 @@ use Rattle.fdc_core.specs.declared.controller.Fdc.{Fdc}
 use Rattle.fdc_adapter.specs.Adapters.{AdapterState, StepsAdapter, lines_at, selected_at}
 use Rattle.fdc_sequencer.specs.Fronts.{Front, interrupts_at, interrupts_outside}
 use Rattle.fdc_sequencer.specs.Moves.{StepsFront}
-use Rattle.fdc_sequencer.specs.declared.stage.Stage.TheVariants.{Through}
+use Rattle.fdc_sequencer.specs.declared.stage.FrontStage.TheVariants.{Through}
 use Rattle.fdc_chip.specs.Chips.{ChipState, interrupts_chip, with_front}
 use Rattle.fdc_chip.specs.Doing.{drained, drained_by, drained_one, is_told, moves_heads}
 use Rattle.fdc_chip.specs.Interrupts.{Interrupting, with_result}
 use Rattle.fdc_chip.specs.Steps.{StepsChip}
-use Rattle.fdc_chip.specs.declared.pace.Pace.{Pace}
-use Rattle.fdc_chip.specs.declared.stage.Stage.{Stage}
-use Rattle.fdc_chip.specs.declared.stage.Stage.TheVariants.{Ready}
+use Rattle.fdc_chip.specs.declared.pace.PacedSeek.{PacedSeek}
+use Rattle.fdc_chip.specs.declared.stage.ChipStage.{ChipStage}
+use Rattle.fdc_chip.specs.declared.stage.ChipStage.TheVariants.{Ready}
 use Rattle.laws_sequencer.proofs.Known.{which_drive}
 use Rattle.laws_chip.specs.Seeks.{EndsBySignal, GoesTo, HeadsGo, HeadsStand, SeeksBehind, status_at_end, steps_left}
 use Rattle.laws_chip.specs.Sound.{IsSound}
@@ -222,7 +222,7 @@ abbrev pub stood : ℕ → ℕ → List ℕ → ChipState → ChipState
 stood status cylinder cylinders chip = record (bare cylinders None false false chip) { interrupts = with_result status cylinder chip.interrupts }
 
 -- the result is reported where no pulses come in the time that SPECIFY sets
-unpaced_told : (pace : Option Pace) (status : ℕ) → pace ≡ None → is_told pace status ≡ true
+unpaced_told : (pace : Option PacedSeek) (status : ℕ) → pace ≡ None → is_told pace status ≡ true
 unpaced_told pace status none = ap (λ p. is_told p status) none ∙ or_right (bit_and status seek_end == 0) true refl
 
 ends_one : (drive status : ℕ) (cylinders : List ℕ) (chip : ChipState) → drive ≤ 3 → is_held chip.front.adapter.controller ≡ false → is_told chip.pace status ≡ true
@@ -335,7 +335,7 @@ heads_step left drive goal old new sound was step =
           inr (subst (EndsBySignal drive goal old) (sym same) (record { stage = refl; unpaced = was.unpaced; results = refl; standing = stood_stands status target (slice_set cylinders drive target) set ended.free }))
     ]
 
-pub heads_some : (drive : ℕ) (goal : Option ℕ) (stage : Stage) (chip : ChipState) → HeadsGo 0 drive goal stage chip → ⊥
+pub heads_some : (drive : ℕ) (goal : Option ℕ) (stage : ChipStage) (chip : ChipState) → HeadsGo 0 drive goal stage chip → ⊥
 heads_some drive goal stage chip was = none goal was.going.motion was.going.goes was.going.within
   where
     none : (goal : Option ℕ) (motion : Motion) → GoesTo goal motion → steps_left motion ≤ 0 → ⊥

@@ -21,7 +21,7 @@ use Rattle.fdc_chip.specs.Doing.{Sends, drained, drained_by, is_told, kept, move
 use Rattle.fdc_chip.specs.Interrupts.{with_result}
 use Rattle.fdc_chip.specs.Paces.{EndsAt, GoesOnIf, Paces, PulsesIf, is_due, is_over, stepped}
 use Rattle.fdc_chip.specs.Settings.{step_words}
-use Rattle.fdc_chip.specs.declared.pace.Pace.{Pace}
+use Rattle.fdc_chip.specs.declared.pace.PacedSeek.{PacedSeek}
 use Rattle.fdc_chip.specs.declared.settings.Settings.{Settings}
 use Rattle.laws_chip.specs.Bounds.{heads_steps, seek_steps}
 use Rattle.laws_chip.specs.PacedSeeks.{pulses_left}
@@ -176,14 +176,14 @@ within_all pulses = by_few (nat_lt pulses 79) refl
     by_few true is = grind (arith, nat_tests)
     by_few false is = omega arith
 
-module _ (words n : ℕ) (old : Front) (pace : Pace) (chip new : ChipState) (was : IsFreed old chip) (stands : Stands chip.front) (few : max pace.wait (seek_steps old.adapter.controller.seeks.seek) + (pulses_left pace * (max words 256 + 1) + 257) ≤ n) (later : IsFewLater new) where
+module _ (words n : ℕ) (old : Front) (pace : PacedSeek) (chip new : ChipState) (was : IsFreed old chip) (stands : Stands chip.front) (few : max pace.wait (seek_steps old.adapter.controller.seeks.seek) + (pulses_left pace * (max words 256 + 1) + 257) ≤ n) (later : IsFewLater new) where
   ends_paced : (goal : Option ℕ) → EndsAt goal pace (record chip { pace = None }) new → IsPaced words (n - 1) new
   ends_paced (Some target) (sends, rest) =
       let sought = seek_given pace.unit target chip.front new stands sends in
       let seek = new.front.adapter.controller.seeks.seek in
       let steps = end_on (pulses_left pace * (max words 256 + 1)) pace.wait (seek_steps old.adapter.controller.seeks.seek) (seek_steps seek) n (later sought.runs sought.idle) few in
       sought_paced words (n - 1) chip.front new sought was.none
-      (subst (λ (p : Option Pace). heads_steps words p seek ≤ n - 1) (sym (ap (λ (c : ChipState). c.pace) rest)) steps)
+      (subst (λ (p : Option PacedSeek). heads_steps words p seek ≤ n - 1) (sym (ap (λ (c : ChipState). c.pace) rest)) steps)
   ends_paced None is =
       let fdc = chip.front.adapter.controller in
       let may : (is_idle fdc && (seek_bits fdc.seeks == 0)) ≡ true = and_from (is_idle fdc) (seek_bits fdc.seeks == 0) (stands_idle chip.front stands) (ap (λ n. n == 0) stands.rests) in
@@ -210,11 +210,11 @@ module _ (words n : ℕ) (old : Front) (pace : Pace) (chip new : ChipState) (was
       let steps = pulse_on (pulses_left next) (pulses_left pace) words (step_words chip.settings) pace.wait (seek_steps old.adapter.controller.seeks.seek) (seek_steps seek) n
       (fewer_left (step_words chip.settings) pace goes) some (later sought.runs sought.idle) few in
       sought_paced words (n - 1) chip.front new sought was.none
-      (subst (λ (p : Option Pace). heads_steps words p seek ≤ n - 1) (sym (ap (λ (c : ChipState). c.pace) rest)) steps)
+      (subst (λ (p : Option PacedSeek). heads_steps words p seek ≤ n - 1) (sym (ap (λ (c : ChipState). c.pace) rest)) steps)
 
 -- ---- ---- the pace goes on
 
-freed_calm : (words n : ℕ) (pace : Pace) (old : Front) (chip new : ChipState) → IsFreed old chip → new ≡ record chip { pace = Some (record pace { wait = pace.wait - 1 }) }
+freed_calm : (words n : ℕ) (pace : PacedSeek) (old : Front) (chip new : ChipState) → IsFreed old chip → new ≡ record chip { pace = Some (record pace { wait = pace.wait - 1 }) }
     → max (pace.wait - 1) (seek_steps chip.front.adapter.controller.seeks.seek) + (pulses_left pace * (max words 256 + 1) + 257) ≤ n → IsPaced words n new
 freed_calm words n pace old chip new was is few = subst (IsPaced words n) (sym is) (record {
   idle = record { through = was.idle.through; takes = was.idle.takes; whole = was.idle.whole; free = was.idle.free };
@@ -228,7 +228,7 @@ due_moves true true due is = refl
 due_moves true false due is = absurd (false≢true (sym due))
 due_moves false moves due is = absurd (false≢true is)
 
-goes_paced : (b : Bool) (words n : ℕ) (pace : Pace) (old : Front) (chip new : ChipState) → IsFreed old chip → is_due pace chip ≡ b → step_words chip.settings ≤ words
+goes_paced : (b : Bool) (words n : ℕ) (pace : PacedSeek) (old : Front) (chip new : ChipState) → IsFreed old chip → is_due pace chip ≡ b → step_words chip.settings ≤ words
     → max pace.wait (seek_steps old.adapter.controller.seeks.seek) + (pulses_left pace * (max words 256 + 1) + 257) ≤ n → IsFewLater new → GoesOnIf b pace chip new → IsPaced words (n - 1) new
 goes_paced true words n pace old chip new was due some few later pulses =
     let waited = nat_le pace.wait 1 in
@@ -280,19 +280,19 @@ module _ (words n : ℕ) (old : ChipState) (between : Front) (new : ChipState) (
         left = still_less _ _ _ (drained_left set idle) near.left;
       }
 
-  by_pace : (pace : Option Pace) → old.pace ≡ pace → Paces pace set new → IsPaced words (n - 1) new
+  by_pace : (pace : Option PacedSeek) → old.pace ≡ pace → Paces pace set new → IsPaced words (n - 1) new
   by_pace None at is =
       let near = front_nearer old.front between step rests four tells in
-      let before : seek_steps old.front.adapter.controller.seeks.seek ≤ n = subst (λ (p : Option Pace). heads_steps words p old.front.adapter.controller.seeks.seek ≤ n) at few in
+      let before : seek_steps old.front.adapter.controller.seeks.seek ≤ n = subst (λ (p : Option PacedSeek). heads_steps words p old.front.adapter.controller.seeks.seek ≤ n) at few in
       subst (IsPaced words (n - 1)) (sym is) (record {
         idle = idle_between.0;
         tells = near.tells;
         four = near.four;
-        within = subst (λ (p : Option Pace). heads_steps words p between.adapter.controller.seeks.seek ≤ n - 1) (sym at)
+        within = subst (λ (p : Option PacedSeek). heads_steps words p between.adapter.controller.seeks.seek ≤ n - 1) (sym at)
             (one_less (seek_steps between.adapter.controller.seeks.seek) (seek_steps old.front.adapter.controller.seeks.seek) n near.left before);
       })
   by_pace (Some pace) at goes =
-      let before = subst (λ (p : Option Pace). heads_steps words p old.front.adapter.controller.seeks.seek ≤ n) at few in
+      let before = subst (λ (p : Option PacedSeek). heads_steps words p old.front.adapter.controller.seeks.seek ≤ n) at few in
       goes_paced (is_due pace (drained set)) words n pace old.front (drained set) new freed refl (subst (λ (s : Settings). step_words s ≤ words) (sym (drained_settings 4 set)) some) before later goes
 
   pub paces_on : Paces old.pace set new → IsPaced words (n - 1) new

@@ -14,11 +14,11 @@ use Rattle.fdc_chip.specs.Paces.{EndsAt, GoesOnIf, Paces, PulsesIf, is_due, is_o
 use Rattle.fdc_chip.specs.Ports.{GivesChipIf, TakesIf, WritesChip, count_told, latched_by, reset_if, value_behind}
 use Rattle.fdc_chip.specs.Settings.{step_words}
 use Rattle.fdc_chip.specs.Steps.{StepsChip}
-use Rattle.fdc_chip.specs.declared.code.Code.{Code}
+use Rattle.fdc_chip.specs.declared.code.ChipOpcode.{ChipOpcode}
 use Rattle.fdc_chip.specs.declared.order.Order.{Order}
-use Rattle.fdc_chip.specs.declared.pace.Pace.{Pace}
+use Rattle.fdc_chip.specs.declared.pace.PacedSeek.{PacedSeek}
 use Rattle.fdc_chip.specs.declared.settings.Settings.{Settings}
-use Rattle.fdc_chip.specs.declared.stage.Stage.TheVariants.{Held}
+use Rattle.fdc_chip.specs.declared.stage.ChipStage.TheVariants.{Held}
 use Rattle.laws_chip.specs.Beginning.{IsDoneFree, IsHeldFor, still_moves}
 use Rattle.laws_chip.specs.Bounds.{HeadsMove, heads_of, heads_steps, seek_steps}
 use Rattle.laws_chip.specs.Calls as made
@@ -53,7 +53,7 @@ less_steps : (now was n : ℕ) → now ≤ was → was ≤ n → now ≤ n
 less_steps now was n few within = omega arith
 
 -- a seek of fewer device steps leaves fewer
-pub heads_less : (words n : ℕ) (pace : Option Pace) (now was : Option DriveSeek) → seek_steps now ≤ seek_steps was → heads_steps words pace was ≤ n → heads_steps words pace now ≤ n
+pub heads_less : (words n : ℕ) (pace : Option PacedSeek) (now was : Option DriveSeek) → seek_steps now ≤ seek_steps was → heads_steps words pace was ≤ n → heads_steps words pace now ≤ n
 heads_less words n None now was few within = less_steps (seek_steps now) (seek_steps was) n few within
 heads_less words n (Some pace) now was few within =
     less_max (pulses_left pace * (max words 256 + 1) + 257) pace.wait (seek_steps now) (seek_steps was) n few within
@@ -75,7 +75,7 @@ keeps_same old new is =
 heads_are : (old new : ChipState) → KeepsHeads old new → heads_of new ≡ heads_of old
 heads_are old new keeps =
     ap (λ (s : Settings). heads_steps (step_words s) new.pace new.front.adapter.controller.seeks.seek) keeps.settings
-    ∙ (ap (λ (p : Option Pace). heads_steps (step_words old.settings) p new.front.adapter.controller.seeks.seek) keeps.pace
+    ∙ (ap (λ (p : Option PacedSeek). heads_steps (step_words old.settings) p new.front.adapter.controller.seeks.seek) keeps.pace
     ∙ ap (λ (s : Seeking). heads_steps (step_words old.settings) old.pace s.seek) keeps.seeks)
 
 keeps_move : (left : ℕ) (old new : ChipState) → KeepsHeads old new → HeadsMove left old → HeadsMove left new
@@ -117,19 +117,19 @@ move_call left call old new at does no_step quiet other was = keeps_move left ol
 
 -- ---- pulses leave the settings
 
-ends_settings : (goal : Option ℕ) (pace : Pace) (old new : ChipState) → EndsAt goal pace old new → new.settings ≡ old.settings
+ends_settings : (goal : Option ℕ) (pace : PacedSeek) (old new : ChipState) → EndsAt goal pace old new → new.settings ≡ old.settings
 ends_settings (Some target) pace old new (sends, rest) = ap (λ (chip : ChipState). chip.settings) rest
 ends_settings None pace old new is = ap (λ (chip : ChipState). chip.settings) is
 
-pulses_settings : (b : Bool) (pace : Pace) (old new : ChipState) → PulsesIf b pace old new → new.settings ≡ old.settings
+pulses_settings : (b : Bool) (pace : PacedSeek) (old new : ChipState) → PulsesIf b pace old new → new.settings ≡ old.settings
 pulses_settings true pace old new ends = ends_settings pace.goal pace (record old { pace = None }) new ends
 pulses_settings false pace old new (sends, rest) = ap (λ (chip : ChipState). chip.settings) rest
 
-goes_settings : (b : Bool) (pace : Pace) (old new : ChipState) → GoesOnIf b pace old new → new.settings ≡ old.settings
+goes_settings : (b : Bool) (pace : PacedSeek) (old new : ChipState) → GoesOnIf b pace old new → new.settings ≡ old.settings
 goes_settings true pace old new pulses = pulses_settings (is_over pace) pace old new pulses
 goes_settings false pace old new is = ap (λ (chip : ChipState). chip.settings) is
 
-pub paces_settings : (pace : Option Pace) (old new : ChipState) → Paces pace old new → new.settings ≡ old.settings
+pub paces_settings : (pace : Option PacedSeek) (old new : ChipState) → Paces pace old new → new.settings ≡ old.settings
 paces_settings None old new is = ap (λ (chip : ChipState). chip.settings) is
 paces_settings (Some pace) old new goes = goes_settings (is_due pace (drained old)) pace (drained old) new goes ∙ drained_settings 4 old
 
@@ -138,11 +138,11 @@ paces_settings (Some pace) old new goes = goes_settings (is_due pace (drained ol
 pub heads_some : (chip : ChipState) → IsIdleAt chip.front → has_ended_seek chip.front.adapter.controller.seeks ≡ false → is_moving chip ≡ true → 1 ≤ heads_of chip
 heads_some chip idle runs moves = by_pace chip.pace refl moves
   where
-    by_pace : (pace : Option Pace) → chip.pace ≡ pace → (is_some pace || moves_heads chip.front) ≡ true → 1 ≤ heads_of chip
+    by_pace : (pace : Option PacedSeek) → chip.pace ≡ pace → (is_some pace || moves_heads chip.front) ≡ true → 1 ≤ heads_of chip
     by_pace None at moves =
-        subst (λ (p : Option Pace). 1 ≤ heads_steps (step_words chip.settings) p chip.front.adapter.controller.seeks.seek) (sym at) (moves_some chip.front idle runs moves)
+        subst (λ (p : Option PacedSeek). 1 ≤ heads_steps (step_words chip.settings) p chip.front.adapter.controller.seeks.seek) (sym at) (moves_some chip.front idle runs moves)
     by_pace (Some pace) at moves =
-        subst (λ (p : Option Pace). 1 ≤ heads_steps (step_words chip.settings) p chip.front.adapter.controller.seeks.seek) (sym at)
+        subst (λ (p : Option PacedSeek). 1 ≤ heads_steps (step_words chip.settings) p chip.front.adapter.controller.seeks.seek) (sym at)
         (pace_some (pulses_left pace * (max (step_words chip.settings) 256 + 1)) pace.wait (seek_steps chip.front.adapter.controller.seeks.seek))
 
 pub taken_idle : (chip : ChipState) → IsIdleAt chip.front → length chip.front.adapter.controller.seeks.pending ≡ 4 → IsIdleAt (drained chip).front
@@ -157,12 +157,12 @@ drained_move words left paced settings on moves =
     let same : heads_of set ≡ heads_steps words paced.pace set.front.adapter.controller.seeks.seek =
     ap (λ (s : Settings). heads_steps (step_words s) set.pace set.front.adapter.controller.seeks.seek) (drained_settings 4 paced)
     ∙ (ap (λ w. heads_steps w set.pace set.front.adapter.controller.seeks.seek) settings
-    ∙ ap (λ (p : Option Pace). heads_steps words p set.front.adapter.controller.seeks.seek) (drained_pace 4 paced)) in
+    ∙ ap (λ (p : Option PacedSeek). heads_steps words p set.front.adapter.controller.seeks.seek) (drained_pace 4 paced)) in
     record { runs = runs; some = heads_some set (taken_idle paced on.idle on.four) runs moves; within = subst (λ n. n ≤ left) (sym same) less }
 
 -- ---- ---- a held command
 
-pub move_step : (left : ℕ) (found : Code) (order : Order) (old new : ChipState) → IsSound old → IsInRange old.front.adapter.controller → IsInRange new.front.adapter.controller → IsHeldFor order old → code_of order.code ≡ Some found
+pub move_step : (left : ℕ) (found : ChipOpcode) (order : Order) (old new : ChipState) → IsSound old → IsInRange old.front.adapter.controller → IsInRange new.front.adapter.controller → IsHeldFor order old → code_of order.code ≡ Some found
     → needs_heads found ≡ true → HeadsMove left old → StepsChip old new → (IsHeldFor order new × HeadsMove (left - 1) new) ⊎ IsDoneFree found order (implies old) new
 move_step left found order old new sound range still held is heads was step =
     let (paced, paces, attends) = follows_held old new step held.held in

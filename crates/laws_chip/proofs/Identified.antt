@@ -19,7 +19,7 @@ use Rattle.fdc_phases.specs.Phases.{head_of, is_listening}
 use Rattle.fdc_phases.specs.declared.answers.Answer.TheVariants.{Long}
 use Rattle.fdc_phases.specs.declared.phases.Phase.{Phase}
 use Rattle.fdc_phases.specs.declared.phases.Phase.TheVariants.{Command as Taking, Execute, Result}
-use Rattle.fdc_phases.specs.declared.phases.Task.{Task as PhaseTask}
+use Rattle.fdc_phases.specs.declared.phases.Task.{Task}
 use Rattle.fdc_phases.specs.declared.phases.Task.TheVariants as phase_task
 use Rattle.fdc_phases.specs.declared.rates.DataRate.{DataRate}
 use Rattle.fdc_core.specs.Commands.{BeginsData}
@@ -37,7 +37,7 @@ use Rattle.fdc_adapter.specs.Adapters.{AdapterState, StepsAdapter, drive_at, sel
 use Rattle.fdc_sequencer.specs.Fronts.{Front, GivesAt, GivesFront, TakesAt, TakesFront, WritesFront, count_told, told_front, told_if}
 use Rattle.fdc_sequencer.specs.Moves.{StepsFront}
 use Rattle.fdc_sequencer.specs.declared.opcode.Operation.TheVariants.{Read}
-use Rattle.fdc_sequencer.specs.declared.stage.Stage.TheVariants.{Through}
+use Rattle.fdc_sequencer.specs.declared.stage.FrontStage.TheVariants.{Through}
 use Rattle.fdc_sequencer.specs.declared.transfer.Transfer.{Transfer}
 use Rattle.laws_sequencer.specs.Media.{IsAt, Place, TurnsOn, track_at}
 use Rattle.laws_sequencer.proofs.LateHearing.{hearing_led}
@@ -51,13 +51,13 @@ use Rattle.fdc_chip.specs.Ending.{EndsIf, EndsSent, MayEnd, is_not_found, looks_
 use Rattle.fdc_chip.specs.Ports as ports
 use Rattle.fdc_chip.specs.Ports.{GivesChipIf, GivesIf, ReadsAt, ReadsIf, TakesByte, TakesIf, latched_by, value_behind}
 use Rattle.fdc_chip.specs.Steps.{Follows, StepsChip}
-use Rattle.fdc_chip.specs.declared.answer.Answer.TheVariants as answer
-use Rattle.fdc_chip.specs.declared.code.Code.{Code}
-use Rattle.fdc_chip.specs.declared.code.Code.TheVariants as code
+use Rattle.fdc_chip.specs.declared.answer.ChipAnswer.TheVariants as answer
+use Rattle.fdc_chip.specs.declared.code.ChipOpcode.{ChipOpcode}
+use Rattle.fdc_chip.specs.declared.code.ChipOpcode.TheVariants as code
 use Rattle.fdc_chip.specs.declared.order.Order.{Order}
-use Rattle.fdc_chip.specs.declared.stage.Stage.{Stage}
-use Rattle.fdc_chip.specs.declared.stage.Stage.TheVariants.{Busy, Telling}
-use Rattle.fdc_chip.specs.declared.stage.Task.TheVariants.{Sent}
+use Rattle.fdc_chip.specs.declared.stage.ChipStage.{ChipStage}
+use Rattle.fdc_chip.specs.declared.stage.ChipStage.TheVariants.{Busy, Telling}
+use Rattle.fdc_chip.specs.declared.stage.ChipTask.TheVariants.{Sent}
 use Rattle.laws_chip.specs.Beginning.{IsFreeBehind}
 use Rattle.laws_chip.specs.Calls as made
 use Rattle.laws_chip.specs.Calls.{Call, Does, is_step}
@@ -102,7 +102,7 @@ record Identifying (place : Place) (unit : ℕ) (chip : ChipState) : Type 0 wher
   hearing : IsHearingAt place (id_at unit) past (drive_at chip.front.adapter place.bay)
 
 -- READ ID begins
-begun_known : (unit : ℕ) (chosen : PhaseTask) → IsReadingId unit chosen → MayReadIdIn new_past unit (Execute (record { head_drive = unit; steps = 0; task = chosen }))
+begun_known : (unit : ℕ) (chosen : Task) → IsReadingId unit chosen → MayReadIdIn new_past unit (Execute (record { head_drive = unit; steps = 0; task = chosen }))
 begun_known unit chosen is = is
 
 begun_identifies : (place : Place) (unit : ℕ) (chip : ChipState) → IsIdBegun unit chip → IsAt place chip.front → Identifying place unit chip
@@ -127,7 +127,7 @@ record HearsWord (past : Past) (unit : ℕ) (phase : Phase) (rate : DataRate) (b
   passes : Becomes (let_pass before) before after
   executing : is_executing phase ≡ true
 
-task_hears : (past : Past) (unit head_drive steps : ℕ) (chosen : PhaseTask) (rate : DataRate) (before : DriveState) (word : ℕ) (after : DriveState) → MayReadIdTask past unit head_drive steps chosen
+task_hears : (past : Past) (unit head_drive steps : ℕ) (chosen : Task) (rate : DataRate) (before : DriveState) (word : ℕ) (after : DriveState) → MayReadIdTask past unit head_drive steps chosen
     → SeesTask (is_listening chosen) (head_of head_drive) rate before word after → MovesTask (is_listening chosen) before after → SeesUnder rate (head_of unit) before word after × Becomes (let_pass before) before after
 task_hears past unit head_drive steps (phase_task.ReadId search) rate before word after known sees moves =
     (subst (λ h. SeesUnder rate (head_of h) before word after) known.sent_is sees, moves)
@@ -190,7 +190,7 @@ results_are front ending results through at =
     ap (λ stage. results_behind (record front { stage = stage })) through
     ∙ ap (λ phase. results_behind (record front { stage = Through; adapter = record front.adapter { controller = record fdc { phase = phase } } })) at
 
-abbrev is_telling : Stage → Bool
+abbrev is_telling : ChipStage → Bool
 is_telling (Telling told read) = true
 is_telling _ = false
 
@@ -287,7 +287,7 @@ told_known Taking past unit known = known
 told_known (Result told) past unit known = known
 told_known (Execute execution) past unit known = by_task execution.task known
   where
-    by_task : (chosen : PhaseTask) → MayReadIdTask past unit execution.head_drive execution.steps chosen → MayReadIdIn past unit (phase_told (Execute (record execution { task = chosen })))
+    by_task : (chosen : Task) → MayReadIdTask past unit execution.head_drive execution.steps chosen → MayReadIdIn past unit (phase_told (Execute (record execution { task = chosen })))
     by_task (phase_task.ReadId search) known = known
     by_task (phase_task.Read reading) known = absurd known
     by_task (phase_task.Write writing) known = absurd known
@@ -470,7 +470,7 @@ id_tells place unit calls begun last new results at sound is under step tells no
 -- ---- ---- how READ ID begins
 
 -- the code of the command is that of READ ID
-abbrev is_id : Option Code → Bool
+abbrev is_id : Option ChipOpcode → Bool
 is_id (Some (code.ReadId mfm)) = true
 is_id _ = false
 

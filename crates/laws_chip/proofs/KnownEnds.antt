@@ -29,16 +29,16 @@ use Rattle.fdc_chip.specs.Paces.{GoesOnIf, Paces, PulsesIf, is_due, stepped}
 use Rattle.fdc_chip.specs.Ports.{CollectsIf, ComesIf, GivesChipIf, GivesIf, ReadsAt, ReadsIf, TakesByte, TakesIf, WritesChip, byte_told, count_told, latched_by, is_whole, may_come, reset_if, value_behind, with_next}
 use Rattle.fdc_chip.specs.Settings.{is_by_port, step_words}
 use Rattle.fdc_chip.specs.Steps.{Follows, FollowsTask, StepsChip}
-use Rattle.fdc_chip.specs.declared.code.Code.{Code}
-use Rattle.fdc_chip.specs.declared.code.Code.TheVariants as code
+use Rattle.fdc_chip.specs.declared.code.ChipOpcode.{ChipOpcode}
+use Rattle.fdc_chip.specs.declared.code.ChipOpcode.TheVariants as code
 use Rattle.fdc_chip.specs.declared.order.Order.{Order}
-use Rattle.fdc_chip.specs.declared.pace.Pace.{Pace}
+use Rattle.fdc_chip.specs.declared.pace.PacedSeek.{PacedSeek}
 use Rattle.fdc_chip.specs.declared.stage.Place.{Place}
 use Rattle.fdc_chip.specs.declared.stage.Place.TheVariants.{Index, Address, Data}
-use Rattle.fdc_chip.specs.declared.stage.Stage.{Stage}
-use Rattle.fdc_chip.specs.declared.stage.Stage.TheVariants.{Ready, Held, Busy, Telling}
-use Rattle.fdc_chip.specs.declared.stage.Task.{Task}
-use Rattle.fdc_chip.specs.declared.stage.Task.TheVariants as task
+use Rattle.fdc_chip.specs.declared.stage.ChipStage.{ChipStage}
+use Rattle.fdc_chip.specs.declared.stage.ChipStage.TheVariants.{Ready, Held, Busy, Telling}
+use Rattle.fdc_chip.specs.declared.stage.ChipTask.{ChipTask}
+use Rattle.fdc_chip.specs.declared.stage.ChipTask.TheVariants as task
 use Rattle.fdc_chip.specs.declared.stage.Track.{Track}
 use Rattle.laws_chip.specs.Calls as made
 use Rattle.laws_chip.specs.Calls.{Call, Does, WritesByte, is_reset, is_step}
@@ -144,7 +144,7 @@ asks_tell unit old new stands asks =
 
 -- ---- ---- a whole command
 
-obeys_known : (found : Code) (old new : ChipState) → IsBasis old → RestsBehind old.front → Tells old → (needs_heads found && is_moving old) ≡ false → Obeys found old new → KnowsEnd new
+obeys_known : (found : ChipOpcode) (old new : ChipState) → IsBasis old → RestsBehind old.front → Tells old → (needs_heads found && is_moving old) ≡ false → Obeys found old new → KnowsEnd new
 obeys_known code.Specify old new basis rests tells free is = knows new (front_tells old new (ap (λ (chip : ChipState). chip.front) is) tells)
 obeys_known code.SenseInterrupt old new basis rests tells free is = knows new (front_tells old new (ap (λ (chip : ChipState). chip.front) is) tells)
 obeys_known code.Version old new basis rests tells free is = knows new (front_tells old new (ap (λ (chip : ChipState). chip.front) is) tells)
@@ -163,11 +163,11 @@ obeys_known (code.Transfer mfm) old new basis rests tells free obeys = knows_bus
 obeys_known (code.Verify mfm) old new basis rests tells free obeys = knows_busy new (obeys_busy (code.Verify mfm) old new refl obeys)
 obeys_known (code.ReadTrack mfm) old new basis rests tells free obeys = knows_busy new (obeys_busy (code.ReadTrack mfm) old new refl obeys)
 
-attends_known : (b : Bool) (found : Code) (old new : ChipState) → IsBasis old → RestsBehind old.front → Tells old → (needs_heads found && is_moving old) ≡ b → AttendsIf b found old new → KnowsEnd new
+attends_known : (b : Bool) (found : ChipOpcode) (old new : ChipState) → IsBasis old → RestsBehind old.front → Tells old → (needs_heads found && is_moving old) ≡ b → AttendsIf b found old new → KnowsEnd new
 attends_known true found old new basis rests tells moves is = knows new (front_tells old new (ap (λ (chip : ChipState). chip.front) is) tells)
 attends_known false found old new basis rests tells free obeys = obeys_known found old new basis rests tells free obeys
 
-attended_known : (found : Option Code) (old new : ChipState) → IsBasis old → RestsBehind old.front → Tells old → AttendsTo found old new → KnowsEnd new
+attended_known : (found : Option ChipOpcode) (old new : ChipState) → IsBasis old → RestsBehind old.front → Tells old → AttendsTo found old new → KnowsEnd new
 attended_known None old new basis rests tells is = knows new (front_tells old new (ap (λ (chip : ChipState). chip.front) is) tells)
 attended_known (Some found) old new basis rests tells attends =
     let set = drained old in
@@ -176,7 +176,7 @@ attended_known (Some found) old new basis rests tells attends =
 
 -- ---- ---- pulses that come in the time that SPECIFY sets
 
-ends_tell : (goal : Option ℕ) (pace : Pace) (old new : ChipState) → Stands old.front → paces.EndsAt goal pace (record old { pace = None }) new → Tells new
+ends_tell : (goal : Option ℕ) (pace : PacedSeek) (old new : ChipState) → Stands old.front → paces.EndsAt goal pace (record old { pace = None }) new → Tells new
 ends_tell (Some target) pace old new stands (sends, rest) = sought_tells pace.unit target old.front new stands sends
 ends_tell None pace old new stands is =
     let fdc = old.front.adapter.controller in
@@ -188,11 +188,11 @@ ends_tell None pace old new stands is =
     let same : new.front ≡ record old.front { adapter = with_controller set old.front.adapter } = ap (λ (chip : ChipState). chip.front) is ∙ given in
     runs_tells new.front.adapter.controller.seeks (ap (λ (f : Front). has_ended_seek f.adapter.controller.seeks) same)
 
-pulses_tell : (b : Bool) (pace : Pace) (old new : ChipState) → Stands old.front → PulsesIf b pace old new → Tells new
+pulses_tell : (b : Bool) (pace : PacedSeek) (old new : ChipState) → Stands old.front → PulsesIf b pace old new → Tells new
 pulses_tell true pace old new stands ends = ends_tell pace.goal pace old new stands ends
 pulses_tell false pace old new stands (sends, rest) = sought_tells pace.unit (stepped (step_words old.settings) pace).cylinder old.front new stands sends
 
-goes_tell : (b : Bool) (pace : Pace) (old new : ChipState) → old.front.adapter.controller.non_dma ≡ false → old.front.adapter.controller.command ≡ [] → RestsBehind old.front → Tells old → is_due pace old ≡ b → GoesOnIf b pace old new → Tells new
+goes_tell : (b : Bool) (pace : PacedSeek) (old new : ChipState) → old.front.adapter.controller.non_dma ≡ false → old.front.adapter.controller.command ≡ [] → RestsBehind old.front → Tells old → is_due pace old ≡ b → GoesOnIf b pace old new → Tells new
 goes_tell true pace old new by_dma none rests tells due pulses =
     let waited = nat_le pace.wait 1 in
     let (timed, still) = and_parts (waited && is_ready old.front) (not (moves_heads old.front)) due in
@@ -207,7 +207,7 @@ goes_tell true pace old new by_dma none rests tells due pulses =
     }) pulses
 goes_tell false pace old new by_dma none rests tells due is = front_tells old new (ap (λ (chip : ChipState). chip.front) is) tells
 
-paces_tell : (pace : Option Pace) (old new : ChipState) → old.front.adapter.controller.non_dma ≡ false → old.front.adapter.controller.command ≡ [] → RestsBehind old.front → Tells old → Paces pace old new → Tells new
+paces_tell : (pace : Option PacedSeek) (old new : ChipState) → old.front.adapter.controller.non_dma ≡ false → old.front.adapter.controller.command ≡ [] → RestsBehind old.front → Tells old → Paces pace old new → Tells new
 paces_tell None old new by_dma none rests tells is = front_tells old new (ap (λ (chip : ChipState). chip.front) is) tells
 paces_tell (Some pace) old new by_dma none rests tells goes =
     let set = drained old in
@@ -227,7 +227,7 @@ drained_known : (b : Bool) (old paced new : ChipState) → IsResting old paced �
 drained_known true old paced new was tells is = knows new (front_tells (drained paced) new (ap (λ (chip : ChipState). chip.front) is) (drains_tell 4 paced was.base.command was.rests tells))
 drained_known false old paced new was tells is = knows new (front_tells paced new (ap (λ (chip : ChipState). chip.front) is) tells)
 
-idle_step : (stage : Stage) (old : ChipState) (between : Front) (new : ChipState) → old.stage ≡ stage → is_busy stage ≡ false → IsSound old → IsInRange old.front.adapter.controller → Tells old → StepsFront old.front between
+idle_step : (stage : ChipStage) (old : ChipState) (between : Front) (new : ChipState) → old.stage ≡ stage → is_busy stage ≡ false → IsSound old → IsInRange old.front.adapter.controller → Tells old → StepsFront old.front between
     → Follows stage (with_front between old) new → KnowsEnd new
 idle_step Ready old between new at idle sound range tells step (paced, paces, is) =
     drained_known (interrupts_outside paced.front) old paced new (stepped_rests old between paced sound (ap is_busy at) step paces) (idle_paced old between paced sound (ap is_busy at) range tells step paces) is
@@ -266,19 +266,19 @@ place_front Index track results old new idle ends = index_front (not (bit_and re
 place_front Address track results old new idle ends = address_front track.counted results track old new idle ends
 place_front Data track results old new idle ends = let over = without_one results track in data_front (is_over results over) over old new idle ends
 
-ends_front : (what : Task) (results : Results) (old new : ChipState) → is_busy new.stage ≡ false → Ends what results old new → new.front ≡ old.front
+ends_front : (what : ChipTask) (results : Results) (old new : ChipState) → is_busy new.stage ≡ false → Ends what results old new → new.front ≡ old.front
 ends_front task.Sent results old new idle ends = sent_front (looks_for_cylinder old.order results) results old new idle ends
 ends_front (task.Sought first) results old new idle is = ap (λ (chip : ChipState). chip.front) is
 ends_front (task.Refused unit key mfm) results old new idle is = ap (λ (chip : ChipState). chip.front) is
 ends_front (task.Verify left) results old new idle ends = let told = verified old.order results in sent_front (looks_for_cylinder old.order told) told old new idle ends
 ends_front (task.Track track) results old new idle ends = place_front track.place track results old new idle ends
 
-taken_tells : (what : Task) (chip new : ChipState) → is_busy new.stage ≡ false → has_results chip.front ≡ true → Stands (results_taken chip.front) → MayEnd what chip new → Tells new
+taken_tells : (what : ChipTask) (chip new : ChipState) → is_busy new.stage ≡ false → has_results chip.front ≡ true → Stands (results_taken chip.front) → MayEnd what chip new → Tells new
 taken_tells what chip new idle shown stands may =
     let set = with_front (results_taken chip.front) chip in
     front_tells set new (ends_front what (results_judged chip) set new idle (subst (λ b. EndsIf b what chip new) shown may)) (stands_tell (results_taken chip.front) stands)
 
-may_tell : (what under : Task) (chip new : ChipState) → is_busy new.stage ≡ false → IsBasis chip → chip.stage ≡ Busy under → IsAtStep under chip.front → MayEnd what chip new → Tells new
+may_tell : (what under : ChipTask) (chip new : ChipState) → is_busy new.stage ≡ false → IsBasis chip → chip.stage ≡ Busy under → IsAtStep under chip.front → MayEnd what chip new → Tells new
 may_tell what under chip new idle basis at (inl busy) may =
     let same : new ≡ chip = subst (λ b. EndsIf b what chip new) (busy_none under chip.front basis.free busy) may in
     clash (is_busy new.stage) idle (ap (λ (c : ChipState). is_busy c.stage) same ∙ ap is_busy at)
@@ -294,7 +294,7 @@ verify_tells left old between new idle basis was (set, all, may) =
     may_tell (task.Verify left) (task.Verify all.now) chip new idle (set_basis (Busy (task.Verify all.now)) (with_front all.front old) (basis_front all.front old basis after.base)) refl after.at
     (subst (λ from. MayEnd (task.Verify left) from new) all.after may)
 
-busy_tells : (what : Task) (old : ChipState) (between : Front) (new : ChipState) → is_busy new.stage ≡ false → old.stage ≡ Busy what → IsBasis old → IsStepped what old.front between → FollowsTask what (with_front between old) new → Tells new
+busy_tells : (what : ChipTask) (old : ChipState) (between : Front) (new : ChipState) → is_busy new.stage ≡ false → old.stage ≡ Busy what → IsBasis old → IsStepped what old.front between → FollowsTask what (with_front between old) new → Tells new
 busy_tells (task.Verify left) old between new idle at basis was follows = verify_tells left old between new idle basis was follows
 busy_tells task.Sent old between new idle at basis was may = may_tell task.Sent task.Sent (with_front between old) new idle (basis_front between old basis was.base) at was.at may
 busy_tells (task.Sought first) old between new idle at basis was may = may_tell (task.Sought first) (task.Sought first) (with_front between old) new idle (basis_front between old basis was.base) at was.at may
@@ -302,7 +302,7 @@ busy_tells (task.Refused unit key mfm) old between new idle at basis was may =
     may_tell (task.Refused unit key mfm) (task.Refused unit key mfm) (with_front between old) new idle (basis_front between old basis was.base) at was.at may
 busy_tells (task.Track track) old between new idle at basis was may = may_tell (task.Track track) (task.Track track) (with_front between old) new idle (basis_front between old basis was.base) at was.at may
 
-step_known : (stage : Stage) (old : ChipState) (between : Front) (new : ChipState) → old.stage ≡ stage → IsSound old → IsInRange old.front.adapter.controller → KnowsEnd old → StepsFront old.front between → Follows stage (with_front between old) new → KnowsEnd new
+step_known : (stage : ChipStage) (old : ChipState) (between : Front) (new : ChipState) → old.stage ≡ stage → IsSound old → IsInRange old.front.adapter.controller → KnowsEnd old → StepsFront old.front between → Follows stage (with_front between old) new → KnowsEnd new
 step_known (Busy what) old between new at sound range was step follows = record {
   tells = λ idle. busy_tells what old between new idle at (sound_basis old (ap parts.is_ready at) sound) (front_stepped what old.front between step sound.whole sound.by_dma (busy_at old what at sound)) follows;
 }
@@ -319,7 +319,7 @@ same_known old new is was = subst KnowsEnd (sym is) was
 seeks_known : (old new : ChipState) → new.stage ≡ old.stage → new.front.adapter.controller.seeks ≡ old.front.adapter.controller.seeks → KnowsEnd old → KnowsEnd new
 seeks_known old new stage seeks was = record { tells = λ idle. subst TellsEnd (sym seeks) (was.tells (sym (ap is_busy stage) ∙ idle)) }
 
-none_at : (stage : Stage) → is_busy stage ≡ false → passes_at stage ≡ false
+none_at : (stage : ChipStage) → is_busy stage ≡ false → passes_at stage ≡ false
 none_at Ready idle = refl
 none_at Held idle = refl
 none_at (Busy what) idle = absurd (false≢true (sym idle))
@@ -334,7 +334,7 @@ none_by_port chip idle = and_right (is_by_port chip.settings) (passes chip) (non
 pub none_by_channel : (chip : ChipState) → is_busy chip.stage ≡ false → passes_by_channel chip ≡ false
 none_by_channel chip idle = and_right (chip.gated && not (is_by_port chip.settings)) (passes chip) (none_passes chip idle)
 
-pub idle_counts : (stage : Stage) (old : ChipState) → is_busy stage ≡ false → count_told stage old ≡ old
+pub idle_counts : (stage : ChipStage) (old : ChipState) → is_busy stage ≡ false → count_told stage old ≡ old
 idle_counts Ready old idle = refl
 idle_counts Held old idle = refl
 idle_counts (Busy what) old idle = absurd (false≢true (sym idle))
@@ -342,7 +342,7 @@ idle_counts (Telling answer read) old idle = refl
 
 -- ---- ---- the data port
 
-idle_read : (stage : Stage) (value : ℕ) (old new : ChipState) → old.stage ≡ stage → is_busy stage ≡ false → KnowsEnd old → ReadsAt stage old value new → KnowsEnd new
+idle_read : (stage : ChipStage) (value : ℕ) (old new : ChipState) → old.stage ≡ stage → is_busy stage ≡ false → KnowsEnd old → ReadsAt stage old value new → KnowsEnd new
 idle_read Ready value old new at idle was reads = same_known old new (subst (λ b. ReadsIf b old value new) (none_by_port old (ap is_busy at)) reads).1 was
 idle_read Held value old new at idle was reads = same_known old new (subst (λ b. ReadsIf b old value new) (none_by_port old (ap is_busy at)) reads).1 was
 idle_read (Busy what) value old new at idle was reads = absurd (false≢true (sym idle))
@@ -368,7 +368,7 @@ comes_known true byte old new comes at few sound was collects =
     collects_known (is_whole (with_next byte old).count (code_of (with_next byte old).order.code)) byte old new at few sound was (comes_free old sound comes) collects
 comes_known false byte old new comes at few sound was is = same_known old new is was
 
-idle_write : (stage : Stage) (value : ℕ) (old new : ChipState) → old.stage ≡ stage → is_busy stage ≡ false → value < 256 → IsSound old → KnowsEnd old → TakesByte stage value old new → KnowsEnd new
+idle_write : (stage : ChipStage) (value : ℕ) (old new : ChipState) → old.stage ≡ stage → is_busy stage ≡ false → value < 256 → IsSound old → KnowsEnd old → TakesByte stage value old new → KnowsEnd new
 idle_write Ready value old new at idle few sound was comes = comes_known (may_come old) value old new refl at few sound was comes
 idle_write Held value old new at idle few sound was gives = same_known old new (subst (λ b. GivesIf b value old new) (none_by_port old (ap is_busy at)) gives) was
 idle_write (Busy what) value old new at idle few sound was gives = absurd (false≢true (sym idle))
@@ -405,14 +405,14 @@ idle_call (made.StrapsSteps on) old new idle sound was does writes other =
     seeks_known old new (ap (λ (chip : ChipState). chip.stage) does) (ap (λ (chip : ChipState). chip.front.adapter.controller.seeks) does) was
 
 -- a busy chip stays busy, or is reset
-task_busy : (what : Task) (stage : Stage) → IsAtTask what stage → is_busy stage ≡ true
+task_busy : (what : ChipTask) (stage : ChipStage) → IsAtTask what stage → is_busy stage ≡ true
 task_busy task.Sent stage is = ap is_busy is
 task_busy (task.Sought first) stage is = ap is_busy is
 task_busy (task.Refused unit key mfm) stage is = ap is_busy is
 task_busy (task.Verify left) stage is = ap is_busy is
 task_busy (task.Track track) stage (now, is) = ap is_busy is
 
-busy_call : (call : Call) (what : Task) (old new : ChipState) → old.stage ≡ Busy what → KnowsEnd old → Does call old new → is_step call ≡ false → KnowsEnd new
+busy_call : (call : Call) (what : ChipTask) (old new : ChipState) → old.stage ≡ Busy what → KnowsEnd old → Does call old new → is_step call ≡ false → KnowsEnd new
 busy_call call what old new at was does other = either_way (is_reset call)
     (λ anew. by_reset call anew does)
     (λ quiet. knows_busy new (task_busy what new.stage (call_keeps call what old new does at other quiet).stage))
@@ -430,7 +430,7 @@ busy_call call what old new at was does other = either_way (is_reset call)
     by_reset (made.Straps on) anew does = absurd (false≢true anew)
     by_reset (made.StrapsSteps on) anew does = absurd (false≢true anew)
 
-other_call : (stage : Stage) (call : Call) (old new : ChipState) → old.stage ≡ stage → IsSound old → KnowsEnd old → Does call old new → WritesByte call → is_step call ≡ false → KnowsEnd new
+other_call : (stage : ChipStage) (call : Call) (old new : ChipState) → old.stage ≡ stage → IsSound old → KnowsEnd old → Does call old new → WritesByte call → is_step call ≡ false → KnowsEnd new
 other_call (Busy what) call old new at sound was does writes other = busy_call call what old new at was does other
 other_call Ready call old new at sound was does writes other = idle_call call old new (ap is_busy at) sound was does writes other
 other_call Held call old new at sound was does writes other = idle_call call old new (ap is_busy at) sound was does writes other

@@ -4,10 +4,10 @@ use Rattle.std.proofs.lemmas.Bool.{eqb-true, false≢true}
 use Rattle.fdc_core.specs.Ports.{resets}
 use Rattle.fdc_chip.specs.Chips.{ChipState, is_data, passes_by_channel, passes_by_port, with_front}
 use Rattle.fdc_chip.specs.Ports.{GivesChipIf, GivesIf, ReadsAt, ReadsIf, TakesByte, TakesIf, WritesChip, count_told, counted_if, latched_by, given_one, reset_if, value_behind}
-use Rattle.fdc_chip.specs.declared.stage.Stage.{Stage}
-use Rattle.fdc_chip.specs.declared.stage.Stage.TheVariants.{Busy}
-use Rattle.fdc_chip.specs.declared.stage.Task.{Task}
-use Rattle.fdc_chip.specs.declared.stage.Task.TheVariants as task
+use Rattle.fdc_chip.specs.declared.stage.ChipStage.{ChipStage}
+use Rattle.fdc_chip.specs.declared.stage.ChipStage.TheVariants.{Busy}
+use Rattle.fdc_chip.specs.declared.stage.ChipTask.{ChipTask}
+use Rattle.fdc_chip.specs.declared.stage.ChipTask.TheVariants as task
 use Rattle.fdc_chip.specs.declared.stage.Track.{Track}
 use Rattle.laws_chip.specs.Bounds.{has_command}
 use Rattle.laws_chip.specs.Calls as made
@@ -16,46 +16,46 @@ use Rattle.laws_chip.proofs.PassedOn.{other_read}
 use Rattle.laws_chip.proofs.UnderWay.{clash, either_way}
 
 -- the same task; only whether the terminal count has come to a READ TRACK may change
-abbrev pub IsAtTask : Task → Stage → Type 0
+abbrev pub IsAtTask : ChipTask → ChipStage → Type 0
 IsAtTask (task.Track track) stage = (now : Track) × (stage ≡ Busy (task.Track now))
 IsAtTask what stage = stage ≡ Busy what
 
-pub record KeepsTask (what : Task) (old new : ChipState) : Type 0 where
+pub record KeepsTask (what : ChipTask) (old new : ChipState) : Type 0 where
   pub stage : IsAtTask what new.stage
   pub order : new.order ≡ old.order
 
-at_task : (what : Task) (stage : Stage) → stage ≡ Busy what → IsAtTask what stage
+at_task : (what : ChipTask) (stage : ChipStage) → stage ≡ Busy what → IsAtTask what stage
 at_task task.Sent stage is = is
 at_task (task.Sought first) stage is = is
 at_task (task.Refused unit key mfm) stage is = is
 at_task (task.Verify left) stage is = is
 at_task (task.Track track) stage is = (track, is)
 
-keeps_as : (what : Task) (old new : ChipState) → new.stage ≡ Busy what → new.order ≡ old.order → KeepsTask what old new
+keeps_as : (what : ChipTask) (old new : ChipState) → new.stage ≡ Busy what → new.order ≡ old.order → KeepsTask what old new
 keeps_as what old new stage order = record { stage = at_task what new.stage stage; order = order }
 
-same_keeps : (what : Task) (old new : ChipState) → new ≡ old → old.stage ≡ Busy what → KeepsTask what old new
+same_keeps : (what : ChipTask) (old new : ChipState) → new ≡ old → old.stage ≡ Busy what → KeepsTask what old new
 same_keeps what old new is at = keeps_as what old new (ap (λ (chip : ChipState). chip.stage) is ∙ at) (ap (λ (chip : ChipState). chip.order) is)
 
-rest_keeps : (what : Task) (old new : ChipState) → new ≡ with_front new.front old → old.stage ≡ Busy what → KeepsTask what old new
+rest_keeps : (what : ChipTask) (old new : ChipState) → new ≡ with_front new.front old → old.stage ≡ Busy what → KeepsTask what old new
 rest_keeps what old new rest at = keeps_as what old new (ap (λ (chip : ChipState). chip.stage) rest ∙ at) (ap (λ (chip : ChipState). chip.order) rest)
 
-given_keeps : (was : Bool) (what : Task) (old new : ChipState) → new ≡ with_front new.front (given_one was old) → old.stage ≡ Busy what → KeepsTask what old new
+given_keeps : (was : Bool) (what : ChipTask) (old new : ChipState) → new ≡ with_front new.front (given_one was old) → old.stage ≡ Busy what → KeepsTask what old new
 given_keeps was what old new rest at = keeps_as what old new (ap (λ (chip : ChipState). chip.stage) rest ∙ at) (ap (λ (chip : ChipState). chip.order) rest)
 
-takes_keeps : (b : Bool) (what : Task) (byte : Option ℕ) (old new : ChipState) → TakesIf b old byte new → old.stage ≡ Busy what → KeepsTask what old new
+takes_keeps : (b : Bool) (what : ChipTask) (byte : Option ℕ) (old new : ChipState) → TakesIf b old byte new → old.stage ≡ Busy what → KeepsTask what old new
 takes_keeps true what byte old new (takes, rest) at = rest_keeps what old new rest at
 takes_keeps false what byte old new (none, is) at = same_keeps what old new is at
 
-gives_keeps : (b : Bool) (what : Task) (byte : ℕ) (was : Bool) (old new : ChipState) → GivesChipIf b byte old was new → old.stage ≡ Busy what → KeepsTask what old new
+gives_keeps : (b : Bool) (what : ChipTask) (byte : ℕ) (was : Bool) (old new : ChipState) → GivesChipIf b byte old was new → old.stage ≡ Busy what → KeepsTask what old new
 gives_keeps true what byte was old new (gives, rest) at = given_keeps was what old new rest at
 gives_keeps false what byte was old new (none, is) at = same_keeps what old new is at
 
-read_keeps : (b : Bool) (what : Task) (value : ℕ) (old new : ChipState) → ReadsIf b old value new → old.stage ≡ Busy what → KeepsTask what old new
+read_keeps : (b : Bool) (what : ChipTask) (value : ℕ) (old new : ChipState) → ReadsIf b old value new → old.stage ≡ Busy what → KeepsTask what old new
 read_keeps true what value old new reads at = rest_keeps what old new reads.rest at
 read_keeps false what value old new (none, is) at = same_keeps what old new is at
 
-write_keeps : (b : Bool) (what : Task) (value : ℕ) (old new : ChipState) → GivesIf b value old new → old.stage ≡ Busy what → KeepsTask what old new
+write_keeps : (b : Bool) (what : ChipTask) (value : ℕ) (old new : ChipState) → GivesIf b value old new → old.stage ≡ Busy what → KeepsTask what old new
 write_keeps true what value old new gives at = given_keeps gives.was what old new gives.rest at
 write_keeps false what value old new is at = same_keeps what old new is at
 
@@ -67,20 +67,20 @@ counted_track : (b : Bool) (track : Track) (old new : ChipState) → new ≡ cou
 counted_track true track old new is = record { stage = (record track { counted = true }, ap (λ (chip : ChipState). chip.stage) is); order = ap (λ (chip : ChipState). chip.order) is }
 counted_track false track old new is = record { stage = (record track { counted = true }, ap (λ (chip : ChipState). chip.stage) is); order = ap (λ (chip : ChipState). chip.order) is }
 
-counts_keeps : (what : Task) (old new : ChipState) → new ≡ count_told (Busy what) old → old.stage ≡ Busy what → KeepsTask what old new
+counts_keeps : (what : ChipTask) (old new : ChipState) → new ≡ count_told (Busy what) old → old.stage ≡ Busy what → KeepsTask what old new
 counts_keeps task.Sent old new is at = counted_sent true old new is at
 counts_keeps (task.Sought first) old new is at = same_keeps (task.Sought first) old new is at
 counts_keeps (task.Refused unit key mfm) old new is at = same_keeps (task.Refused unit key mfm) old new is at
 counts_keeps (task.Verify left) old new is at = same_keeps (task.Verify left) old new is at
 counts_keeps (task.Track track) old new is at = counted_track (is_data track.place) track old new is
 
-other_write : (port value : ℕ) (what : Task) (old new : ChipState) → (port == 0x3F5) ≡ false → resets port (value_behind port value) ≡ false → WritesChip port value old new → old.stage ≡ Busy what → KeepsTask what old new
+other_write : (port value : ℕ) (what : ChipTask) (old new : ChipState) → (port == 0x3F5) ≡ false → resets port (value_behind port value) ≡ false → WritesChip port value old new → old.stage ≡ Busy what → KeepsTask what old new
 other_write port value what old new no_data quiet writes at =
     let is : new ≡ with_front new.front (latched_by port value old) =
     subst (λ b. new ≡ with_front new.front (reset_if b (latched_by port value old))) quiet (writes.others no_data).1 in
     keeps_as what old new (ap (λ (chip : ChipState). chip.stage) is ∙ at) (ap (λ (chip : ChipState). chip.order) is)
 
-pub call_keeps : (call : Call) (what : Task) (old new : ChipState) → Does call old new → old.stage ≡ Busy what → is_step call ≡ false → is_reset call ≡ false → KeepsTask what old new
+pub call_keeps : (call : Call) (what : ChipTask) (old new : ChipState) → Does call old new → old.stage ≡ Busy what → is_step call ≡ false → is_reset call ≡ false → KeepsTask what old new
 call_keeps made.Steps what old new does at other quiet = absurd (false≢true (sym other))
 call_keeps (made.Takes byte) what old new does at other quiet = takes_keeps (passes_by_channel old) what byte old new does at
 call_keeps (made.Gives byte was) what old new does at other quiet = gives_keeps (passes_by_channel old) what byte was old new does at

@@ -14,7 +14,7 @@ use Rattle.fdc_sequencer.specs.Transfers.{command_for, transfer_of}
 use Rattle.fdc_sequencer.specs.declared.opcode.Opcode.{Opcode}
 use Rattle.fdc_sequencer.specs.declared.opcode.Operation.{Operation}
 use Rattle.fdc_sequencer.specs.declared.opcode.Operation.TheVariants.{Read, Write}
-use Rattle.fdc_sequencer.specs.declared.stage.Stage.TheVariants.{Collecting}
+use Rattle.fdc_sequencer.specs.declared.stage.FrontStage.TheVariants.{Collecting}
 use Rattle.fdc_sequencer.specs.declared.transfer.Transfer.{Transfer}
 use Rattle.laws_sequencer.specs.Calls.{IsLastByte}
 use Rattle.laws_sequencer.proofs.Whole.{begins_served}

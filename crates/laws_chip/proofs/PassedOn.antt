@@ -15,16 +15,16 @@ use Rattle.fdc_chip.specs.Chips.{ChipState, passes_by_channel, passes_by_port, w
 use Rattle.fdc_chip.specs.Ending.{EndsIf, EndsSent, has_results, looks_for_cylinder, results_taken, results_judged}
 use Rattle.fdc_chip.specs.Ports.{GivesChipIf, GivesIf, ReadsAt, ReadsChip, ReadsIf, TakesByte, TakesIf, WritesChip, count_told, latched_by, given_one, reset_if, value_behind}
 use Rattle.fdc_chip.specs.Steps.{Follows, StepsChip}
-use Rattle.fdc_chip.specs.declared.stage.Stage.{Stage}
-use Rattle.fdc_chip.specs.declared.stage.Stage.TheVariants.{Busy}
-use Rattle.fdc_chip.specs.declared.stage.Task.TheVariants.{Sent}
+use Rattle.fdc_chip.specs.declared.stage.ChipStage.{ChipStage}
+use Rattle.fdc_chip.specs.declared.stage.ChipStage.TheVariants.{Busy}
+use Rattle.fdc_chip.specs.declared.stage.ChipTask.TheVariants.{Sent}
 use Rattle.laws_chip.specs.Calls as made
 use Rattle.laws_chip.specs.Calls.{AreServed, ArePassedOn, Call, Does, IsPassedOn, IsServing, Makes, MakesRead, MakesWrite, is_data_access, is_reset, is_step, only_if, steps_of}
 use Rattle.laws_chip.proofs.UnderWay.{counts_under, either_way, gives_under, ignored_write, not_through, reads_same, same_under, takes_under, writes_under}
 
 -- ---- a device step
 
-abbrev is_sent : Stage → Bool
+abbrev is_sent : ChipStage → Bool
 is_sent (Busy Sent) = true
 is_sent _ = false
 

@@ -49,8 +49,8 @@ use Rattle.fdc_sequencer.specs.Moves.{EndsIf, EndsSector, FollowsStep, MovesOn, 
 use Rattle.fdc_sequencer.specs.Transfers.{command_of, next_of, transfer_of}
 use Rattle.fdc_sequencer.specs.declared.opcode.Opcode.{Opcode}
 use Rattle.fdc_sequencer.specs.declared.stage.Moving.{Moving as MovingSector}
-use Rattle.fdc_sequencer.specs.declared.stage.Stage.{Stage}
-use Rattle.fdc_sequencer.specs.declared.stage.Stage.TheVariants.{Through, Collecting, Seeking, Moving, Telling}
+use Rattle.fdc_sequencer.specs.declared.stage.FrontStage.{FrontStage}
+use Rattle.fdc_sequencer.specs.declared.stage.FrontStage.TheVariants.{Through, Collecting, Seeking, Moving, Telling}
 use Rattle.fdc_sequencer.specs.declared.transfer.Transfer.{Transfer}
 use Rattle.laws_sequencer.proofs.Known.{which_drive}
 use Rattle.laws_sequencer.proofs.Resting.{polled_phase}
@@ -288,7 +288,7 @@ passes_poll : (opcode : Option Opcode) (byte : ℕ) (old new : Front) → Passes
 passes_poll (Some opcode) byte old new is none = ap awaits_poll is ∙ none
 passes_poll None byte old new (writes, is) none = port_poll 0x3F5 byte (lines_at old.adapter) old.adapter.controller new.adapter.controller writes.writes refl none
 
-taken_poll : (stage : Stage) (byte : ℕ) (old new : Front) → TakesByte stage byte old new → awaits_poll old ≡ false → awaits_poll new ≡ false
+taken_poll : (stage : FrontStage) (byte : ℕ) (old new : Front) → TakesByte stage byte old new → awaits_poll old ≡ false → awaits_poll new ≡ false
 taken_poll Through byte old new passes none = passes_poll (begins_with byte old.adapter.controller) byte old new passes none
 taken_poll (Collecting opcode) byte old new collects none = let bytes = old.bytes ++ byte ∷ [] in
     collects_poll opcode (answer bytes) (record old { bytes = kept (answer bytes) bytes }) new collects none
@@ -301,7 +301,7 @@ writes_poll port value old new writes quiet none = either_way (port == 0x3F5)
     (λ here. taken_poll old.stage value old new (writes.bytes (eqb-true port 0x3F5 here)) none)
     (λ other. port_poll port value (lines_at old.adapter) old.adapter.controller new.adapter.controller (writes.others other).0.writes quiet none)
 
-given_poll : (stage : Stage) (old : Front) → awaits_poll (byte_given stage old) ≡ awaits_poll old
+given_poll : (stage : FrontStage) (old : Front) → awaits_poll (byte_given stage old) ≡ awaits_poll old
 given_poll Through old = refl
 given_poll (Collecting opcode) old = refl
 given_poll (Seeking transfer counted) old = refl
@@ -335,7 +335,7 @@ moving_gives : (moving : MovingSector) (byte : ℕ) (old : Front) (was : Bool) (
 moving_gives moving byte old true new (up, is) = ap awaits_poll is ∙ passed_poll (moving.left - 1 == 0) (taken_in byte old.adapter.controller)
 moving_gives moving byte old false new (quiet, is) = ap awaits_poll is
 
-takes_at : (stage : Stage) (old : Front) (byte : Option ℕ) (new : Front) → TakesAt stage old byte new → awaits_poll new ≡ awaits_poll old
+takes_at : (stage : FrontStage) (old : Front) (byte : Option ℕ) (new : Front) → TakesAt stage old byte new → awaits_poll new ≡ awaits_poll old
 takes_at Through old byte new (takes, is) = out_poll old.adapter.controller byte new.adapter.controller takes
 takes_at (Collecting opcode) old byte new (none, is) = ap awaits_poll is
 takes_at (Seeking transfer counted) old byte new (none, is) = ap awaits_poll is
@@ -345,7 +345,7 @@ takes_at (Telling results read) old byte new (none, is) = ap awaits_poll is
 pub takes_poll : (old : Front) (byte : Option ℕ) (new : Front) → TakesFront old byte new → awaits_poll new ≡ awaits_poll old
 takes_poll old byte new takes = takes_at old.stage old byte new takes
 
-gives_at : (stage : Stage) (byte : ℕ) (old : Front) (was : Bool) (new : Front) → GivesAt stage byte old was new → awaits_poll new ≡ awaits_poll old
+gives_at : (stage : FrontStage) (byte : ℕ) (old : Front) (was : Bool) (new : Front) → GivesAt stage byte old was new → awaits_poll new ≡ awaits_poll old
 gives_at Through byte old was new (gives, is) = in_poll byte old.adapter.controller was new.adapter.controller gives
 gives_at (Collecting opcode) byte old was new (none, is) = ap awaits_poll is
 gives_at (Seeking transfer counted) byte old was new (none, is) = ap awaits_poll is
@@ -355,7 +355,7 @@ gives_at (Telling results read) byte old was new (none, is) = ap awaits_poll is
 pub gives_poll : (byte : ℕ) (old : Front) (was : Bool) (new : Front) → GivesFront byte old was new → awaits_poll new ≡ awaits_poll old
 gives_poll byte old was new gives = gives_at old.stage byte old was new gives
 
-counted_poll : (stage : Stage) (old : Front) → awaits_poll (count_told stage old) ≡ awaits_poll old
+counted_poll : (stage : FrontStage) (old : Front) → awaits_poll (count_told stage old) ≡ awaits_poll old
 counted_poll Through old = refl
 counted_poll (Collecting opcode) old = refl
 counted_poll (Seeking transfer counted) old = refl
@@ -400,7 +400,7 @@ moves_poll mark (Some ending) moving old new ends none =
     ends_poll mark moving ending (record old { adapter = with_controller (given_up fdc) old.adapter }) new ends (given_up_poll (ending_told fdc) fdc ∙ none)
 moves_poll mark None moving old new is none = ap awaits_poll is ∙ (over_poll (is_unwanted moving (mark_of old.adapter.controller)) moving old ∙ none)
 
-follows_poll : (mark : Option Bool) (stage : Stage) (old new : Front) → FollowsStep mark stage old new → awaits_poll old ≡ false → awaits_poll new ≡ false
+follows_poll : (mark : Option Bool) (stage : FrontStage) (old new : Front) → FollowsStep mark stage old new → awaits_poll old ≡ false → awaits_poll new ≡ false
 follows_poll mark Through old new is none = ap awaits_poll is ∙ none
 follows_poll mark (Collecting opcode) old new is none = ap awaits_poll is ∙ none
 follows_poll mark (Seeking transfer counted) old new seeks none = seeks_poll (has_ended_seek old.adapter.controller.seeks) transfer counted old new seeks none

@@ -13,8 +13,8 @@ use Rattle.fdc_adapter.specs.Senses.{after_result, without_result}
 use Rattle.fdc_sequencer.specs.Fronts.{Front, interrupts_outside, told_front, with_seeks}
 use Rattle.fdc_sequencer.specs.Senses.{pending_outside, recalibrated_at, sensed_at, sensed_outside}
 use Rattle.fdc_sequencer.specs.Transfers.{size_of}
-use Rattle.fdc_sequencer.specs.declared.stage.Stage.{Stage as FrontStage}
-use Rattle.fdc_sequencer.specs.declared.stage.Stage.TheVariants.{Through, Collecting, Seeking, Moving, Telling as FrontTelling}
+use Rattle.fdc_sequencer.specs.declared.stage.FrontStage.{FrontStage}
+use Rattle.fdc_sequencer.specs.declared.stage.FrontStage.TheVariants.{Through, Collecting, Seeking, Moving, Telling as FrontTelling}
 use Rattle.fdc_chip.specs.Chips.{ChipState, is_data, passes_by_channel, passes_by_port, with_front}
 use Rattle.fdc_chip.specs.Codes.{code_of}
 use Rattle.fdc_chip.specs.Doing.{AttendsIf, AttendsTo, Begins, BeginsReadId, FormatsIf, MovesIf, Obeys, RemembersIf, Sends, SendsOn, TransfersIf, absent_key, begun, configuring, drained, drained_by, format_bytes, identifying, implies, implying, is_moving, is_size, moving, needs_heads, no_key, reading_one, relative_target, sectors_verified, sought_if, track_begun, verifying, with_keys, with_last}
@@ -26,15 +26,15 @@ use Rattle.fdc_chip.specs.Orders.{order_bytes}
 use Rattle.fdc_chip.specs.Answers.{is_of_data}
 use Rattle.fdc_chip.specs.Ports.{CollectsIf, ComesIf, GivesChipIf, GivesIf, ReadsAt, ReadsChip, ReadsIf, TakesByte, TakesIf, WritesChip, count_told, counted_if, is_whole, may_come, quieted_if, value_behind, with_next}
 use Rattle.fdc_chip.specs.Steps.{Follows, FollowsTask, StepsChip, SwallowsAs, SwallowsBy}
-use Rattle.fdc_chip.specs.declared.code.Code.{Code}
-use Rattle.fdc_chip.specs.declared.code.Code.TheVariants.{ReadTrack, Specify, SenseDrive, Transfer, Recalibrate, SenseInterrupt, ReadId, FormatTrack, DumpRegisters, Seek, RelativeSeek, Version, Perpendicular, Configure, Lock, Verify}
-use Rattle.fdc_chip.specs.declared.pace.Pace.{Pace}
+use Rattle.fdc_chip.specs.declared.code.ChipOpcode.{ChipOpcode}
+use Rattle.fdc_chip.specs.declared.code.ChipOpcode.TheVariants.{ReadTrack, Specify, SenseDrive, Transfer, Recalibrate, SenseInterrupt, ReadId, FormatTrack, DumpRegisters, Seek, RelativeSeek, Version, Perpendicular, Configure, Lock, Verify}
+use Rattle.fdc_chip.specs.declared.pace.PacedSeek.{PacedSeek}
 use Rattle.fdc_chip.specs.declared.stage.Place.{Place}
 use Rattle.fdc_chip.specs.declared.stage.Place.TheVariants.{Index, Address, Data}
-use Rattle.fdc_chip.specs.declared.stage.Stage.{Stage}
-use Rattle.fdc_chip.specs.declared.stage.Stage.TheVariants.{Ready, Held, Busy, Telling}
-use Rattle.fdc_chip.specs.declared.stage.Task.{Task}
-use Rattle.fdc_chip.specs.declared.stage.Task.TheVariants as task
+use Rattle.fdc_chip.specs.declared.stage.ChipStage.{ChipStage}
+use Rattle.fdc_chip.specs.declared.stage.ChipStage.TheVariants.{Ready, Held, Busy, Telling}
+use Rattle.fdc_chip.specs.declared.stage.ChipTask.{ChipTask}
+use Rattle.fdc_chip.specs.declared.stage.ChipTask.TheVariants as task
 use Rattle.fdc_chip.specs.declared.stage.Track.{Track}
 use Rattle.laws_chip.specs.Calls as made
 use Rattle.laws_chip.specs.Calls.{Call, Does, is_reset}
@@ -92,7 +92,7 @@ remembers_poll : (forgotten : Bool) (old new : ChipState) → RemembersIf forgot
 remembers_poll true old new (sends, rest) none = sends_poll (configuring old.settings.options old.settings.precompensation) old.front new.front sends none
 remembers_poll false old new is none = ap to_come is ∙ none
 
-begins_poll : (what : Task) (seeks : Bool) (bytes : List ℕ) (old new : ChipState) → Begins what seeks bytes old new → to_come old ≡ false → to_come new ≡ false
+begins_poll : (what : ChipTask) (seeks : Bool) (bytes : List ℕ) (old new : ChipState) → Begins what seeks bytes old new → to_come old ≡ false → to_come new ≡ false
 begins_poll what seeks bytes old new begins none =
     sent_poll bytes (implying seeks begins.set) new begins.sends (remembers_poll old.settings.forgotten (begun what old) begins.set begins.remembers none)
 
@@ -108,11 +108,11 @@ sought_poll : (seeks : Bool) (old : ChipState) → to_come (sought_if seeks old)
 sought_poll true old = refl
 sought_poll false old = refl
 
-transfers_poll : (whole mfm : Bool) (what : Task) (bytes : List ℕ) (old new : ChipState) → TransfersIf whole mfm what bytes old new → to_come old ≡ false → to_come new ≡ false
+transfers_poll : (whole mfm : Bool) (what : ChipTask) (bytes : List ℕ) (old new : ChipState) → TransfersIf whole mfm what bytes old new → to_come old ≡ false → to_come new ≡ false
 transfers_poll true mfm what bytes old new begins none = begins_poll what (implies old) bytes (sought_if (implies old) old) new begins (sought_poll (implies old) old ∙ none)
 transfers_poll false mfm what bytes old new begins none = begins_poll (task.Refused old.order.unit old.order.key mfm) false (identifying old.order.unit) old new begins none
 
-obeys_poll : (code : Code) (old new : ChipState) → Obeys code old new → to_come old ≡ false → to_come new ≡ false
+obeys_poll : (code : ChipOpcode) (old new : ChipState) → Obeys code old new → to_come old ≡ false → to_come new ≡ false
 obeys_poll Specify old new is none = ap to_come is ∙ none
 obeys_poll SenseDrive old new asks none = ap to_come asks.told_is ∙ (read_poll asks.sent.front ∙ sent_poll (0x04 ∷ old.order.unit ∷ []) old asks.sent asks.sends none)
 obeys_poll SenseInterrupt old new is none = ap to_come is ∙ none
@@ -134,11 +134,11 @@ obeys_poll (ReadTrack mfm) old new begins none =
     transfers_poll (mfm && is_size old.order.key.n) mfm (task.Track (track_begun (implies old) old.order)) (reading_one old.order.unit (absent_key old.order.key.c) old.order.gap old.order.length) (with_last old.order.last_sector old) new
     begins none
 
-attends_by : (holds : Bool) (code : Code) (old new : ChipState) → AttendsIf holds code old new → to_come old ≡ false → to_come new ≡ false
+attends_by : (holds : Bool) (code : ChipOpcode) (old new : ChipState) → AttendsIf holds code old new → to_come old ≡ false → to_come new ≡ false
 attends_by true code old new is none = ap to_come is ∙ none
 attends_by false code old new obeys none = obeys_poll code old new obeys none
 
-attends_poll : (code : Option Code) (old new : ChipState) → AttendsTo code old new → to_come old ≡ false → to_come new ≡ false
+attends_poll : (code : Option ChipOpcode) (old new : ChipState) → AttendsTo code old new → to_come old ≡ false → to_come new ≡ false
 attends_poll None old new is none = ap to_come is ∙ none
 attends_poll (Some code) old new attends none = attends_by (needs_heads code && is_moving (drained old)) code (drained old) new attends (drained_poll 4 old ∙ none)
 
@@ -158,19 +158,19 @@ recalibrates_poll (Seeking transfer counted) unit pulses old = refl
 recalibrates_poll (Moving moving) unit pulses old = refl
 recalibrates_poll (FrontTelling results read) unit pulses old = refl
 
-over_poll : (goal : Option ℕ) (pace : Pace) (old new : ChipState) → EndsPace goal pace old new → to_come old ≡ false → to_come new ≡ false
+over_poll : (goal : Option ℕ) (pace : PacedSeek) (old new : ChipState) → EndsPace goal pace old new → to_come old ≡ false → to_come new ≡ false
 over_poll (Some target) pace old new (sends, rest) none = sends_poll (moving pace.unit (Some target)) old.front new.front sends none
 over_poll None pace old new is none = ap to_come is ∙ (recalibrates_poll old.front.stage pace.unit pace.left old.front ∙ none)
 
-pulses_poll : (over : Bool) (pace : Pace) (old new : ChipState) → PulsesIf over pace old new → to_come old ≡ false → to_come new ≡ false
+pulses_poll : (over : Bool) (pace : PacedSeek) (old new : ChipState) → PulsesIf over pace old new → to_come old ≡ false → to_come new ≡ false
 pulses_poll true pace old new ends none = over_poll pace.goal pace (record old { pace = None }) new ends none
 pulses_poll false pace old new (sends, rest) none = sends_poll (moving pace.unit (Some (stepped (step_words old.settings) pace).cylinder)) old.front new.front sends none
 
-goes_poll : (due : Bool) (pace : Pace) (old new : ChipState) → GoesOnIf due pace old new → to_come old ≡ false → to_come new ≡ false
+goes_poll : (due : Bool) (pace : PacedSeek) (old new : ChipState) → GoesOnIf due pace old new → to_come old ≡ false → to_come new ≡ false
 goes_poll true pace old new pulses none = pulses_poll (is_over pace) pace old new pulses none
 goes_poll false pace old new is none = ap to_come is ∙ none
 
-paces_poll : (pace : Option Pace) (old new : ChipState) → Paces pace old new → to_come old ≡ false → to_come new ≡ false
+paces_poll : (pace : Option PacedSeek) (old new : ChipState) → Paces pace old new → to_come old ≡ false → to_come new ≡ false
 paces_poll None old new is none = ap to_come is ∙ none
 paces_poll (Some pace) old new goes none = goes_poll (is_due pace (drained old)) pace (drained old) new goes (drained_poll 4 old ∙ none)
 
@@ -222,22 +222,22 @@ place_poll Index track results old new ends none = index_poll (not (bit_and resu
 place_poll Address track results old new ends none = address_poll track.counted results track old new ends none
 place_poll Data track results old new ends none = let over = without_one results track in data_poll (is_over_track results over) over old new ends none
 
-ends_poll : (what : Task) (results : Results) (old new : ChipState) → Ends what results old new → to_come old ≡ false → to_come new ≡ false
+ends_poll : (what : ChipTask) (results : Results) (old new : ChipState) → Ends what results old new → to_come old ≡ false → to_come new ≡ false
 ends_poll task.Sent results old new ends none = sent_ends (looks_for_cylinder old.order results) results old new ends none
 ends_poll (task.Sought first) results old new is none = ap to_come is ∙ none
 ends_poll (task.Refused unit key mfm) results old new is none = ap to_come is ∙ none
 ends_poll (task.Verify left) results old new ends none = let told = verified old.order results in sent_ends (looks_for_cylinder old.order told) told old new ends none
 ends_poll (task.Track track) results old new ends none = place_poll track.place track results old new ends none
 
-may_end_by : (waits : Bool) (what : Task) (old new : ChipState) → EndsIf waits what old new → to_come old ≡ false → to_come new ≡ false
+may_end_by : (waits : Bool) (what : ChipTask) (old new : ChipState) → EndsIf waits what old new → to_come old ≡ false → to_come new ≡ false
 may_end_by true what old new ends none =
     ends_poll what (results_judged old) (with_front (results_taken old.front) old) new ends (results_poll old.front ∙ none)
 may_end_by false what old new is none = ap to_come is ∙ none
 
-may_end_poll : (what : Task) (old new : ChipState) → MayEnd what old new → to_come old ≡ false → to_come new ≡ false
+may_end_poll : (what : ChipTask) (old new : ChipState) → MayEnd what old new → to_come old ≡ false → to_come new ≡ false
 may_end_poll what old new ends none = may_end_by (has_results old.front) what old new ends none
 
-task_poll : (what : Task) (old new : ChipState) → FollowsTask what old new → to_come old ≡ false → to_come new ≡ false
+task_poll : (what : ChipTask) (old new : ChipState) → FollowsTask what old new → to_come old ≡ false → to_come new ≡ false
 task_poll (task.Verify left) old new (between, all, ends) none =
     may_end_poll (task.Verify left) between new ends (ap to_come all.after ∙ (swallows_poll 16 left old.front all.now all.front all.swallows ∙ none))
 task_poll task.Sent old new ends none = may_end_poll task.Sent old new ends none
@@ -250,7 +250,7 @@ over_taken : (up : Bool) (chip : ChipState) → to_come (if up then drained chip
 over_taken true chip = drained_poll 4 chip
 over_taken false chip = refl
 
-follows_poll : (stage : Stage) (old new : ChipState) → Follows stage old new → to_come old ≡ false → to_come new ≡ false
+follows_poll : (stage : ChipStage) (old new : ChipState) → Follows stage old new → to_come old ≡ false → to_come new ≡ false
 follows_poll Ready old new (paced, paces, is) none =
     ap to_come is ∙ (over_taken (interrupts_outside paced.front) paced ∙ paces_poll old.pace old paced paces none)
 follows_poll Held old new (paced, paces, attends) none = attends_poll (code_of paced.order.code) paced new attends (paces_poll old.pace old paced paces none)
@@ -278,14 +278,14 @@ counted_by : (passes : Bool) (old : ChipState) → to_come (counted_if passes ol
 counted_by true old = counts_poll old.front
 counted_by false old = refl
 
-task_counts : (what : Task) (old : ChipState) → to_come (count_told (Busy what) old) ≡ to_come old
+task_counts : (what : ChipTask) (old : ChipState) → to_come (count_told (Busy what) old) ≡ to_come old
 task_counts task.Sent old = counted_by true old
 task_counts (task.Track track) old = counted_by (is_data track.place) (record old { stage = Busy (task.Track (record track { counted = true })) })
 task_counts (task.Sought first) old = refl
 task_counts (task.Refused unit key mfm) old = refl
 task_counts (task.Verify left) old = refl
 
-chip_counts : (stage : Stage) (old : ChipState) → to_come (count_told stage old) ≡ to_come old
+chip_counts : (stage : ChipStage) (old : ChipState) → to_come (count_told stage old) ≡ to_come old
 chip_counts Ready old = refl
 chip_counts Held old = refl
 chip_counts (Busy what) old = task_counts what old
@@ -299,7 +299,7 @@ quieted_poll : (quiets : Bool) (old : ChipState) → to_come (quieted_if quiets 
 quieted_poll true old = refl
 quieted_poll false old = refl
 
-reads_at : (stage : Stage) (old : ChipState) (value : ℕ) (new : ChipState) → ReadsAt stage old value new → to_come new ≡ to_come old
+reads_at : (stage : ChipStage) (old : ChipState) (value : ℕ) (new : ChipState) → ReadsAt stage old value new → to_come new ≡ to_come old
 reads_at Ready old value new reads = reads_by (passes_by_port old) old value new reads
 reads_at Held old value new reads = reads_by (passes_by_port old) old value new reads
 reads_at (Busy what) old value new reads = reads_by (passes_by_port old) old value new reads
@@ -309,7 +309,7 @@ gives_if : (passes : Bool) (byte : ℕ) (old new : ChipState) → GivesIf passes
 gives_if true byte old new gives = gives_poll byte old.front gives.was new.front gives.gives
 gives_if false byte old new is = ap to_come is
 
-collects_by : (whole : Bool) (code : Option Code) (old new : ChipState) → CollectsIf whole code old new → to_come old ≡ false → to_come new ≡ false
+collects_by : (whole : Bool) (code : Option ChipOpcode) (old new : ChipState) → CollectsIf whole code old new → to_come old ≡ false → to_come new ≡ false
 collects_by true code old new attends none = attends_poll code (record old { count = 0 }) new attends none
 collects_by false code old new is none = ap to_come is ∙ none
 
@@ -317,7 +317,7 @@ comes_by : (comes : Bool) (byte : ℕ) (old new : ChipState) → ComesIf comes b
 comes_by true byte old new collects none = let set = with_next byte old in let code = code_of set.order.code in collects_by (is_whole set.count code) code set new collects none
 comes_by false byte old new is none = ap to_come is ∙ none
 
-byte_poll : (stage : Stage) (byte : ℕ) (old new : ChipState) → TakesByte stage byte old new → to_come old ≡ false → to_come new ≡ false
+byte_poll : (stage : ChipStage) (byte : ℕ) (old new : ChipState) → TakesByte stage byte old new → to_come old ≡ false → to_come new ≡ false
 byte_poll Ready byte old new comes none = comes_by (may_come old) byte old new comes none
 byte_poll Held byte old new gives none = gives_if (passes_by_port old) byte old new gives ∙ none
 byte_poll (Busy what) byte old new gives none = gives_if (passes_by_port old) byte old new gives ∙ none

@@ -13,8 +13,8 @@ use Rattle.fdc_registers.specs.declared.drive_lines.Dor.{Dor}
 use Rattle.fdc_adapter.specs.Adapters.{AdapterState, StepsAdapter, selected_at}
 use Rattle.fdc_sequencer.specs.Fronts.{Front, asks_outside, interrupts_at, interrupts_outside}
 use Rattle.fdc_sequencer.specs.Moves.{StepsFront}
-use Rattle.fdc_sequencer.specs.declared.stage.Stage.{Stage as FrontStage}
-use Rattle.fdc_sequencer.specs.declared.stage.Stage.TheVariants.{Through}
+use Rattle.fdc_sequencer.specs.declared.stage.FrontStage.{FrontStage}
+use Rattle.fdc_sequencer.specs.declared.stage.FrontStage.TheVariants.{Through}
 use Rattle.fdc_chip.specs.Chips.{ChipState, interrupts_chip, passes, passes_at, passes_by_channel, shows_behind, with_front}
 use Rattle.fdc_chip.specs.Doing.{drained, drained_by, drained_one, sensing}
 use Rattle.fdc_chip.specs.Interrupts.{Interrupting, at_rest}
@@ -24,9 +24,9 @@ use Rattle.fdc_chip.specs.Ports.{ComesIf, GivesChipIf, ReadsAt, ReadsChip, Takes
 use Rattle.fdc_chip.specs.Quiet.{rests_at}
 use Rattle.fdc_chip.specs.Settings.{is_by_port}
 use Rattle.fdc_chip.specs.Steps.{Follows, StepsChip}
-use Rattle.fdc_chip.specs.declared.pace.Pace.{Pace}
-use Rattle.fdc_chip.specs.declared.stage.Stage.{Stage}
-use Rattle.fdc_chip.specs.declared.stage.Stage.TheVariants.{Ready, Held, Busy, Telling}
+use Rattle.fdc_chip.specs.declared.pace.PacedSeek.{PacedSeek}
+use Rattle.fdc_chip.specs.declared.stage.ChipStage.{ChipStage}
+use Rattle.fdc_chip.specs.declared.stage.ChipStage.TheVariants.{Ready, Held, Busy, Telling}
 use Rattle.laws_sequencer.proofs.Known.{which_drive}
 use Rattle.laws_chip.specs.Calls as made
 use Rattle.laws_chip.specs.Calls.{Call, Does, is_step}
@@ -337,7 +337,7 @@ call_awaits (made.StrapsSteps on) old new was does other free =
 -- ---- SENSE INTERRUPT
 
 -- the chip whose results from this drive on are pending
-abbrev polling : ℕ → Stage → ChipState → ChipState
+abbrev polling : ℕ → ChipStage → ChipState → ChipState
 polling first stage chip = record chip {
   front = build chip.front Through Taking [] seeking.at_rest false false;
   stage = stage;
@@ -346,7 +346,7 @@ polling first stage chip = record chip {
   pace = None;
 }
 
-abbrev chip_of : Front → Stage → ℕ → List (Option ℕ) → List ℕ → Option Pace → ChipState → ChipState
+abbrev chip_of : Front → ChipStage → ℕ → List (Option ℕ) → List ℕ → Option PacedSeek → ChipState → ChipState
 chip_of front stage count pending cylinders pace chip = record chip {
   front = front;
   stage = stage;
@@ -355,7 +355,7 @@ chip_of front stage count pending cylinders pace chip = record chip {
   pace = pace;
 }
 
-as_polling : (first : ℕ) (stage : Stage) (chip : ChipState) → HasPolls first stage chip → chip ≡ polling first stage chip
+as_polling : (first : ℕ) (stage : ChipStage) (chip : ChipState) → HasPolls first stage chip → chip ≡ polling first stage chip
 as_polling first stage chip is =
     let front = build chip.front Through Taking [] seeking.at_rest false false in
     let b = is.behind in
@@ -417,7 +417,7 @@ poll_sends drive old new few was writes =
     })
 
 -- the bytes of the answer are read
-read_on : (first : ℕ) (old : ChipState) (stage next : Stage) → HasPolls first stage old → HasPolls first next (record old { stage = next })
+read_on : (first : ℕ) (old : ChipState) (stage next : ChipStage) → HasPolls first stage old → HasPolls first next (record old { stage = next })
 read_on first old stage next was = record { at = refl; count = was.count; pending = was.pending; cylinders = was.cylinders; unpaced = was.unpaced; free = was.free; behind = was.behind }
 
 pub poll_status : (drive first value : ℕ) (old new : ChipState) → HasPolls first (telling_poll drive 0) old → ReadsChip 0x3F5 old value new → (value ≡ 0xC0 + drive) × HasPolls first (telling_poll drive 1) new
@@ -431,7 +431,7 @@ poll_cylinder drive first value old new was reads =
     (value_is, subst (HasPolls first Ready) (sym is) (read_on first old (telling_poll drive 1) Ready was))
 
 -- device steps pass in between
-polls_on : (first : ℕ) (stage : Stage) (old : ChipState) (front : Front) → HasPolls first stage old → StaysFresh false old.front front → HasPolls first stage (with_front front old)
+polls_on : (first : ℕ) (stage : ChipStage) (old : ChipState) (front : Front) → HasPolls first stage old → StaysFresh false old.front front → HasPolls first stage (with_front front old)
 polls_on first stage old front was goes = record {
   at = was.at;
   count = was.count;
@@ -442,7 +442,7 @@ polls_on first stage old front was goes = record {
   behind = goes.fresh;
 }
 
-pub poll_steps : (first : ℕ) (stage : Stage) (old new : ChipState) → rests_at stage ≡ true → HasPolls first stage old → StepsChip old new → HasPolls first stage new
+pub poll_steps : (first : ℕ) (stage : ChipStage) (old new : ChipState) → rests_at stage ≡ true → HasPolls first stage old → StepsChip old new → HasPolls first stage new
 poll_steps first Ready old new rests was step =
     let goes = front_fresh false old.front step.between step.steps was.behind refl in
     subst (HasPolls first Ready) (sym (ready_quiet old new step was.at was.unpaced (fresh_down false step.between goes.fresh))) (polls_on first Ready old step.between was goes)

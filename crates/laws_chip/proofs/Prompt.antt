@@ -48,14 +48,14 @@ use Rattle.fdc_sequencer.specs.Transfers.{command_for, next_of, results_told, si
 use Rattle.fdc_sequencer.specs.declared.opcode.Operation.{Operation}
 use Rattle.fdc_sequencer.specs.declared.opcode.Operation.TheVariants.{Read, Write}
 use Rattle.fdc_sequencer.specs.declared.stage.Moving.{Moving as MovingSector}
-use Rattle.fdc_sequencer.specs.declared.stage.Stage.{Stage}
-use Rattle.fdc_sequencer.specs.declared.stage.Stage.TheVariants.{Through, Collecting, Seeking, Moving, Telling}
+use Rattle.fdc_sequencer.specs.declared.stage.FrontStage.{FrontStage}
+use Rattle.fdc_sequencer.specs.declared.stage.FrontStage.TheVariants.{Through, Collecting, Seeking, Moving, Telling}
 use Rattle.fdc_sequencer.specs.declared.transfer.Transfer.{Transfer}
 use Rattle.fdc_chip.specs.Chips.{ChipState, asks_chip, interrupts_chip, passes_by_channel, passes_by_port, shows_behind, with_front}
 use Rattle.fdc_chip.specs.Ports as ports
 use Rattle.fdc_chip.specs.Ports.{GivesChipIf, GivesIf, ReadsAt, ReadsIf, TakesByte as TakesByteChip, TakesIf, latched_by, value_behind}
 use Rattle.fdc_chip.specs.Steps.{StepsChip}
-use Rattle.fdc_chip.specs.declared.stage.Task.TheVariants.{Sent as SentTask}
+use Rattle.fdc_chip.specs.declared.stage.ChipTask.TheVariants.{Sent as SentTask}
 use Rattle.laws_sequencer.specs.Lasting.{is_under_way}
 use Rattle.laws_sequencer.specs.Serving.{MayMove, ServesAt, sent_of}
 use Rattle.laws_sequencer.proofs.Free.{next_size}
@@ -186,7 +186,7 @@ record IsFed (moving : MovingSector) (fdc : Fdc) : Type 0 where
   rule : GoesByRule fdc
   last : moving.left ≡ 0 → phase_counted fdc.phase ≡ true
 
-abbrev FedAt : Stage → Fdc → Type 0
+abbrev FedAt : FrontStage → Fdc → Type 0
 FedAt (Moving moving) fdc = IsFed moving fdc
 FedAt _ fdc = Unit {0}
 
@@ -196,7 +196,7 @@ IsFedFront front = FedAt front.stage front.adapter.controller
 fed_as : (moving : MovingSector) (front : Front) → front.stage ≡ Moving moving → IsFed moving front.adapter.controller → IsFedFront front
 fed_as moving front is fed = subst (λ stage. FedAt stage front.adapter.controller) (sym is) fed
 
-free_as : (stage : Stage) (front : Front) → front.stage ≡ stage → FedAt stage front.adapter.controller → IsFedFront front
+free_as : (stage : FrontStage) (front : Front) → front.stage ≡ stage → FedAt stage front.adapter.controller → IsFedFront front
 free_as stage front is fed = subst (λ s. FedAt s front.adapter.controller) (sym is) fed
 
 -- the terminal count
@@ -304,7 +304,7 @@ passed_fed moving fdc old new rule is = subst IsFedFront (sym is) (by_last (movi
 same_fed : (old new : Front) → new ≡ old → IsFedFront old → IsFedFront new
 same_fed old new is fed = subst IsFedFront (sym is) fed
 
-takes_fed : (stage : Stage) (byte : Option ℕ) (old new : Front) → old.stage ≡ stage → is_under_way stage ≡ true → TakesAt stage old byte new → IsFedFront old → IsFedFront new
+takes_fed : (stage : FrontStage) (byte : Option ℕ) (old new : Front) → old.stage ≡ stage → is_under_way stage ≡ true → TakesAt stage old byte new → IsFedFront old → IsFedFront new
 takes_fed (Moving moving) (Some byte) old new at under (up, byte_is, is) fed = passed_fed moving (taken_out old.adapter.controller) old new (old.adapter.controller.asking, refl) is
 takes_fed (Moving moving) None old new at under (quiet, is) fed = same_fed old new is fed
 takes_fed (Seeking transfer counted) byte old new at under (none, is) fed = same_fed old new is fed
@@ -312,7 +312,7 @@ takes_fed Through byte old new at under takes fed = absurd (false≢true under)
 takes_fed (Collecting opcode) byte old new at under takes fed = absurd (false≢true under)
 takes_fed (Telling results read) byte old new at under takes fed = absurd (false≢true under)
 
-gives_fed : (stage : Stage) (byte : ℕ) (was : Bool) (old new : Front) → old.stage ≡ stage → is_under_way stage ≡ true → GivesAt stage byte old was new → IsFedFront old → IsFedFront new
+gives_fed : (stage : FrontStage) (byte : ℕ) (was : Bool) (old new : Front) → old.stage ≡ stage → is_under_way stage ≡ true → GivesAt stage byte old was new → IsFedFront old → IsFedFront new
 gives_fed (Moving moving) byte true old new at under (up, is) fed = passed_fed moving (taken_in byte old.adapter.controller) old new (old.adapter.controller.asking, refl) is
 gives_fed (Moving moving) byte false old new at under (quiet, is) fed = same_fed old new is fed
 gives_fed (Seeking transfer counted) byte was old new at under (none, is) fed = same_fed old new is fed
@@ -320,7 +320,7 @@ gives_fed Through byte was old new at under gives fed = absurd (false≢true und
 gives_fed (Collecting opcode) byte was old new at under gives fed = absurd (false≢true under)
 gives_fed (Telling results read) byte was old new at under gives fed = absurd (false≢true under)
 
-counts_fed : (stage : Stage) (old new : Front) → old.stage ≡ stage → is_under_way stage ≡ true → new ≡ count_told stage old → IsFedFront old → IsFedFront new
+counts_fed : (stage : FrontStage) (old new : Front) → old.stage ≡ stage → is_under_way stage ≡ true → new ≡ count_told stage old → IsFedFront old → IsFedFront new
 counts_fed (Moving moving) old new at under is fed = subst IsFedFront (sym is) (told_fed (record moving { counted = true }) old.adapter.controller (fed_moving moving old at fed).rule)
 counts_fed (Seeking transfer counted) old new at under is fed = free_as (Seeking transfer true) new (ap (λ (f : Front). f.stage) is) tt
 counts_fed Through old new at under is fed = absurd (false≢true under)
@@ -330,7 +330,7 @@ counts_fed (Telling results read) old new at under is fed = absurd (false≢true
 -- ---- ports and media
 
 -- what the rule depends on stays
-alike_fed : (stage : Stage) (old new : Front) → new.stage ≡ old.stage → old.stage ≡ stage → new.adapter.controller.phase ≡ old.adapter.controller.phase → new.adapter.controller.asking ≡ old.adapter.controller.asking
+alike_fed : (stage : FrontStage) (old new : Front) → new.stage ≡ old.stage → old.stage ≡ stage → new.adapter.controller.phase ≡ old.adapter.controller.phase → new.adapter.controller.asking ≡ old.adapter.controller.asking
     → new.adapter.controller.fifo ≡ old.adapter.controller.fifo → IsFedFront old → IsFedFront new
 alike_fed (Moving moving) old new stays at phase asking fifo fed =
     let was = fed_moving moving old at fed in
@@ -411,7 +411,7 @@ next_fed mark Late moving old new sized is = free_as (Telling (results_failed ma
 
 -- ---- results without OR
 
-abbrev is_telling : Stage → Bool
+abbrev is_telling : FrontStage → Bool
 is_telling (Telling results read) = true
 is_telling _ = false
 
@@ -540,7 +540,7 @@ seeks_stepped false at counted front new is sized same =
     let stage = ap (λ (f : Front). f.stage) same ∙ is in
     record { fed = free_as (Seeking at counted) new stage tt; calm = λ results tells. absurd (false≢true (sym (ap is_telling stage) ∙ ap is_telling tells)) }
 
-front_stepped : (stage : Stage) (old new : Front) (step : StepsFront old new) → old.stage ≡ stage → is_under_way stage ≡ true → (was : ServesBehind old) → IsFedFront old → is_gated old.adapter.controller ≡ true → asks_outside old ≡ false → selected_at old.adapter ≤ 1
+front_stepped : (stage : FrontStage) (old new : Front) (step : StepsFront old new) → old.stage ≡ stage → is_under_way stage ≡ true → (was : ServesBehind old) → IsFedFront old → is_gated old.adapter.controller ≡ true → asks_outside old ≡ false → selected_at old.adapter ≤ 1
     → IsStepped new
 front_stepped Through old new step at under was fed gated low few = absurd (false≢true under)
 front_stepped (Collecting opcode) old new step at under was fed gated low few = absurd (false≢true under)

@@ -18,13 +18,13 @@ use Rattle.fdc_adapter.specs.Adapters.{lines_at}
 use Rattle.fdc_sequencer.specs.Fronts.{Front, status_at, with_controller}
 use Rattle.fdc_sequencer.specs.Moves.{StepsFront}
 use Rattle.fdc_sequencer.specs.Senses.{is_ready, is_ready_at, recalibrated_at, recalibrated_outside}
-use Rattle.fdc_sequencer.specs.declared.stage.Stage.TheVariants.{Through}
+use Rattle.fdc_sequencer.specs.declared.stage.FrontStage.TheVariants.{Through}
 use Rattle.fdc_chip.specs.Chips.{ChipState, with_front}
 use Rattle.fdc_chip.specs.Doing.{Sends, drained, is_moving, is_told, moves_heads, moving, pace_begun}
 use Rattle.fdc_chip.specs.Paces.{EndsAt, GoesOn, GoesOnIf, Paces, PulsesIf, is_due, is_over, stepped, target_of}
 use Rattle.fdc_chip.specs.Settings.{step_words}
-use Rattle.fdc_chip.specs.declared.pace.Pace.{Pace}
-use Rattle.fdc_chip.specs.declared.stage.Stage.{Stage}
+use Rattle.fdc_chip.specs.declared.pace.PacedSeek.{PacedSeek}
+use Rattle.fdc_chip.specs.declared.stage.ChipStage.{ChipStage}
 use Rattle.laws_chip.specs.PacedSeeks.{GoesBehind, HeadsPaced, StandsBehind, most_left, pulses_left, pulses_to}
 use Rattle.laws_chip.specs.Seeks.{GoesTo, HeadsGo, SeeksBehind, most_of, steps_left}
 use Rattle.laws_chip.specs.Sound.{IsSound}
@@ -59,7 +59,7 @@ pub few_outward : (unit cylinder : ℕ) → pulses_left (pace_begun unit cylinde
 few_outward unit cylinder = omega arith
 
 -- each pulse leaves one fewer
-pub fewer_left : (words : ℕ) (pace : Pace) → is_over pace ≡ false → pulses_left (stepped words pace) + 1 ≤ pulses_left pace
+pub fewer_left : (words : ℕ) (pace : PacedSeek) → is_over pace ≡ false → pulses_left (stepped words pace) + 1 ≤ pulses_left pace
 fewer_left words pace goes = fewer_to pace.goal pace.cylinder pace.left goes
 
 -- a pulse leads to a cylinder beside this one, and its SEEK takes two device steps
@@ -154,7 +154,7 @@ behind_calm behind apart drive cylinder front (inr is) = seeks_calm (behind + 1)
 
 -- ---- ---- results of single pulses
 
-sought_untold : (pace : Pace) (drive : ℕ) → drive ≤ 3 → is_told (Some pace) (sought drive) ≡ false
+sought_untold : (pace : PacedSeek) (drive : ℕ) → drive ≤ 3 → is_told (Some pace) (sought drive) ≡ false
 sought_untold pace zero few = refl
 sought_untold pace (suc zero) few = refl
 sought_untold pace (suc (suc zero)) few = refl
@@ -209,7 +209,7 @@ step_dma : (old new : Front) (step : StepsFront old new) → old.stage ≡ Throu
 step_dma old new step through =
     ap (λ (f : Front). f.adapter.controller.non_dma) (through_step old new step through) ∙ (adapter_stays old.adapter step.between step.steps).non_dma
 
-goes_over : (behind apart drive cylinder : ℕ) (pace : Pace) (old : Front) (chip : ChipState) → drive ≤ 3 → chip.pace ≡ Some pace → StepsFront old chip.front → GoesBehind behind apart drive cylinder old
+goes_over : (behind apart drive cylinder : ℕ) (pace : PacedSeek) (old : Front) (chip : ChipState) → drive ≤ 3 → chip.pace ≡ Some pace → StepsFront old chip.front → GoesBehind behind apart drive cylinder old
     → GoesOver behind apart drive cylinder old chip
 goes_over behind apart drive cylinder pace old chip few paced step (inl was) =
     let now = front_stands apart drive cylinder old chip.front step was in
@@ -245,7 +245,7 @@ abbrev pub RangesLater : ChipState → Type 0
 RangesLater paced = IsCalm paced.front → is_moving paced ≡ true → IsInRange paced.front.adapter.controller
 
 -- pulses are still to come, or the command that ends the seek is under way
-abbrev pub PacedOrGo : ℕ → ℕ → Option ℕ → Stage → ChipState → Type 0
+abbrev pub PacedOrGo : ℕ → ℕ → Option ℕ → ChipStage → ChipState → Type 0
 PacedOrGo left drive goal stage new = HeadsPaced left drive goal stage new ⊎ HeadsGo (most_of goal) drive goal stage new
 
 -- the inner controller is given a SEEK
@@ -279,7 +279,7 @@ pub seeks_move : (left drive : ℕ) (goal : Option ℕ) (front : Front) → driv
 seeks_move left drive goal front few is = bit_moves front (record { drive = drive; motion = is.motion }) few (seeks_calm left drive goal front is) is.seek
 
 -- a pulse is given
-pulse_given : (behind apart left : ℕ) (pace : Pace) (drive : ℕ) (goal : Option ℕ) (stage : Stage) (old new : ChipState) → drive ≤ 3 → pace.unit % 4 ≡ drive → pace.goal ≡ goal → old.stage ≡ stage → Stands old.front
+pulse_given : (behind apart left : ℕ) (pace : PacedSeek) (drive : ℕ) (goal : Option ℕ) (stage : ChipStage) (old new : ChipState) → drive ≤ 3 → pace.unit % 4 ≡ drive → pace.goal ≡ goal → old.stage ≡ stage → Stands old.front
     → StandsBehind apart drive pace.cylinder old.front → most_left behind apart (step_words old.settings) pace ≤ left + 1 → is_over pace ≡ false → RangesLater new
     → PulsesIf false pace old new → HeadsPaced left drive goal stage new
 pulse_given behind apart left pace drive goal stage old new few drive_is goal_is at stands was within goes ranges (sends, rest) =
@@ -322,7 +322,7 @@ within_all pulses = by_few (nat_lt pulses 79) refl
     by_few false is = omega arith
 
 -- the command that ends the seek is given
-end_given : (goal : Option ℕ) (apart : ℕ) (pace : Pace) (drive : ℕ) (stage : Stage) (old new : ChipState) → drive ≤ 3 → pace.unit % 4 ≡ drive → old.stage ≡ stage → Stands old.front
+end_given : (goal : Option ℕ) (apart : ℕ) (pace : PacedSeek) (drive : ℕ) (stage : ChipStage) (old new : ChipState) → drive ≤ 3 → pace.unit % 4 ≡ drive → old.stage ≡ stage → Stands old.front
     → StandsBehind apart drive pace.cylinder old.front → RangesLater new → EndsAt goal pace (record old { pace = None }) new → HeadsGo (most_of goal) drive goal stage new
 end_given (Some target) apart pace drive stage old new few drive_is at stands was ranges (sends, rest) =
     let unit = pace.unit in
@@ -369,7 +369,7 @@ end_given None apart pace drive stage old new few drive_is at stands was ranges 
 -- ---- a device step
 
 -- a pulse is due
-pulses_on : (b : Bool) (behind apart left : ℕ) (pace : Pace) (drive : ℕ) (goal : Option ℕ) (stage : Stage) (old new : ChipState) → drive ≤ 3 → pace.unit % 4 ≡ drive → pace.goal ≡ goal → old.stage ≡ stage
+pulses_on : (b : Bool) (behind apart left : ℕ) (pace : PacedSeek) (drive : ℕ) (goal : Option ℕ) (stage : ChipStage) (old new : ChipState) → drive ≤ 3 → pace.unit % 4 ≡ drive → pace.goal ≡ goal → old.stage ≡ stage
     → Stands old.front → StandsBehind apart drive pace.cylinder old.front → most_left behind apart (step_words old.settings) pace ≤ left + 1 → is_over pace ≡ b → RangesLater new
     → PulsesIf b pace old new → PacedOrGo left drive goal stage new
 pulses_on true behind apart left pace drive goal stage old new few drive_is goal_is at stands was within over ranges ends =
@@ -378,7 +378,7 @@ pulses_on false behind apart left pace drive goal stage old new few drive_is goa
     inl (pulse_given behind apart left pace drive goal stage old new few drive_is goal_is at stands was within over ranges pulses)
 
 -- the time to the next pulse goes on
-waits_on : (behind apart left : ℕ) (pace : Pace) (drive : ℕ) (goal : Option ℕ) (stage : Stage) (old new : ChipState) → drive ≤ 3 → pace.unit % 4 ≡ drive → pace.goal ≡ goal → old.stage ≡ stage
+waits_on : (behind apart left : ℕ) (pace : PacedSeek) (drive : ℕ) (goal : Option ℕ) (stage : ChipStage) (old new : ChipState) → drive ≤ 3 → pace.unit % 4 ≡ drive → pace.goal ≡ goal → old.stage ≡ stage
     → GoesBehind behind apart drive pace.cylinder old.front → most_left behind apart (step_words old.settings) (record pace { wait = pace.wait - 1 }) ≤ left → new ≡ record old { pace = Some (record pace { wait = pace.wait - 1 }) }
     → HeadsPaced left drive goal stage new
 waits_on behind apart left pace drive goal stage old new few drive_is goal_is at going within is = subst (HeadsPaced left drive goal stage) (sym is) (record {
@@ -395,7 +395,7 @@ waits_on behind apart left pace drive goal stage old new few drive_is goal_is at
 })
 
 -- where the inner controller stands a pulse is due as soon as its time is over
-ready_due : (apart drive cylinder : ℕ) (pace : Pace) (chip : ChipState) → Stands chip.front → StandsBehind apart drive cylinder chip.front → is_due pace chip ≡ nat_le pace.wait 1
+ready_due : (apart drive cylinder : ℕ) (pace : PacedSeek) (chip : ChipState) → Stands chip.front → StandsBehind apart drive cylinder chip.front → is_due pace chip ≡ nat_le pace.wait 1
 ready_due apart drive cylinder pace chip stands was =
     let ready : is_ready chip.front ≡ true = ap (λ stage. is_ready_at stage chip.front.adapter.controller) stands.through ∙ stands_idle chip.front stands in
     ap (λ b. (nat_le pace.wait 1 && b) && not (moves_heads chip.front)) ready
@@ -405,7 +405,7 @@ ready_due apart drive cylinder pace chip stands was =
     both true = refl
     both false = refl
 
-stands_on : (behind apart left : ℕ) (pace : Pace) (drive : ℕ) (goal : Option ℕ) (stage : Stage) (old new : ChipState) → drive ≤ 3 → pace.unit % 4 ≡ drive → pace.goal ≡ goal → old.stage ≡ stage
+stands_on : (behind apart left : ℕ) (pace : PacedSeek) (drive : ℕ) (goal : Option ℕ) (stage : ChipStage) (old new : ChipState) → drive ≤ 3 → pace.unit % 4 ≡ drive → pace.goal ≡ goal → old.stage ≡ stage
     → Stands old.front → StandsBehind apart drive pace.cylinder old.front → most_left behind apart (step_words old.settings) pace ≤ left + 1 → RangesLater new → GoesOn pace old new
     → PacedOrGo left drive goal stage new
 stands_on behind apart left pace drive goal stage old new few drive_is goal_is at stands was within ranges goes =
@@ -417,7 +417,7 @@ stands_on behind apart left pace drive goal stage old new few drive_is goal_is a
         let some = leb-false pace.wait 1 due in
         inl (waits_on 0 apart left pace drive goal stage old new few drive_is goal_is at (inl was) (wait_less (pulses_left pace * max (step_words old.settings) 2) apart pace.wait behind left some within) is)
 
-moves_on : (behind apart left : ℕ) (pace : Pace) (drive : ℕ) (goal : Option ℕ) (stage : Stage) (old new : ChipState) → drive ≤ 3 → pace.unit % 4 ≡ drive → pace.goal ≡ goal → old.stage ≡ stage
+moves_on : (behind apart left : ℕ) (pace : PacedSeek) (drive : ℕ) (goal : Option ℕ) (stage : ChipStage) (old new : ChipState) → drive ≤ 3 → pace.unit % 4 ≡ drive → pace.goal ≡ goal → old.stage ≡ stage
     → SeeksBehind behind drive (Some pace.cylinder) old.front → most_left behind apart (step_words old.settings) pace ≤ left + 1 → GoesOn pace old new → HeadsPaced left drive goal stage new
 moves_on behind apart left pace drive goal stage old new few drive_is goal_is at was within goes =
     let moves = seeks_move behind drive (Some pace.cylinder) old.front few was in
@@ -427,7 +427,7 @@ moves_on behind apart left pace drive goal stage old new few drive_is goal_is at
     (behind_less (pulses_left pace * max (step_words old.settings) 2) apart pace.wait behind left some within) (subst (λ b. GoesOnIf b pace old new) undue goes)
 
 -- what the chip does of the seek in a device step
-pub paced_step : (left drive : ℕ) (goal : Option ℕ) (stage : Stage) (old paced : ChipState) (between : Front) → IsSound old → HeadsPaced (left + 1) drive goal stage old → StepsFront old.front between
+pub paced_step : (left drive : ℕ) (goal : Option ℕ) (stage : ChipStage) (old paced : ChipState) (between : Front) → IsSound old → HeadsPaced (left + 1) drive goal stage old → StepsFront old.front between
     → Paces old.pace (with_front between old) paced → RangesLater paced → PacedOrGo left drive goal stage paced
 paced_step left drive goal stage old paced between sound was step paces ranges =
     let pace = was.pace in
@@ -442,5 +442,5 @@ paced_step left drive goal stage old paced between sound was step paces ranges =
       | inr seeks ↦ inl (moves_on was.behind was.apart left pace drive goal stage chip paced was.few was.drive_is was.goal_is was.at seeks was.within goes)
     ]
 
-pub paced_some : (drive : ℕ) (goal : Option ℕ) (stage : Stage) (chip : ChipState) → HeadsPaced 0 drive goal stage chip → ⊥
+pub paced_some : (drive : ℕ) (goal : Option ℕ) (stage : ChipStage) (chip : ChipState) → HeadsPaced 0 drive goal stage chip → ⊥
 paced_some drive goal stage chip was = let none = was.within in absurd (omega (arith, none))

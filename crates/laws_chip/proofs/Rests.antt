@@ -16,7 +16,7 @@ use Rattle.fdc_adapter.specs.Senses.{after_result, without_result}
 use Rattle.fdc_sequencer.specs.Fronts.{Front, with_controller}
 use Rattle.fdc_sequencer.specs.Moves.{FollowsStep, StepsFront}
 use Rattle.fdc_sequencer.specs.Senses.{pending_outside, sensed_at, sensed_outside}
-use Rattle.fdc_sequencer.specs.declared.stage.Stage.TheVariants.{Through}
+use Rattle.fdc_sequencer.specs.declared.stage.FrontStage.TheVariants.{Through}
 use Rattle.laws_sequencer.proofs.Known.{which_drive}
 use Rattle.laws_sequencer.proofs.Resting.{polled_phase}
 use Rattle.fdc_chip.specs.Chips.{ChipState, with_front}

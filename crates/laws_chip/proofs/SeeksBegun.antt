@@ -18,17 +18,17 @@ use Rattle.fdc_core.specs.declared.controller.Fdc.{Fdc}
 use Rattle.fdc_adapter.specs.Senses.{after_result, without_result}
 use Rattle.fdc_sequencer.specs.Fronts.{Front, with_controller}
 use Rattle.fdc_sequencer.specs.Senses.{pending_outside, sensed_at, sensed_outside}
-use Rattle.fdc_sequencer.specs.declared.stage.Stage.TheVariants.{Through}
+use Rattle.fdc_sequencer.specs.declared.stage.FrontStage.TheVariants.{Through}
 use Rattle.fdc_chip.specs.Chips.{ChipState, with_front}
 use Rattle.fdc_chip.specs.Doing.{AttendsIf, Moves, MovesIf, Obeys, Sends, drained, drained_by, drained_one, is_moving, is_told, kept, moves_heads, moving, needs_heads, pace_begun, relative_target}
 use Rattle.fdc_chip.specs.Interrupts.{Interrupting, cylinder_of, with_result}
 use Rattle.fdc_chip.specs.Ports.{WritesChip}
 use Rattle.fdc_chip.specs.Settings.{step_words}
-use Rattle.fdc_chip.specs.declared.code.Code.{Code}
-use Rattle.fdc_chip.specs.declared.code.Code.TheVariants.{ReadTrack, Specify, SenseDrive, Transfer, Recalibrate, SenseInterrupt, ReadId, FormatTrack, DumpRegisters, Seek, RelativeSeek, Version, Perpendicular, Configure, Lock, Verify}
+use Rattle.fdc_chip.specs.declared.code.ChipOpcode.{ChipOpcode}
+use Rattle.fdc_chip.specs.declared.code.ChipOpcode.TheVariants.{ReadTrack, Specify, SenseDrive, Transfer, Recalibrate, SenseInterrupt, ReadId, FormatTrack, DumpRegisters, Seek, RelativeSeek, Version, Perpendicular, Configure, Lock, Verify}
 use Rattle.fdc_chip.specs.declared.order.Order.{Order}
-use Rattle.fdc_chip.specs.declared.pace.Pace.{Pace}
-use Rattle.fdc_chip.specs.declared.stage.Stage.TheVariants.{Ready}
+use Rattle.fdc_chip.specs.declared.pace.PacedSeek.{PacedSeek}
+use Rattle.fdc_chip.specs.declared.stage.ChipStage.TheVariants.{Ready}
 use Rattle.laws_chip.specs.Beginning.{Completes, completed, still_moves}
 use Rattle.laws_chip.specs.PacedSeeks.{HeadsPaced, StandsBehind, most_paced, pulses_left}
 use Rattle.laws_chip.specs.Seeks.{HeadsGo, IsSoundInRange, SeeksBehind, goal_of, most_of, steps_left}
@@ -191,7 +191,7 @@ drained_paced (suc n) chip =
 
 -- ---- the command
 
-goal_heads : (code : Code) (order : Order) (interrupts : Interrupting) (goal : Option ℕ) → goal_of code order interrupts ≡ Some goal → needs_heads code ≡ true
+goal_heads : (code : ChipOpcode) (order : Order) (interrupts : Interrupting) (goal : Option ℕ) → goal_of code order interrupts ≡ Some goal → needs_heads code ≡ true
 goal_heads Specify order interrupts goal is = absurd (cc)
 goal_heads SenseInterrupt order interrupts goal is = absurd (cc)
 goal_heads Version order interrupts goal is = absurd (cc)
@@ -212,7 +212,7 @@ goal_heads (ReadTrack mfm) order interrupts goal is = refl
 same_some : (one other : Option ℕ) → Some one ≡ Some other → one ≡ other
 same_some one other is = cc
 
-goal_moves : (code : Code) (goal : Option ℕ) (set new : ChipState) → goal_of code set.order set.interrupts ≡ Some goal → Obeys code set new → Moves goal set new
+goal_moves : (code : ChipOpcode) (goal : Option ℕ) (set new : ChipState) → goal_of code set.order set.interrupts ≡ Some goal → Obeys code set new → Moves goal set new
 goal_moves Recalibrate goal set new is obeys = subst (λ g. Moves g set new) (same_some None goal is) obeys
 goal_moves Seek goal set new is obeys = subst (λ g. Moves g set new) (same_some (Some set.order.key.c) goal is) obeys
 goal_moves (RelativeSeek inward) goal set new is obeys =
@@ -292,7 +292,7 @@ given_seeks unit None start new stands none polled range sends =
 given_seeks unit (Some target) start new stands none polled range sends =
     given_seek 256 unit target start new stands none polled range sends (given_within unit target start new stands range sends)
 
-none_of : (pace : Option Pace) → is_some pace ≡ false → pace ≡ None
+none_of : (pace : Option PacedSeek) → is_some pace ≡ false → pace ≡ None
 none_of None is = refl
 none_of (Some pace) is = absurd (false≢true (sym is))
 
@@ -312,7 +312,7 @@ record IsComing (goal : Option ℕ) (byte : ℕ) (old new : ChipState) : Type 0 
   poll : set.front.adapter.controller.poll_due ≡ old.front.adapter.controller.poll_due
   moves : MovesIf old.paced goal set new
 
-comes_by : (code : Code) (goal : Option ℕ) (byte : ℕ) (old new : ChipState) → IsSoundInRange old → byte < 256 → Completes code byte old → goal_of code (completed byte old) (drained old).interrupts ≡ Some goal
+comes_by : (code : ChipOpcode) (goal : Option ℕ) (byte : ℕ) (old new : ChipState) → IsSoundInRange old → byte < 256 → Completes code byte old → goal_of code (completed byte old) (drained old).interrupts ≡ Some goal
     → WritesChip 0x3F5 byte old new → still_moves old ≡ false → IsComing goal byte old new
 comes_by code goal byte old new was few completes is writes still =
     let heads = goal_heads code (completed byte old) (drained old).interrupts goal is in
@@ -338,7 +338,7 @@ comes_by code goal byte old new was few completes is writes still =
       moves = subst (λ b. MovesIf b goal set new) (drained_paced 4 start) moves;
     }
 
-pub seek_comes : (code : Code) (goal : Option ℕ) (byte : ℕ) (old new : ChipState) → IsSoundInRange old → IsSoundInRange new → byte < 256
+pub seek_comes : (code : ChipOpcode) (goal : Option ℕ) (byte : ℕ) (old new : ChipState) → IsSoundInRange old → IsSoundInRange new → byte < 256
     → Completes code byte old → goal_of code (completed byte old) (drained old).interrupts ≡ Some goal → WritesChip 0x3F5 byte old new → still_moves old ≡ false → old.paced ≡ false
     → old.front.adapter.controller.poll_due ≡ false → HeadsGo (most_of goal) ((completed byte old).unit % 4) goal Ready new
 seek_comes code goal byte old new was is_after few completes is writes still unpaced polled =
@@ -360,13 +360,13 @@ none_kept None none = refl
 none_kept (Some seek) none = let some = pow_pos seek.drive in absurd (omega arith)
 
 -- the pulses of the whole seek, from the cylinder that the chip counts
-abbrev begun_at : Option ℕ → Order → Interrupting → Pace
+abbrev begun_at : Option ℕ → Order → Interrupting → PacedSeek
 begun_at goal order interrupts = pace_begun order.unit (cylinder_of order.unit interrupts) goal
 
 most_within : (words pulses : ℕ) → max 0 (0 + 1) + 254 + pulses * max words 2 ≤ most_paced words pulses
 most_within words pulses = omega arith
 
-pub paced_comes : (code : Code) (goal : Option ℕ) (byte : ℕ) (old new : ChipState) → IsSoundInRange old → IsSoundInRange new → byte < 256
+pub paced_comes : (code : ChipOpcode) (goal : Option ℕ) (byte : ℕ) (old new : ChipState) → IsSoundInRange old → IsSoundInRange new → byte < 256
     → Completes code byte old → goal_of code (completed byte old) (drained old).interrupts ≡ Some goal → WritesChip 0x3F5 byte old new → still_moves old ≡ false → old.paced ≡ true
     → old.front.adapter.controller.poll_due ≡ false
     → HeadsPaced (most_paced (step_words new.settings) (pulses_left (pace_begun (completed byte old).unit (cylinder_of (completed byte old).unit (drained old).interrupts) goal)))

@@ -16,12 +16,12 @@ use Rattle.fdc_chip.specs.Paces.{Paces}
 use Rattle.fdc_chip.specs.Ports.{CollectsIf, ComesIf, GivesChipIf, TakesByte, TakesIf, WritesChip, count_told, latched_by, may_come, reset_if, value_behind, with_next}
 use Rattle.fdc_chip.specs.Settings.{is_by_port, step_words}
 use Rattle.fdc_chip.specs.Steps.{Follows, StepsChip}
-use Rattle.fdc_chip.specs.declared.code.Code.{Code}
+use Rattle.fdc_chip.specs.declared.code.ChipOpcode.{ChipOpcode}
 use Rattle.fdc_chip.specs.declared.order.Order.{Order}
-use Rattle.fdc_chip.specs.declared.pace.Pace.{Pace}
+use Rattle.fdc_chip.specs.declared.pace.PacedSeek.{PacedSeek}
 use Rattle.fdc_chip.specs.declared.settings.Settings.{Settings}
-use Rattle.fdc_chip.specs.declared.stage.Stage.{Stage}
-use Rattle.fdc_chip.specs.declared.stage.Stage.TheVariants.{Ready, Held, Busy, Telling}
+use Rattle.fdc_chip.specs.declared.stage.ChipStage.{ChipStage}
+use Rattle.fdc_chip.specs.declared.stage.ChipStage.TheVariants.{Ready, Held, Busy, Telling}
 use Rattle.laws_chip.specs.Beginning.{Completes, IsDoneFree, IsHeldFor, completed, still_moves}
 use Rattle.laws_chip.specs.Calls as made
 use Rattle.laws_chip.specs.Calls.{Call, Does, is_reset, is_step}
@@ -38,17 +38,17 @@ use Rattle.laws_chip.proofs.WholeTransfers.{attended_free, attending, byte_atten
 
 -- ---- other calls
 
-no_bytes_at : (stage : Stage) → waits_for_heads stage ≡ true → passes_at stage ≡ false
+no_bytes_at : (stage : ChipStage) → waits_for_heads stage ≡ true → passes_at stage ≡ false
 no_bytes_at Ready waits = refl
 no_bytes_at Held waits = refl
 no_bytes_at (Busy task) waits = absurd (false≢true waits)
 no_bytes_at (Telling answer read) waits = absurd (false≢true waits)
 
-pub no_channel : (stage : Stage) (chip : ChipState) → waits_for_heads stage ≡ true → chip.stage ≡ stage → passes_by_channel chip ≡ false
+pub no_channel : (stage : ChipStage) (chip : ChipState) → waits_for_heads stage ≡ true → chip.stage ≡ stage → passes_by_channel chip ≡ false
 no_channel stage chip waits at =
     and_right (chip.gated && not (is_by_port chip.settings)) (passes chip) (ap (λ b. b && not (is_format chip.order && (chip.keys == 0))) (ap passes_at at ∙ no_bytes_at stage waits))
 
-pub not_counted : (stage : Stage) (chip : ChipState) → waits_for_heads stage ≡ true → count_told stage chip ≡ chip
+pub not_counted : (stage : ChipStage) (chip : ChipState) → waits_for_heads stage ≡ true → count_told stage chip ≡ chip
 not_counted Ready chip waits = refl
 not_counted Held chip waits = refl
 not_counted (Busy task) chip waits = absurd (false≢true waits)
@@ -136,7 +136,7 @@ keeps_behind : (behind apart drive cylinder : ℕ) (old new : Front) → GoesBeh
 keeps_behind behind apart drive cylinder old new (inl was) keeps = inl (keeps_stands apart drive cylinder old new was keeps)
 keeps_behind behind apart drive cylinder old new (inr was) keeps = inr (keeps_seeks (behind + 1) drive (Some cylinder) old new was keeps)
 
-port_going : (left drive : ℕ) (goal : Option ℕ) (port value : ℕ) (stage : Stage) (old new : ChipState) → HeadsGo left drive goal stage old → WritesChip port value old new → (port == 0x3F5) ≡ false
+port_going : (left drive : ℕ) (goal : Option ℕ) (port value : ℕ) (stage : ChipStage) (old new : ChipState) → HeadsGo left drive goal stage old → WritesChip port value old new → (port == 0x3F5) ≡ false
     → resets port (value_behind port value) ≡ false → HeadsGo left drive goal stage new
 port_going left drive goal port value stage old new was writes no_data quiet =
     let given = value_behind port value in
@@ -150,7 +150,7 @@ port_going left drive goal port value stage old new was writes no_data quiet =
     }
 
 -- a chip with this front goes on with the pulses
-paced_as : (left drive : ℕ) (goal : Option ℕ) (stage : Stage) (old new : ChipState) (was : HeadsPaced left drive goal stage old) → new.stage ≡ old.stage → new.pace ≡ old.pace → new.settings ≡ old.settings
+paced_as : (left drive : ℕ) (goal : Option ℕ) (stage : ChipStage) (old new : ChipState) (was : HeadsPaced left drive goal stage old) → new.stage ≡ old.stage → new.pace ≡ old.pace → new.settings ≡ old.settings
     → GoesBehind was.behind was.apart drive was.pace.cylinder new.front → HeadsPaced left drive goal stage new
 paced_as left drive goal stage old new was at pace settings going = record {
   at = at ∙ was.at;
@@ -165,7 +165,7 @@ paced_as left drive goal stage old new was at pace settings going = record {
   within = subst (λ (s : Settings). most_left was.behind was.apart (step_words s) was.pace ≤ left) (sym settings) was.within;
 }
 
-port_paced : (left drive : ℕ) (goal : Option ℕ) (port value : ℕ) (stage : Stage) (old new : ChipState) → HeadsPaced left drive goal stage old → WritesChip port value old new → (port == 0x3F5) ≡ false
+port_paced : (left drive : ℕ) (goal : Option ℕ) (port value : ℕ) (stage : ChipStage) (old new : ChipState) → HeadsPaced left drive goal stage old → WritesChip port value old new → (port == 0x3F5) ≡ false
     → resets port (value_behind port value) ≡ false → HeadsPaced left drive goal stage new
 port_paced left drive goal port value stage old new was writes no_data quiet =
     let given = value_behind port value in
@@ -174,10 +174,10 @@ port_paced left drive goal port value stage old new was writes no_data quiet =
     paced_as left drive goal stage old new was (ap (λ (chip : ChipState). chip.stage) set) (ap (λ (chip : ChipState). chip.pace) set) (ap (λ (chip : ChipState). chip.settings) set)
     (port_behind was.behind was.apart drive was.pace.cylinder port given old.front new.front was.going front no_data quiet)
 
-same_going : (left drive : ℕ) (goal : Option ℕ) (stage : Stage) (old new : ChipState) → new ≡ old → HeadsGo left drive goal stage old → HeadsGo left drive goal stage new
+same_going : (left drive : ℕ) (goal : Option ℕ) (stage : ChipStage) (old new : ChipState) → new ≡ old → HeadsGo left drive goal stage old → HeadsGo left drive goal stage new
 same_going left drive goal stage old new is was = subst (HeadsGo left drive goal stage) (sym is) was
 
-pub call_going : (left drive : ℕ) (goal : Option ℕ) (stage : Stage) (call : Call) (old new : ChipState) → waits_for_heads stage ≡ true → HeadsGo left drive goal stage old → Does call old new → is_step call ≡ false
+pub call_going : (left drive : ℕ) (goal : Option ℕ) (stage : ChipStage) (call : Call) (old new : ChipState) → waits_for_heads stage ≡ true → HeadsGo left drive goal stage old → Does call old new → is_step call ≡ false
     → is_reset call ≡ false → is_of_data_port call ≡ false → HeadsGo left drive goal stage new
 call_going left drive goal stage made.Steps old new waits was does no_step no_reset other = absurd (false≢true (sym no_step))
 call_going left drive goal stage (made.Takes byte) old new waits was does no_step no_reset other =
@@ -199,10 +199,10 @@ call_going left drive goal stage (made.Straps on) old new waits was does no_step
 call_going left drive goal stage (made.StrapsSteps on) old new waits was does no_step no_reset other =
     subst (HeadsGo left drive goal stage) (sym does) (record { at = was.at; unpaced = was.unpaced; few = was.few; going = was.going })
 
-same_paced : (left drive : ℕ) (goal : Option ℕ) (stage : Stage) (old new : ChipState) → new ≡ old → HeadsPaced left drive goal stage old → HeadsPaced left drive goal stage new
+same_paced : (left drive : ℕ) (goal : Option ℕ) (stage : ChipStage) (old new : ChipState) → new ≡ old → HeadsPaced left drive goal stage old → HeadsPaced left drive goal stage new
 same_paced left drive goal stage old new is was = subst (HeadsPaced left drive goal stage) (sym is) was
 
-pub call_paced : (left drive : ℕ) (goal : Option ℕ) (stage : Stage) (call : Call) (old new : ChipState) → waits_for_heads stage ≡ true → HeadsPaced left drive goal stage old → Does call old new → is_step call ≡ false
+pub call_paced : (left drive : ℕ) (goal : Option ℕ) (stage : ChipStage) (call : Call) (old new : ChipState) → waits_for_heads stage ≡ true → HeadsPaced left drive goal stage old → Does call old new → is_step call ≡ false
     → is_reset call ≡ false → is_of_data_port call ≡ false → HeadsPaced left drive goal stage new
 call_paced left drive goal stage made.Steps old new waits was does no_step no_reset other = absurd (false≢true (sym no_step))
 call_paced left drive goal stage (made.Takes byte) old new waits was does no_step no_reset other =
@@ -245,7 +245,7 @@ byte_paced left drive goal byte old new was writes part = elim (byte_taken byte 
 
 -- ---- a command comes, and is held
 
-pub comes_held : (left drive : ℕ) (goal : Option ℕ) (code : Code) (byte : ℕ) (old new : ChipState) → IsSound old → byte < 256 → needs_heads code ≡ true → Completes code byte old
+pub comes_held : (left drive : ℕ) (goal : Option ℕ) (code : ChipOpcode) (byte : ℕ) (old new : ChipState) → IsSound old → byte < 256 → needs_heads code ≡ true → Completes code byte old
     → HeadsGo left drive goal Ready old → WritesChip 0x3F5 byte old new → IsHeldFor (completed byte old) new × HeadsGo left drive goal Held new
 comes_held left drive goal code byte old new sound few heads completes was writes =
     let start = attending byte old in
@@ -261,7 +261,7 @@ comes_held left drive goal code byte old new sound few heads completes was write
 
 -- ---- ---- a device step of a held command
 
-pub held_step : (left drive : ℕ) (goal : Option ℕ) (code : Code) (order : Order) (old new : ChipState) → IsSound old → IsHeldFor order old → code_of order.code ≡ Some code → needs_heads code ≡ true
+pub held_step : (left drive : ℕ) (goal : Option ℕ) (code : ChipOpcode) (order : Order) (old new : ChipState) → IsSound old → IsHeldFor order old → code_of order.code ≡ Some code → needs_heads code ≡ true
     → HeadsGo (left + 1) drive goal Held old → StepsChip old new → (IsHeldFor order new × HeadsGo left drive goal Held new) ⊎ IsDoneFree code order (implies old) new
 held_step left drive goal code order old new sound held is heads was step =
     let (paced, paces, attends) = follows_held old new step held.held in
@@ -293,7 +293,7 @@ held_step left drive goal code order old new sound held is heads was step =
 -- ---- ---- pulses are to come in the time that SPECIFY sets
 
 -- a chip that holds a command is as it was, and goes on with the pulses
-held_paced : (left drive : ℕ) (goal : Option ℕ) (stage : Stage) (old : ChipState) → HeadsPaced left drive goal stage old → HeadsPaced left drive goal Held (record old { stage = Held })
+held_paced : (left drive : ℕ) (goal : Option ℕ) (stage : ChipStage) (old : ChipState) → HeadsPaced left drive goal stage old → HeadsPaced left drive goal Held (record old { stage = Held })
 held_paced left drive goal stage old was = record {
   at = refl;
   few = was.few;
@@ -307,10 +307,10 @@ held_paced left drive goal stage old was = record {
   within = was.within;
 }
 
-pace_moves : (pace : Pace) (chip : ChipState) → chip.pace ≡ Some pace → is_moving chip ≡ true
+pace_moves : (pace : PacedSeek) (chip : ChipState) → chip.pace ≡ Some pace → is_moving chip ≡ true
 pace_moves pace chip paced = ap (λ p. is_some p || moves_heads chip.front) paced
 
-pub comes_paced : (left drive : ℕ) (goal : Option ℕ) (code : Code) (byte : ℕ) (old new : ChipState) → IsSound old → byte < 256 → needs_heads code ≡ true → Completes code byte old
+pub comes_paced : (left drive : ℕ) (goal : Option ℕ) (code : ChipOpcode) (byte : ℕ) (old new : ChipState) → IsSound old → byte < 256 → needs_heads code ≡ true → Completes code byte old
     → HeadsPaced left drive goal Ready old → WritesChip 0x3F5 byte old new → IsHeldFor (completed byte old) new × HeadsPaced left drive goal Held new
 comes_paced left drive goal code byte old new sound few heads completes was writes =
     let start = attending byte old in
@@ -346,7 +346,7 @@ paced_steps left drive goal old new was_sound is_sound was step =
     ]
 
 -- a device step of a held command
-pub paced_held : (left drive : ℕ) (goal : Option ℕ) (code : Code) (order : Order) (old new : ChipState) → IsSoundInRange old → IsSoundInRange new → IsHeldFor order old → code_of order.code ≡ Some code
+pub paced_held : (left drive : ℕ) (goal : Option ℕ) (code : ChipOpcode) (order : Order) (old new : ChipState) → IsSoundInRange old → IsSoundInRange new → IsHeldFor order old → code_of order.code ≡ Some code
     → needs_heads code ≡ true → HeadsPaced (left + 1) drive goal Held old → StepsChip old new → IsHeldFor order new × (HeadsPaced left drive goal Held new ⊎ HeadsGo (most_of goal) drive goal Held new)
 paced_held left drive goal code order old new was_sound is_sound held is heads was step =
     let (paced, paces, attends) = follows_held old new step held.held in

@@ -20,13 +20,13 @@ use Rattle.fdc_chip.specs.Paces.{Paces}
 use Rattle.fdc_chip.specs.Ports.{CollectsIf, ComesIf, GivesChipIf, GivesIf, ReadsAt, ReadsIf, TakesByte, TakesIf, WritesChip, byte_told, count_told, latched_by, is_whole, may_come, quieted_if, reset_if, value_behind, with_next}
 use Rattle.fdc_chip.specs.Settings.{step_words}
 use Rattle.fdc_chip.specs.Steps.{Follows}
-use Rattle.fdc_chip.specs.declared.answer.Answer.{Answer}
-use Rattle.fdc_chip.specs.declared.code.Code.{Code}
-use Rattle.fdc_chip.specs.declared.code.Code.TheVariants as code
-use Rattle.fdc_chip.specs.declared.pace.Pace.{Pace}
+use Rattle.fdc_chip.specs.declared.answer.ChipAnswer.{ChipAnswer}
+use Rattle.fdc_chip.specs.declared.code.ChipOpcode.{ChipOpcode}
+use Rattle.fdc_chip.specs.declared.code.ChipOpcode.TheVariants as code
+use Rattle.fdc_chip.specs.declared.pace.PacedSeek.{PacedSeek}
 use Rattle.fdc_chip.specs.declared.settings.Settings.{Settings}
-use Rattle.fdc_chip.specs.declared.stage.Stage.{Stage}
-use Rattle.fdc_chip.specs.declared.stage.Stage.TheVariants.{Ready, Held, Busy, Telling}
+use Rattle.fdc_chip.specs.declared.stage.ChipStage.{ChipStage}
+use Rattle.fdc_chip.specs.declared.stage.ChipStage.TheVariants.{Ready, Held, Busy, Telling}
 use Rattle.laws_chip.specs.Bounds.{AreSeeking, HeadsGoOn, IsUsed, StaysHeld, heads_go, heads_steps, is_executed, seek_steps}
 use Rattle.laws_chip.specs.Calls as made
 use Rattle.laws_chip.specs.Calls.{Call, Does, WritesByte, is_step, steps_in, steps_of}
@@ -51,7 +51,7 @@ use Rattle.laws_chip.proofs.WholeTransfers.{drained_pace}
 
 -- ---- what is left
 
-executed_busy : (stage : Stage) → is_executed stage ≡ false → is_busy stage ≡ false
+executed_busy : (stage : ChipStage) → is_executed stage ≡ false → is_busy stage ≡ false
 executed_busy Ready idle = refl
 executed_busy Held idle = refl
 executed_busy (Busy what) idle = absurd (false≢true (sym idle))
@@ -68,7 +68,7 @@ run_some Ended runs = absurd (false≢true runs)
 pace_some : (all wait now : ℕ) → 0 < max wait now + (all + 257)
 pace_some all wait now = omega arith
 
-go_some : (words : ℕ) (pace : Option Pace) (seek : Option DriveSeek) → (is_some pace || option_map_or (λ (d : DriveSeek). not (has_ended d.motion)) seek false) ≡ true → 0 < heads_steps words pace seek
+go_some : (words : ℕ) (pace : Option PacedSeek) (seek : Option DriveSeek) → (is_some pace || option_map_or (λ (d : DriveSeek). not (has_ended d.motion)) seek false) ≡ true → 0 < heads_steps words pace seek
 go_some words (Some pace) seek goes = pace_some (pulses_left pace * (max words 256 + 1)) pace.wait (seek_steps seek)
 go_some words None None goes = absurd (false≢true goes)
 go_some words None (Some seek) goes = run_some seek.motion goes
@@ -80,13 +80,13 @@ less_all n m k one two = omega arith
 drained_few : (words n : ℕ) (chip : ChipState) → IsIdleAt chip.front → left_at words chip ≤ n → left_at words (drained chip) ≤ n
 drained_few words n chip idle few =
     let set = drained chip in
-    subst (λ (p : Option Pace). heads_steps words p set.front.adapter.controller.seeks.seek ≤ n) (sym (drained_pace 4 chip))
+    subst (λ (p : Option PacedSeek). heads_steps words p set.front.adapter.controller.seeks.seek ≤ n) (sym (drained_pace 4 chip))
     (heads_less words n chip.pace set.front.adapter.controller.seeks.seek chip.front.adapter.controller.seeks.seek (drained_left chip idle) few)
 
 -- the pace and the seeks stay
 same_few : (words n : ℕ) (old new : ChipState) → new.pace ≡ old.pace → new.front.adapter.controller.seeks.seek ≡ old.front.adapter.controller.seeks.seek → left_at words old ≤ n → left_at words new ≤ n
 same_few words n old new pace seek few =
-    subst (λ (p : Option Pace). heads_steps words p new.front.adapter.controller.seeks.seek ≤ n) (sym pace) (subst (λ (s : Option DriveSeek). heads_steps words old.pace s ≤ n) (sym seek) few)
+    subst (λ (p : Option PacedSeek). heads_steps words p new.front.adapter.controller.seeks.seek ≤ n) (sym pace) (subst (λ (s : Option DriveSeek). heads_steps words old.pace s ≤ n) (sym seek) few)
 
 is_few : (words n : ℕ) (old new : ChipState) → new ≡ old → left_at words old ≤ n → left_at words new ≤ n
 is_few words n old new is few = subst (λ chip. left_at words chip ≤ n) (sym is) few
@@ -115,8 +115,8 @@ seek_moves front idle range runs other free same = by_seek front.adapter.control
 go_moving : (chip : ChipState) → IsIdleAt chip.front → IsInRange chip.front.adapter.controller → heads_go chip ≡ true → is_moving (drained chip) ≡ true
 go_moving chip idle range goes = by_pace chip.pace refl goes
   where
-    by_pace : (pace : Option Pace) → chip.pace ≡ pace → (is_some pace || is_seeking chip.front.adapter.controller.seeks) ≡ true → is_moving (drained chip) ≡ true
-    by_pace (Some pace) at goes = ap (λ (p : Option Pace). is_some p || moves_heads (drained chip).front) (drained_pace 4 chip ∙ at)
+    by_pace : (pace : Option PacedSeek) → chip.pace ≡ pace → (is_some pace || is_seeking chip.front.adapter.controller.seeks) ≡ true → is_moving (drained chip) ≡ true
+    by_pace (Some pace) at goes = ap (λ (p : Option PacedSeek). is_some p || moves_heads (drained chip).front) (drained_pace 4 chip ∙ at)
     by_pace None at runs =
         let s = chip.front.adapter.controller.seeks in
         let same = drained_same chip idle (runs_of (is_seeking s) s.seek refl runs) in
@@ -126,7 +126,7 @@ go_moving chip idle range goes = by_pace chip.pace refl goes
 -- ---- a whole command comes
 
 -- a command that doesn't need the inner controller leaves the heads
-obeys_few : (words n : ℕ) (found : Code) (old new : ChipState) → needs_heads found ≡ false → Obeys found old new → left_at words old ≤ n → left_at words new ≤ n
+obeys_few : (words n : ℕ) (found : ChipOpcode) (old new : ChipState) → needs_heads found ≡ false → Obeys found old new → left_at words old ≤ n → left_at words new ≤ n
 obeys_few words n code.Specify old new other is few = same_few words n old new (ap (λ (chip : ChipState). chip.pace) is) (ap (λ (chip : ChipState). chip.front.adapter.controller.seeks.seek) is) few
 obeys_few words n code.SenseInterrupt old new other is few = same_few words n old new (ap (λ (chip : ChipState). chip.pace) is) (ap (λ (chip : ChipState). chip.front.adapter.controller.seeks.seek) is) few
 obeys_few words n code.Version old new other is few = same_few words n old new (ap (λ (chip : ChipState). chip.pace) is) (ap (λ (chip : ChipState). chip.front.adapter.controller.seeks.seek) is) few
@@ -145,18 +145,18 @@ obeys_few words n (code.Verify mfm) old new other is few = absurd (false≢true 
 obeys_few words n (code.ReadTrack mfm) old new other is few = absurd (false≢true (sym other))
 
 -- any other command is held, since heads move
-attends_few : (heads : Bool) (words n : ℕ) (found : Code) (old new : ChipState) → needs_heads found ≡ heads → is_moving old ≡ true → AttendsIf (heads && is_moving old) found old new → left_at words old ≤ n → left_at words new ≤ n
+attends_few : (heads : Bool) (words n : ℕ) (found : ChipOpcode) (old new : ChipState) → needs_heads found ≡ heads → is_moving old ≡ true → AttendsIf (heads && is_moving old) found old new → left_at words old ≤ n → left_at words new ≤ n
 attends_few true words n found old new needs moves attends few =
     let is : new ≡ record old { stage = Held } = subst (λ b. AttendsIf b found old new) moves attends in
     same_few words n old new (ap (λ (chip : ChipState). chip.pace) is) (ap (λ (chip : ChipState). chip.front.adapter.controller.seeks.seek) is) few
 attends_few false words n found old new needs moves obeys few = obeys_few words n found old new needs obeys few
 
-attended_few : (words n : ℕ) (found : Option Code) (old new : ChipState) → IsIdleAt old.front → IsInRange old.front.adapter.controller → heads_go old ≡ true → AttendsTo found old new → left_at words old ≤ n → left_at words new ≤ n
+attended_few : (words n : ℕ) (found : Option ChipOpcode) (old new : ChipState) → IsIdleAt old.front → IsInRange old.front.adapter.controller → heads_go old ≡ true → AttendsTo found old new → left_at words old ≤ n → left_at words new ≤ n
 attended_few words n None old new idle range goes is few = same_few words n old new (ap (λ (chip : ChipState). chip.pace) is) (ap (λ (chip : ChipState). chip.front.adapter.controller.seeks.seek) is) few
 attended_few words n (Some found) old new idle range goes attends few =
     attends_few (needs_heads found) words n found (drained old) new refl (go_moving old idle range goes) attends (drained_few words n old idle few)
 
-collects_few : (b : Bool) (words n : ℕ) (found : Option Code) (old new : ChipState) → IsIdleAt old.front → IsInRange old.front.adapter.controller → heads_go old ≡ true → CollectsIf b found old new → left_at words old ≤ n → left_at words new ≤ n
+collects_few : (b : Bool) (words n : ℕ) (found : Option ChipOpcode) (old new : ChipState) → IsIdleAt old.front → IsInRange old.front.adapter.controller → heads_go old ≡ true → CollectsIf b found old new → left_at words old ≤ n → left_at words new ≤ n
 collects_few true words n found old new idle range goes attends few = attended_few words n found (record old { count = 0 }) new idle range goes attends few
 collects_few false words n found old new idle range goes is few = is_few words n old new is few
 
@@ -167,25 +167,25 @@ comes_few false words n byte old new idle range goes is few = is_few words n old
 
 -- ---- ---- calls that are no device steps
 
-told_pace : (answer : Answer) (read : ℕ) (old : ChipState) → (byte_told answer read old).pace ≡ old.pace
+told_pace : (answer : ChipAnswer) (read : ℕ) (old : ChipState) → (byte_told answer read old).pace ≡ old.pace
 told_pace answer read old = by_quiet (is_of_data answer && (read == 0))
   where
     by_quiet : (b : Bool) → (record (quieted_if b old) { stage = if nat_le (length (answer_bytes answer)) (read + 1) then Ready else Telling answer (read + 1) }).pace ≡ old.pace
     by_quiet true = refl
     by_quiet false = refl
 
-told_few : (words n : ℕ) (answer : Answer) (read : ℕ) (old new : ChipState) → new ≡ byte_told answer read old → left_at words old ≤ n → left_at words new ≤ n
+told_few : (words n : ℕ) (answer : ChipAnswer) (read : ℕ) (old new : ChipState) → new ≡ byte_told answer read old → left_at words old ≤ n → left_at words new ≤ n
 told_few words n answer read old new is few =
     is_few words n (byte_told answer read old) new is
     (same_few words n old (byte_told answer read old) (told_pace answer read old) (ap (λ (front : Front). front.adapter.controller.seeks.seek) (byte_stays answer read old).front) few)
 
-read_few : (stage : Stage) (words n value : ℕ) (old new : ChipState) → old.stage ≡ stage → is_busy stage ≡ false → ReadsAt stage old value new → left_at words old ≤ n → left_at words new ≤ n
+read_few : (stage : ChipStage) (words n value : ℕ) (old new : ChipState) → old.stage ≡ stage → is_busy stage ≡ false → ReadsAt stage old value new → left_at words old ≤ n → left_at words new ≤ n
 read_few Ready words n value old new at idle reads few = is_few words n old new (subst (λ b. ReadsIf b old value new) (none_by_port old (ap is_busy at)) reads).1 few
 read_few Held words n value old new at idle reads few = is_few words n old new (subst (λ b. ReadsIf b old value new) (none_by_port old (ap is_busy at)) reads).1 few
 read_few (Busy what) words n value old new at idle reads few = absurd (false≢true (sym idle))
 read_few (Telling answer read) words n value old new at idle (value_is, is) few = told_few words n answer read old new is few
 
-write_few : (stage : Stage) (words n value : ℕ) (old new : ChipState) → old.stage ≡ stage → is_busy stage ≡ false → IsIdleAt old.front → IsInRange old.front.adapter.controller → heads_go old ≡ true → TakesByte stage value old new
+write_few : (stage : ChipStage) (words n value : ℕ) (old new : ChipState) → old.stage ≡ stage → is_busy stage ≡ false → IsIdleAt old.front → IsInRange old.front.adapter.controller → heads_go old ≡ true → TakesByte stage value old new
     → left_at words old ≤ n → left_at words new ≤ n
 write_few Ready words n value old new at idle free range goes comes few = comes_few (may_come old) words n value old new free range goes comes few
 write_few Held words n value old new at idle free range goes gives few = is_few words n old new (subst (λ b. GivesIf b value old new) (none_by_port old (ap is_busy at)) gives) few
@@ -193,9 +193,9 @@ write_few (Busy what) words n value old new at idle free range goes gives few = 
 write_few (Telling answer read) words n value old new at idle free range goes gives few = is_few words n old new (subst (λ b. GivesIf b value old new) (none_by_port old (ap is_busy at)) gives) few
 
 -- a reset lets no heads move
-none_go : (pace : Option Pace) (s : Seeking) → pace ≡ None → s.seek ≡ None → (is_some pace || is_seeking s) ≡ false
+none_go : (pace : Option PacedSeek) (s : Seeking) → pace ≡ None → s.seek ≡ None → (is_some pace || is_seeking s) ≡ false
 none_go pace s none stands =
-    ap (λ (p : Option Pace). is_some p || is_seeking s) none ∙ ap (λ (seek : Option DriveSeek). option_map_or (λ (d : DriveSeek). not (has_ended d.motion)) seek false) stands
+    ap (λ (p : Option PacedSeek). is_some p || is_seeking s) none ∙ ap (λ (seek : Option DriveSeek). option_map_or (λ (d : DriveSeek). not (has_ended d.motion)) seek false) stands
 
 port_few : (b : Bool) (words n port value : ℕ) (old set new : ChipState) → resets port value ≡ b → (port == 0x3F5) ≡ false → set.pace ≡ old.pace → heads_go new ≡ true → WritesFront port value old.front new.front → new ≡ with_front new.front (reset_if b set)
     → left_at words old ≤ n → left_at words new ≤ n
@@ -255,15 +255,15 @@ ready_few false words n old between paced new sound idle was still tells step pa
     is_few words (n - 1) paced new is on.within
 
 -- a command that is held stays held
-held_as : (b : Bool) (found : Code) (old new : ChipState) → is_held_at new.stage ≡ true → AttendsIf b found old new → new ≡ record old { stage = Held }
+held_as : (b : Bool) (found : ChipOpcode) (old new : ChipState) → is_held_at new.stage ≡ true → AttendsIf b found old new → new ≡ record old { stage = Held }
 held_as true found old new held is = is
 held_as false found old new held obeys = clash (is_held_at new.stage) (obeys_free found old new obeys) held
 
-held_now : (found : Option Code) (old new : ChipState) → is_held_at new.stage ≡ true → AttendsTo found old new → new ≡ record (drained old) { stage = Held }
+held_now : (found : Option ChipOpcode) (old new : ChipState) → is_held_at new.stage ≡ true → AttendsTo found old new → new ≡ record (drained old) { stage = Held }
 held_now None old new held is = clash (is_held_at new.stage) (ap (λ (chip : ChipState). is_held_at chip.stage) is) held
 held_now (Some found) old new held attends = held_as (needs_heads found && is_moving (drained old)) found (drained old) new held attends
 
-step_few : (stage : Stage) (words n : ℕ) (old : ChipState) (between : Front) (new : ChipState) → old.stage ≡ stage → is_busy stage ≡ false → IsSound old → HeadsGoOn words old → HeadsGoOn words new → StaysHeld stage new.stage → TellsEnd old.front.adapter.controller.seeks
+step_few : (stage : ChipStage) (words n : ℕ) (old : ChipState) (between : Front) (new : ChipState) → old.stage ≡ stage → is_busy stage ≡ false → IsSound old → HeadsGoOn words old → HeadsGoOn words new → StaysHeld stage new.stage → TellsEnd old.front.adapter.controller.seeks
     → StepsFront old.front between → Follows stage (with_front between old) new → left_at words old ≤ n → left_at words new ≤ n - 1
 step_few Ready words n old between new at idle sound was still stays tells step (paced, paces, is) few =
     ready_few (interrupts_outside paced.front) words n old between paced new sound (ap is_busy at) was still tells step paces few is

@@ -16,7 +16,7 @@ use Rattle.fdc_adapter.specs.Adapters.{WritesAdapter, lines_at}
 use Rattle.fdc_core.specs.Whole.{options_with}
 use Rattle.fdc_sequencer.specs.Fronts.{Front, PassesAs, TakesByte, WritesFront, begins_with, configured_with}
 use Rattle.fdc_sequencer.specs.Opcodes.{opcode_of}
-use Rattle.fdc_sequencer.specs.declared.stage.Stage.TheVariants.{Through}
+use Rattle.fdc_sequencer.specs.declared.stage.FrontStage.TheVariants.{Through}
 use Rattle.fdc_chip.specs.Doing.{Sends, identifying}
 use Rattle.laws_chip.proofs.Standing.{Stands, stands_taking}
 

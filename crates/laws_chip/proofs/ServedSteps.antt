@@ -18,8 +18,8 @@ use Rattle.fdc_sequencer.specs.Opcodes.{opcode_of}
 use Rattle.fdc_sequencer.specs.Transfers.{next_of}
 use Rattle.fdc_sequencer.specs.declared.opcode.Opcode.{Opcode}
 use Rattle.fdc_sequencer.specs.declared.stage.Moving.{Moving as MovingSector}
-use Rattle.fdc_sequencer.specs.declared.stage.Stage.{Stage}
-use Rattle.fdc_sequencer.specs.declared.stage.Stage.TheVariants.{Through, Collecting, Seeking, Moving, Telling}
+use Rattle.fdc_sequencer.specs.declared.stage.FrontStage.{FrontStage}
+use Rattle.fdc_sequencer.specs.declared.stage.FrontStage.TheVariants.{Through, Collecting, Seeking, Moving, Telling}
 use Rattle.fdc_sequencer.specs.declared.transfer.Transfer.{Transfer}
 use Rattle.laws_sequencer.specs.Lasting.{is_under_way}
 use Rattle.laws_sequencer.specs.Serving.{History, IsFree, ServesAt, history_stepped, nothing_moved, sent_of}
@@ -153,7 +153,7 @@ moves_go mark (Some ending) moving old front new stage_is some sized free base e
 
 -- ---- all stages
 
-step_goes : (stage : Stage) (first : Transfer) (history : History) (old : Front) (between : AdapterState) (new : Front) → old.stage ≡ stage → is_under_way stage ≡ true → IsSizeCode first.key.n
+step_goes : (stage : FrontStage) (first : Transfer) (history : History) (old : Front) (between : AdapterState) (new : Front) → old.stage ≡ stage → is_under_way stage ≡ true → IsSizeCode first.key.n
     → ServesAt stage first history old.adapter.controller → WaitsForHeads stage old.adapter.controller.phase → old.adapter.controller.command ≡ [] → old.adapter.controller.non_dma ≡ false
     → StepsAdapter old.adapter between → FollowsStep (mark_of old.adapter.controller) stage (record old { adapter = between }) new → Goes old.adapter.controller new
 step_goes Through first history old between new stage_is under sized now waits none clear steps follows = absurd (false≢true under)

@@ -18,10 +18,10 @@ use Rattle.fdc_chip.specs.Ports.{GivesChipIf, GivesIf, ReadsAt, ReadsChip, Reads
 use Rattle.fdc_chip.specs.Steps.{Follows, FollowsTask}
 use Rattle.fdc_chip.specs.declared.stage.Place.{Place}
 use Rattle.fdc_chip.specs.declared.stage.Place.TheVariants.{Index, Address, Data}
-use Rattle.fdc_chip.specs.declared.stage.Stage.{Stage}
-use Rattle.fdc_chip.specs.declared.stage.Stage.TheVariants.{Busy}
-use Rattle.fdc_chip.specs.declared.stage.Task.{Task}
-use Rattle.fdc_chip.specs.declared.stage.Task.TheVariants as task
+use Rattle.fdc_chip.specs.declared.stage.ChipStage.{ChipStage}
+use Rattle.fdc_chip.specs.declared.stage.ChipStage.TheVariants.{Busy}
+use Rattle.fdc_chip.specs.declared.stage.ChipTask.{ChipTask}
+use Rattle.fdc_chip.specs.declared.stage.ChipTask.TheVariants as task
 use Rattle.fdc_chip.specs.declared.stage.Track.{Track}
 use Rattle.laws_chip.specs.Calls as made
 use Rattle.laws_chip.specs.Calls.{Call, Does, steps_in, steps_of}
@@ -44,14 +44,14 @@ place_kind Address = 5
 place_kind Data = 6
 
 -- what a task does, except for what is left of it and the terminal count
-abbrev pub kind_of : Task → ℕ
+abbrev pub kind_of : ChipTask → ℕ
 kind_of task.Sent = 0
 kind_of (task.Sought first) = 1
 kind_of (task.Refused unit key mfm) = 2
 kind_of (task.Verify left) = 3
 kind_of (task.Track track) = place_kind track.place
 
-abbrev pub stage_kind : Stage → ℕ
+abbrev pub stage_kind : ChipStage → ℕ
 stage_kind (Busy what) = kind_of what
 stage_kind _ = 7
 
@@ -86,7 +86,7 @@ place_leaves Index track results old new ends same = index_leaves (not (bit_and 
 place_leaves Address track results old new ends same = address_leaves track.counted results track old new ends same
 place_leaves Data track results old new ends same = let over = without_one results track in data_leaves (is_over results over) over old new ends same
 
-pub ends_leave : (what : Task) (results : Results) (old new : ChipState) → Ends what results old new → stage_kind new.stage ≡ kind_of what → ⊥
+pub ends_leave : (what : ChipTask) (results : Results) (old new : ChipState) → Ends what results old new → stage_kind new.stage ≡ kind_of what → ⊥
 ends_leave task.Sent results old new ends same = sent_leaves (looks_for_cylinder old.order results) 0 results old new refl refl ends same
 ends_leave (task.Sought first) results old new is same = other_kind 7 1 new refl (ap (λ (chip : ChipState). stage_kind chip.stage) is) same
 ends_leave (task.Refused unit key mfm) results old new is same = other_kind 7 2 new refl (ap (λ (chip : ChipState). stage_kind chip.stage) is) same
@@ -135,7 +135,7 @@ still_formats Taking single on = absurd (false≢true single)
 still_formats (Result ended) single on = absurd (false≢true single)
 still_formats (Execute execution) single on = on
 
-may_single : (what : Task) (old : ChipState) (between : Front) (new : ChipState) → IsBasis old → StepsFront old.front between → ExecutesBehind old.front → MayEnd what (with_front between old) new
+may_single : (what : ChipTask) (old : ChipState) (between : Front) (new : ChipState) → IsBasis old → StepsFront old.front between → ExecutesBehind old.front → MayEnd what (with_front between old) new
     → stage_kind new.stage ≡ kind_of what → StaysSingle 1 old.front new.front
 may_single what old between new basis step was may same =
     let fdc = old.front.adapter.controller in
@@ -161,7 +161,7 @@ may_single what old between new basis step was may same =
 not_verify : {A : Type 0} (left : ℕ) (old : ChipState) → IsSound old → old.stage ≡ Busy (task.Verify left) → ExecutesBehind old.front → A
 not_verify left old sound at was = absurd (not_through old.front (busy_at old (task.Verify left) at sound).under_way was.through)
 
-follows_single : (what : Task) (old : ChipState) (between : Front) (new : ChipState) → IsSound old → old.stage ≡ Busy what → StepsFront old.front between → ExecutesBehind old.front
+follows_single : (what : ChipTask) (old : ChipState) (between : Front) (new : ChipState) → IsSound old → old.stage ≡ Busy what → StepsFront old.front between → ExecutesBehind old.front
     → FollowsTask what (with_front between old) new → stage_kind new.stage ≡ kind_of what → StaysSingle 1 old.front new.front
 follows_single (task.Verify left) old between new sound at step was follows same = not_verify left old sound at was
 follows_single task.Sent old between new sound at step was may same = may_single task.Sent old between new (sound_basis old (ap is_ready at) sound) step was may same
@@ -213,7 +213,7 @@ counted_single true old set new front is was =
     let at : new.front ≡ told_front old.front = ap (λ (chip : ChipState). chip.front) is ∙ ap told_front front in counts_single old.front new.front at was
 counted_single false old set new front is was = same_single old.front new.front (ap (λ (chip : ChipState). chip.front) is ∙ front) was
 
-told_single : (what : Task) (old new : ChipState) → new ≡ count_told (Busy what) old → ExecutesBehind old.front → StaysSingle 0 old.front new.front
+told_single : (what : ChipTask) (old new : ChipState) → new ≡ count_told (Busy what) old → ExecutesBehind old.front → StaysSingle 0 old.front new.front
 told_single task.Sent old new is was = counted_single true old old new refl is was
 told_single (task.Sought first) old new is was = same_single old.front new.front (ap (λ (chip : ChipState). chip.front) is) was
 told_single (task.Refused unit key mfm) old new is was = same_single old.front new.front (ap (λ (chip : ChipState). chip.front) is) was
@@ -226,13 +226,13 @@ other_read port value old new no_data reads = either_way (port == 0x3F4)
     (λ status. (reads.status (eqb-true port 0x3F4 status)).1)
     (λ no_status. (reads.others no_status no_data).1)
 
-other_write : (b : Bool) (port value : ℕ) (what : Task) (old set new : ChipState) → resets port value ≡ b → (port == 0x3F5) ≡ false → WritesFront port value old.front new.front → new ≡ with_front new.front (reset_if b set)
+other_write : (b : Bool) (port value : ℕ) (what : ChipTask) (old set new : ChipState) → resets port value ≡ b → (port == 0x3F5) ≡ false → WritesFront port value old.front new.front → new ≡ with_front new.front (reset_if b set)
     → is_busy new.stage ≡ true → ExecutesBehind old.front → StaysSingle 0 old.front new.front
 other_write true port value what old set new anew no_data writes rest still was = absurd (false≢true (sym (ap (λ (chip : ChipState). is_busy chip.stage) rest) ∙ still))
 other_write false port value what old set new quiet no_data writes rest still was =
     phase_left old.front new.front (front_left port value old.front new.front writes no_data quiet).phase (port_executes port value old.front new.front writes no_data quiet was)
 
-pub single_call : (call : Call) (what : Task) (old new : ChipState) → IsSound old → old.stage ≡ Busy what → ExecutesBehind old.front → Does call old new → is_busy new.stage ≡ true
+pub single_call : (call : Call) (what : ChipTask) (old new : ChipState) → IsSound old → old.stage ≡ Busy what → ExecutesBehind old.front → Does call old new → is_busy new.stage ≡ true
     → stage_kind new.stage ≡ kind_of what → StaysSingle (steps_of call) old.front new.front
 single_call made.Steps what old new sound at was does still same =
     follows_single what old does.between new sound at does.steps was (subst (λ stage. Follows stage (with_front does.between old) new) at does.follows) same
@@ -274,7 +274,7 @@ left_on old new steps n fewer few = omega arith
 steps_less : (steps more n : ℕ) → more < n - steps → steps + more < n
 steps_less steps more n less = omega arith
 
-singles_last : (calls : List Call) (what : Task) (n : ℕ) (old new : ChipState) → IsSound old → old.stage ≡ Busy what → ExecutesBehind old.front → steps_left old.front.adapter.controller.phase ≤ n
+singles_last : (calls : List Call) (what : ChipTask) (n : ℕ) (old new : ChipState) → IsSound old → old.stage ≡ Busy what → ExecutesBehind old.front → steps_left old.front.adapter.controller.phase ≤ n
     → AreAt (Busy what) calls old new → steps_in calls < n
 singles_last [] what n old new sound at was few same =
     let phase = old.front.adapter.controller.phase in none_less (steps_left phase) n (left_some phase was.executes was.counted) few
@@ -284,5 +284,5 @@ singles_last (call ∷ calls) what n old new sound at was few (between, does, wr
     steps_less steps (steps_in calls) n (singles_last calls what (n - steps) between new (call_sound call old between does writes sound) still on.executes
     (left_on (steps_left old.front.adapter.controller.phase) (steps_left between.front.adapter.controller.phase) steps n on.left few) rest)
 
-pub single_last : (what : Task) (calls : List Call) (old new : ChipState) → IsSound old → old.stage ≡ Busy what → ExecutesBehind old.front → AreAt (Busy what) calls old new → steps_in calls < 65536
+pub single_last : (what : ChipTask) (calls : List Call) (old new : ChipState) → IsSound old → old.stage ≡ Busy what → ExecutesBehind old.front → AreAt (Busy what) calls old new → steps_in calls < 65536
 single_last what calls old new sound at was are = singles_last calls what 65536 old new sound at was (left_most old.front.adapter.controller.phase) are

@@ -12,7 +12,7 @@ use Rattle.fdc_core.specs.declared.controller.Lines.{Lines}
 use Rattle.fdc_adapter.specs.Adapters.{lines_at}
 use Rattle.fdc_sequencer.specs.Fronts.{Front, KeepsFront, WritesFront}
 use Rattle.fdc_sequencer.specs.Fronts as fronts
-use Rattle.fdc_sequencer.specs.declared.stage.Stage.TheVariants.{Through}
+use Rattle.fdc_sequencer.specs.declared.stage.FrontStage.TheVariants.{Through}
 use Rattle.fdc_sequencer.specs.Senses as senses
 use Rattle.fdc_chip.specs.Answers.{answer_bytes, is_of_data}
 use Rattle.fdc_chip.specs.Chips.{ChipState, IsNewChip, KeepsChip, is_data, passes, passes_by_channel, passes_by_port, with_front}
@@ -21,12 +21,12 @@ use Rattle.fdc_chip.specs.Orders.{with_byte}
 use Rattle.fdc_chip.specs.Pins.{ResetsByPin, pin_settings}
 use Rattle.fdc_chip.specs.Ports.{CollectsIf, ComesIf, GivesChipIf, GivesIf, ReadsAt, ReadsChip, ReadsIf, TakesByte, TakesIf, WritesChip, byte_told, count_told, counted_if, latched_by, given_one, is_whole, may_come, quieted_if, reset_if, value_behind, with_next}
 use Rattle.fdc_chip.specs.Settings.{is_by_port}
-use Rattle.fdc_chip.specs.declared.answer.Answer.{Answer}
+use Rattle.fdc_chip.specs.declared.answer.ChipAnswer.{ChipAnswer}
 use Rattle.fdc_chip.specs.declared.order.Order.{Order}
-use Rattle.fdc_chip.specs.declared.stage.Stage.{Stage}
-use Rattle.fdc_chip.specs.declared.stage.Stage.TheVariants.{Ready, Held, Busy, Telling}
-use Rattle.fdc_chip.specs.declared.stage.Task.{Task}
-use Rattle.fdc_chip.specs.declared.stage.Task.TheVariants as task
+use Rattle.fdc_chip.specs.declared.stage.ChipStage.{ChipStage}
+use Rattle.fdc_chip.specs.declared.stage.ChipStage.TheVariants.{Ready, Held, Busy, Telling}
+use Rattle.fdc_chip.specs.declared.stage.ChipTask.{ChipTask}
+use Rattle.fdc_chip.specs.declared.stage.ChipTask.TheVariants as task
 use Rattle.laws_chip.specs.Beginning.{IsOfFour}
 use Rattle.laws_chip.specs.Calls as made
 use Rattle.laws_chip.specs.Calls.{AreMade, Call, Does, WritesByte}
@@ -44,7 +44,7 @@ use Rattle.laws_chip.proofs.UnderWay.{clash, either_way, port_stage}
 -- ---- bytes of what is executed
 
 -- while a command is executed, the front may change
-busy_sound : (what : Task) (old new : ChipState) → old.stage ≡ Busy what → IsSound old → new ≡ with_front new.front old → IsBusyWith what new.front → IsBase old.front.adapter.controller new.front.adapter.controller → IsSound new
+busy_sound : (what : ChipTask) (old new : ChipState) → old.stage ≡ Busy what → IsSound old → new ≡ with_front new.front old → IsBusyWith what new.front → IsBase old.front.adapter.controller new.front.adapter.controller → IsSound new
 busy_sound what old new at sound rest busy base =
     basis_busy new what (basis_same old new (sound_basis old (ap parts.is_ready at) sound) base (ap (λ (chip : ChipState). chip.count) rest) (ap (λ (chip : ChipState). chip.order) rest)) busy
     (ap (λ (chip : ChipState). chip.stage) rest ∙ at)
@@ -80,14 +80,14 @@ write_sound false value old new shown sound is = same_sound old new is sound
 -- ---- the terminal count
 
 -- the inner controller is given the terminal count, or isn't
-counted_sound : (b : Bool) (under : Task) (set new : ChipState) → IsBasis set → IsBusyWith under set.front → set.stage ≡ Busy under → new ≡ counted_if b set → IsSound new
+counted_sound : (b : Bool) (under : ChipTask) (set new : ChipState) → IsBasis set → IsBusyWith under set.front → set.stage ≡ Busy under → new ≡ counted_if b set → IsSound new
 counted_sound true under set new basis busy stage is =
     let counted = fronts.told_front set.front in
     let next : ChipState = with_front counted set in
     subst IsSound (sym is) (basis_busy next under (basis_same set next basis (counts_front_base set.front counted basis.whole refl) refl refl) (counts_busy under set.front counted refl busy) stage)
 counted_sound false under set new basis busy stage is = subst IsSound (sym is) (basis_busy set under basis busy stage)
 
-counts_at : (stage : Stage) (old new : ChipState) → old.stage ≡ stage → IsSound old → new ≡ count_told stage old → IsSound new
+counts_at : (stage : ChipStage) (old new : ChipState) → old.stage ≡ stage → IsSound old → new ≡ count_told stage old → IsSound new
 counts_at Ready old new at sound is = same_sound old new is sound
 counts_at Held old new at sound is = same_sound old new is sound
 counts_at (Telling answer read) old new at sound is = same_sound old new is sound
@@ -97,7 +97,7 @@ counts_at (Busy (task.Sought results)) old new at sound is = same_sound old new 
 counts_at (Busy (task.Refused unit key mfm)) old new at sound is = same_sound old new is sound
 counts_at (Busy (task.Verify left)) old new at sound is = same_sound old new is sound
 counts_at (Busy (task.Track track)) old new at sound is =
-    let told : Task = task.Track (record track { counted = true }) in
+    let told : ChipTask = task.Track (record track { counted = true }) in
     let basis = sound_basis old (ap parts.is_ready at) sound in
     counted_sound (is_data track.place) told (record old { stage = Busy told }) new
     (record { by_dma = basis.by_dma; whole = basis.whole; free = basis.free; none = basis.none; gated = basis.gated; code = basis.code }) (busy_at old (task.Track track) at sound) refl is
@@ -111,7 +111,7 @@ pub record IsTold (old new : ChipState) : Type 0 where
   order : new.order ≡ old.order
   idle : is_busy new.stage ≡ false
 
-pub byte_stays : (answer : Answer) (read : ℕ) (old : ChipState) → IsTold old (byte_told answer read old)
+pub byte_stays : (answer : ChipAnswer) (read : ℕ) (old : ChipState) → IsTold old (byte_told answer read old)
 byte_stays answer read old = by_last (is_of_data answer && (read == 0)) (nat_le (length (answer_bytes answer)) (read + 1))
   where
     by_last : (quiet last : Bool) → IsTold old (record (quieted_if quiet old) { stage = if last then Ready else Telling answer (read + 1) })
@@ -120,7 +120,7 @@ byte_stays answer read old = by_last (is_of_data answer && (read == 0)) (nat_le 
     by_last false true = record { front = refl; count = refl; order = refl; idle = refl }
     by_last false false = record { front = refl; count = refl; order = refl; idle = refl }
 
-told_sound : (answer : Answer) (read : ℕ) (old new : ChipState) → old.stage ≡ Telling answer read → IsSound old → new ≡ byte_told answer read old → IsSound new
+told_sound : (answer : ChipAnswer) (read : ℕ) (old new : ChipState) → old.stage ≡ Telling answer read → IsSound old → new ≡ byte_told answer read old → IsSound new
 told_sound answer read old new at sound is =
     let set = byte_told answer read old in
     let stays = byte_stays answer read old in
@@ -129,7 +129,7 @@ told_sound answer read old new at sound is =
     subst IsSound (sym is) (basis_rests set set.stage (basis_same old set basis base stays.count stays.order)
     (subst RestsBehind (sym stays.front) (parts.at_rest old.stage old.front (ap is_busy at) sound.now)) refl stays.idle)
 
-data_read : (stage : Stage) (value : ℕ) (old new : ChipState) → old.stage ≡ stage → IsSound old → ReadsAt stage old value new → IsSound new
+data_read : (stage : ChipStage) (value : ℕ) (old new : ChipState) → old.stage ≡ stage → IsSound old → ReadsAt stage old value new → IsSound new
 data_read Ready value old new at sound reads = read_sound (passes_by_port old) value old new refl sound reads
 data_read Held value old new at sound reads = read_sound (passes_by_port old) value old new refl sound reads
 data_read (Busy what) value old new at sound reads = read_sound (passes_by_port old) value old new refl sound reads
@@ -203,7 +203,7 @@ comes_sound true byte old new comes at few sound collects =
     collects_sound (is_whole (with_next byte old).count (code_of (with_next byte old).order.code)) byte old new at few sound (comes_free old sound comes) collects
 comes_sound false byte old new comes at few sound is = same_sound old new is sound
 
-data_write : (stage : Stage) (value : ℕ) (old new : ChipState) → old.stage ≡ stage → value < 256 → IsSound old → TakesByte stage value old new → IsSound new
+data_write : (stage : ChipStage) (value : ℕ) (old new : ChipState) → old.stage ≡ stage → value < 256 → IsSound old → TakesByte stage value old new → IsSound new
 data_write Ready value old new at few sound comes = comes_sound (may_come old) value old new refl at few sound comes
 data_write Held value old new at few sound gives = write_sound (passes_by_port old) value old new refl sound gives
 data_write (Busy what) value old new at few sound gives = write_sound (passes_by_port old) value old new refl sound gives
@@ -310,7 +310,7 @@ port_write false port value old new quiet no_data sound out writes rest =
       seek = subst (λ (seeks : Seeking). IsOfFour seeks.seek) (sym left.seeks) was.seek;
     }
 
-    by_stage : (stage : Stage) → IsSoundAt stage old.front → IsSoundAt stage new.front
+    by_stage : (stage : ChipStage) → IsSoundAt stage old.front → IsSoundAt stage new.front
     by_stage Ready now = rests now
     by_stage Held now = rests now
     by_stage (Telling answer read) now = rests now
@@ -331,7 +331,7 @@ writes_sound port value old new few sound writes = either_way (port == 0x3F5)
 
 -- ---- media, and the straps
 
-kept_at : (stage : Stage) (old new : Front) → KeepsFront old new → IsSoundAt stage old → IsSoundAt stage new
+kept_at : (stage : ChipStage) (old new : Front) → KeepsFront old new → IsSoundAt stage old → IsSoundAt stage new
 kept_at stage old new keeps now = by_stage stage now
   where
     rests : RestsBehind old → RestsBehind new
@@ -341,7 +341,7 @@ kept_at stage old new keeps now = by_stage stage now
       seek = subst (λ (fdc : Fdc). IsOfFour fdc.seeks.seek) (sym keeps.controller) was.seek;
     }
 
-    by_stage : (stage : Stage) → IsSoundAt stage old → IsSoundAt stage new
+    by_stage : (stage : ChipStage) → IsSoundAt stage old → IsSoundAt stage new
     by_stage Ready now = rests now
     by_stage Held now = rests now
     by_stage (Telling answer read) now = rests now

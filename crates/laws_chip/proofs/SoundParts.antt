@@ -6,9 +6,9 @@ use Rattle.fdc_sequencer.specs.Fronts.{Front}
 use Rattle.fdc_chip.specs.Chips.{ChipState, passes, passes_at, with_front}
 use Rattle.fdc_chip.specs.Orders.{is_format}
 use Rattle.fdc_chip.specs.declared.order.Order.{Order}
-use Rattle.fdc_chip.specs.declared.stage.Stage.{Stage}
-use Rattle.fdc_chip.specs.declared.stage.Stage.TheVariants.{Ready, Held, Busy, Telling}
-use Rattle.fdc_chip.specs.declared.stage.Task.{Task}
+use Rattle.fdc_chip.specs.declared.stage.ChipStage.{ChipStage}
+use Rattle.fdc_chip.specs.declared.stage.ChipStage.TheVariants.{Ready, Held, Busy, Telling}
+use Rattle.fdc_chip.specs.declared.stage.ChipTask.{ChipTask}
 use Rattle.laws_chip.specs.Sound.{IsBusyWith, IsSound, IsSoundAt, RestsBehind}
 use Rattle.laws_chip.proofs.FirstSectors.{IsBase, base_gated, base_held}
 use Rattle.laws_chip.proofs.Rests.{stands_rests}
@@ -17,42 +17,42 @@ use Rattle.laws_chip.proofs.UnderWay.{clash, either_way}
 
 -- ---- stages
 
-abbrev pub is_busy : Stage → Bool
+abbrev pub is_busy : ChipStage → Bool
 is_busy (Busy task) = true
 is_busy _ = false
 
-abbrev pub is_ready : Stage → Bool
+abbrev pub is_ready : ChipStage → Bool
 is_ready Ready = true
 is_ready _ = false
 
-pub not_ready : (stage : Stage) → is_ready stage ≡ false → stage ≡ Ready → ⊥
+pub not_ready : (stage : ChipStage) → is_ready stage ≡ false → stage ≡ Ready → ⊥
 not_ready stage other is = false≢true (sym other ∙ ap is_ready is)
 
 -- bytes pass only where something is executed
-passing_at : (stage : Stage) → passes_at stage ≡ true → (task : Task) × (stage ≡ Busy task)
+passing_at : (stage : ChipStage) → passes_at stage ≡ true → (task : ChipTask) × (stage ≡ Busy task)
 passing_at Ready passes = absurd (false≢true passes)
 passing_at Held passes = absurd (false≢true passes)
 passing_at (Busy task) passes = (task, refl)
 passing_at (Telling answer read) passes = absurd (false≢true passes)
 
-pub passing_of : (chip : ChipState) → passes chip ≡ true → (task : Task) × (chip.stage ≡ Busy task)
+pub passing_of : (chip : ChipState) → passes chip ≡ true → (task : ChipTask) × (chip.stage ≡ Busy task)
 passing_of chip is = passing_at chip.stage (and_parts (passes_at chip.stage) (not (is_format chip.order && (chip.keys == 0))) is).0
 
 -- ---- ---- the inner controller at a stage
 
-pub rests_at : (stage : Stage) (front : Front) → is_busy stage ≡ false → RestsBehind front → IsSoundAt stage front
+pub rests_at : (stage : ChipStage) (front : Front) → is_busy stage ≡ false → RestsBehind front → IsSoundAt stage front
 rests_at Ready front idle rests = rests
 rests_at Held front idle rests = rests
 rests_at (Busy task) front idle rests = absurd (false≢true (sym idle))
 rests_at (Telling answer read) front idle rests = rests
 
-pub at_rest : (stage : Stage) (front : Front) → is_busy stage ≡ false → IsSoundAt stage front → RestsBehind front
+pub at_rest : (stage : ChipStage) (front : Front) → is_busy stage ≡ false → IsSoundAt stage front → RestsBehind front
 at_rest Ready front idle now = now
 at_rest Held front idle now = now
 at_rest (Busy task) front idle now = absurd (false≢true (sym idle))
 at_rest (Telling answer read) front idle now = now
 
-pub busy_at : (chip : ChipState) (task : Task) → chip.stage ≡ Busy task → IsSound chip → IsBusyWith task chip.front
+pub busy_at : (chip : ChipState) (task : ChipTask) → chip.stage ≡ Busy task → IsSound chip → IsBusyWith task chip.front
 busy_at chip task is sound = subst (λ stage. IsSoundAt stage chip.front) is sound.now
 
 -- ---- a chip that isn't held in reset, and that has no byte of a command
@@ -109,10 +109,10 @@ basis_sound chip basis now = record {
   now = now;
 }
 
-pub basis_rests : (chip : ChipState) (stage : Stage) → IsBasis chip → RestsBehind chip.front → chip.stage ≡ stage → is_busy stage ≡ false → IsSound chip
+pub basis_rests : (chip : ChipState) (stage : ChipStage) → IsBasis chip → RestsBehind chip.front → chip.stage ≡ stage → is_busy stage ≡ false → IsSound chip
 basis_rests chip stage basis rests is idle = basis_sound chip basis (rests_at chip.stage chip.front (ap is_busy is ∙ idle) rests)
 
-pub basis_busy : (chip : ChipState) (task : Task) → IsBasis chip → IsBusyWith task chip.front → chip.stage ≡ Busy task → IsSound chip
+pub basis_busy : (chip : ChipState) (task : ChipTask) → IsBasis chip → IsBusyWith task chip.front → chip.stage ≡ Busy task → IsSound chip
 basis_busy chip task basis busy is = basis_sound chip basis (subst (λ stage. IsSoundAt stage chip.front) (sym is) busy)
 
 -- ---- a chip whose stage and whose bytes stay

@@ -15,13 +15,13 @@ use Rattle.fdc_chip.specs.Ending.{Ends, EndsAddress, EndsAddressIf, EndsAt, Ends
 use Rattle.fdc_chip.specs.Paces.{EndsAt as EndsPace, GoesOnIf, Paces, PulsesIf, is_due, is_over as is_over_pace, stepped}
 use Rattle.fdc_chip.specs.Settings.{step_words}
 use Rattle.fdc_chip.specs.Steps.{Follows, FollowsTask, RunsChip, RunsChipWith, StepsChip, Swallows, SwallowsAs, SwallowsBy}
-use Rattle.fdc_chip.specs.declared.pace.Pace.{Pace}
+use Rattle.fdc_chip.specs.declared.pace.PacedSeek.{PacedSeek}
 use Rattle.fdc_chip.specs.declared.stage.Place.{Place}
 use Rattle.fdc_chip.specs.declared.stage.Place.TheVariants.{Index, Address, Data}
-use Rattle.fdc_chip.specs.declared.stage.Stage.{Stage}
-use Rattle.fdc_chip.specs.declared.stage.Stage.TheVariants.{Ready, Held, Busy, Telling}
-use Rattle.fdc_chip.specs.declared.stage.Task.{Task}
-use Rattle.fdc_chip.specs.declared.stage.Task.TheVariants as task
+use Rattle.fdc_chip.specs.declared.stage.ChipStage.{ChipStage}
+use Rattle.fdc_chip.specs.declared.stage.ChipStage.TheVariants.{Ready, Held, Busy, Telling}
+use Rattle.fdc_chip.specs.declared.stage.ChipTask.{ChipTask}
+use Rattle.fdc_chip.specs.declared.stage.ChipTask.TheVariants as task
 use Rattle.fdc_chip.specs.declared.stage.Track.{Track}
 use Rattle.laws_chip.specs.Sound.{ExecutesBehind, IsBusyAt, IsBusyWith, IsSound, RestsBehind, ServesBehind}
 use Rattle.laws_chip.proofs.Attended.{attended_sound, done_sound, given_moves, recalibrated_rests}
@@ -45,7 +45,7 @@ told_sound results old new basis stands is =
     done_sound old (told_results results old) new basis (stands_rests old.front stands) (record { front = refl; count = refl; order = refl }) refl is
 
 -- the inner controller is given READ ID
-id_given : (what : Task) (unit : ℕ) (set new : ChipState) → IsBasis set → Stands set.front → set.stage ≡ Busy what → (ExecutesBehind new.front → IsBusyWith what new.front) → SendsOn (identifying unit) set new → IsSound new
+id_given : (what : ChipTask) (unit : ℕ) (set new : ChipState) → IsBasis set → Stands set.front → set.stage ≡ Busy what → (ExecutesBehind new.front → IsBusyWith what new.front) → SendsOn (identifying unit) set new → IsSound new
 id_given what unit set new basis stands at busy (sends, rest) =
     let obeyed = id_obeyed unit set.front new.front stands sends in
     let (executes, base) = id_executes unit set.front new.front stands obeyed in
@@ -53,7 +53,7 @@ id_given what unit set new basis stands at busy (sends, rest) =
     (ap (λ (chip : ChipState). chip.stage) rest ∙ at)
 
 -- the chip with what is then under way
-pub set_basis : (stage : Stage) (old : ChipState) → IsBasis old → IsBasis (record old { stage = stage })
+pub set_basis : (stage : ChipStage) (old : ChipState) → IsBasis old → IsBasis (record old { stage = stage })
 set_basis stage old basis = record { by_dma = basis.by_dma; whole = basis.whole; free = basis.free; none = basis.none; gated = basis.gated; code = basis.code }
 
 track_basis : (track : Track) (old : ChipState) → IsBasis old → IsBasis (track_at track old)
@@ -74,7 +74,7 @@ reads_sound track key old new basis stands sized (reads, rest) =
 
 sent_sound : (b : Bool) (results : Results) (old new : ChipState) → IsBasis old → Stands old.front → EndsSent b results old new → IsSound new
 sent_sound true results old new basis stands looks =
-    let sought : Stage = Busy (task.Sought results) in
+    let sought : ChipStage = Busy (task.Sought results) in
     id_given (task.Sought results) (unit_of results) (record old { stage = sought }) new (set_basis sought old basis) stands refl (λ executes. executes) looks
 sent_sound false results old new basis stands is = told_sound results old new basis stands is
 
@@ -100,7 +100,7 @@ place_sound Address track results old new basis stands ends = address_sound trac
 place_sound Data track results old new basis stands ends =
     let over = without_one results track in data_sound (is_over results over) over old new basis stands ends
 
-ends_sound : (what : Task) (results : Results) (old new : ChipState) → IsBasis old → Stands old.front → Ends what results old new → IsSound new
+ends_sound : (what : ChipTask) (results : Results) (old new : ChipState) → IsBasis old → Stands old.front → Ends what results old new → IsSound new
 ends_sound task.Sent results old new basis stands ends = sent_sound (looks_for_cylinder old.order results) results old new basis stands ends
 ends_sound (task.Sought first) results old new basis stands is = told_sound _ old new basis stands is
 ends_sound (task.Refused unit key mfm) results old new basis stands is = told_sound _ old new basis stands is
@@ -111,7 +111,7 @@ ends_sound (task.Track track) results old new basis stands ends = place_sound tr
 -- ---- ---- what may wait after a step
 
 -- what is executed for this task, or the results of that
-abbrev pub IsAtStep : Task → Front → Type 0
+abbrev pub IsAtStep : ChipTask → Front → Type 0
 IsAtStep what front = IsBusyWith what front ⊎ IsOverBehind front
 
 serves_none : (front : Front) → ServesBehind front → has_results front ≡ false
@@ -122,7 +122,7 @@ place_none Index front free serves = serves_none front serves
 place_none Address front free executes = executes_none front free executes
 place_none Data front free serves = serves_none front serves
 
-pub busy_none : (what : Task) (front : Front) → is_held front.adapter.controller ≡ false → IsBusyWith what front → has_results front ≡ false
+pub busy_none : (what : ChipTask) (front : Front) → is_held front.adapter.controller ≡ false → IsBusyWith what front → has_results front ≡ false
 busy_none task.Sent front free (inl serves) = serves_none front serves
 busy_none task.Sent front free (inr executes) = executes_none front free executes
 busy_none (task.Sought first) front free executes = executes_none front free executes
@@ -130,13 +130,13 @@ busy_none (task.Refused unit key mfm) front free executes = executes_none front 
 busy_none (task.Verify left) front free serves = serves_none front serves
 busy_none (task.Track track) front free busy = place_none track.place front free busy
 
-taken_sound : (what : Task) (chip new : ChipState) → IsBasis chip → has_results chip.front ≡ true → Stands (results_taken chip.front) × IsBase chip.front.adapter.controller (results_taken chip.front).adapter.controller
+taken_sound : (what : ChipTask) (chip new : ChipState) → IsBasis chip → has_results chip.front ≡ true → Stands (results_taken chip.front) × IsBase chip.front.adapter.controller (results_taken chip.front).adapter.controller
     → MayEnd what chip new → IsSound new
 taken_sound what chip new basis shown (stands, base) may =
     ends_sound what (results_judged chip) (with_front (results_taken chip.front) chip) new (basis_front (results_taken chip.front) chip basis base) stands
     (subst (λ b. EndsIf b what chip new) shown may)
 
-may_end_sound : (what under : Task) (chip new : ChipState) → IsBasis chip → chip.stage ≡ Busy under → IsAtStep under chip.front → MayEnd what chip new → IsSound new
+may_end_sound : (what under : ChipTask) (chip new : ChipState) → IsBasis chip → chip.stage ≡ Busy under → IsAtStep under chip.front → MayEnd what chip new → IsSound new
 may_end_sound what under chip new basis at (inl busy) may =
     let same : new ≡ chip = subst (λ b. EndsIf b what chip new) (busy_none under chip.front basis.free busy) may in
     subst IsSound (sym same) (basis_busy chip under basis busy at)
@@ -148,7 +148,7 @@ may_end_sound what under chip new basis at (inr (inr waits)) may =
 -- ---- what the front's step leaves
 
 -- after the step the front is in such a state, and the controller's base stays
-pub record IsStepped (what : Task) (old new : Front) : Type 0 where
+pub record IsStepped (what : ChipTask) (old new : Front) : Type 0 where
   pub at : IsAtStep what new
   pub base : IsBase old.adapter.controller new.adapter.controller
 
@@ -161,7 +161,7 @@ executes_stepped : (old new : Front) → StepsFront old new → old.adapter.cont
 executes_stepped old new step none was = let (goes, base) = executes_step old new step none was in
     (elim goes [ inl still ↦ inl still | inr waits ↦ inr (inr waits) ], base)
 
-stepped_as : {A : Type 0} (what : Task) (old new : Front) → (A → IsBusyWith what new) → (A ⊎ IsOverBehind new) × IsBase old.adapter.controller new.adapter.controller → IsStepped what old new
+stepped_as : {A : Type 0} (what : ChipTask) (old new : Front) → (A → IsBusyWith what new) → (A ⊎ IsOverBehind new) × IsBase old.adapter.controller new.adapter.controller → IsStepped what old new
 stepped_as what old new busy (goes, base) = record { at = elim goes [ inl still ↦ inl (busy still) | inr over ↦ inr over ]; base = base }
 
 place_stepped : (place : Place) (track : Track) (old new : Front) → track.place ≡ place → StepsFront old new → old.adapter.controller.command ≡ [] → old.adapter.controller.non_dma ≡ false → IsBusyAt place old
@@ -173,7 +173,7 @@ place_stepped Address track old new at step none clear busy =
 place_stepped Data track old new at step none clear busy =
     stepped_as (task.Track track) old new (λ serves. subst (λ place. IsBusyAt place new) (sym at) serves) (serves_stepped old new step none clear busy)
 
-pub front_stepped : (what : Task) (old new : Front) → StepsFront old new → old.adapter.controller.command ≡ [] → old.adapter.controller.non_dma ≡ false → IsBusyWith what old → IsStepped what old new
+pub front_stepped : (what : ChipTask) (old new : Front) → StepsFront old new → old.adapter.controller.command ≡ [] → old.adapter.controller.non_dma ≡ false → IsBusyWith what old → IsStepped what old new
 front_stepped task.Sent old new step none clear (inl busy) = stepped_as task.Sent old new (λ serves. inl serves) (serves_stepped old new step none clear busy)
 front_stepped task.Sent old new step none clear (inr busy) = stepped_as task.Sent old new (λ executes. inr executes) (executes_stepped old new step none busy)
 front_stepped (task.Sought first) old new step none clear busy = stepped_as (task.Sought first) old new (λ executes. executes) (executes_stepped old new step none busy)
@@ -183,33 +183,33 @@ front_stepped (task.Track track) old new step none clear busy = place_stepped tr
 
 -- ---- the bytes of a VERIFY
 
-takes_step : (what : Task) (old : Front) (byte : Option ℕ) (new : Front) → TakesFront old byte new → IsAtStep what old → IsAtStep what new
+takes_step : (what : ChipTask) (old : Front) (byte : Option ℕ) (new : Front) → TakesFront old byte new → IsAtStep what old → IsAtStep what new
 takes_step what old byte new takes (inl busy) = inl (takes_busy what old byte new takes busy)
 takes_step what old byte new takes (inr over) = inr (takes_over old byte new takes over)
 
-counts_step : (what : Task) (old new : Front) → new ≡ told_front old → IsAtStep what old → IsAtStep what new
+counts_step : (what : ChipTask) (old new : Front) → new ≡ told_front old → IsAtStep what old → IsAtStep what new
 counts_step what old new is (inl busy) = inl (counts_busy what old new is busy)
 counts_step what old new is (inr over) = inr (counts_over old new is over)
 
-told_after : (b : Bool) (what : Task) (start between new : Front) → IsStepped what start between → new ≡ (if b then told_front between else between) → IsStepped what start new
+told_after : (b : Bool) (what : ChipTask) (start between new : Front) → IsStepped what start between → new ≡ (if b then told_front between else between) → IsStepped what start new
 told_after true what start between new was is = record {
   at = counts_step what between new is was.at;
   base = base_on start.adapter.controller between.adapter.controller new.adapter.controller was.base (counts_front_base between new was.base.command is);
 }
 told_after false what start between new was is = subst (IsStepped what start) (sym is) was
 
-swallows_after : (byte : Option ℕ) (what : Task) (left now : ℕ) (start between new : Front) → IsStepped what start between → SwallowsAs byte left between now new → IsStepped what start new
+swallows_after : (byte : Option ℕ) (what : ChipTask) (left now : ℕ) (start between new : Front) → IsStepped what start between → SwallowsAs byte left between now new → IsStepped what start new
 swallows_after None what left now start between new was (now_is, is) = subst (IsStepped what start) (sym is) was
 swallows_after (Some byte) what left now start between new was (now_is, is) = told_after (left == 1) what start between new was is
 
-swallows_one : (what : Task) (left now : ℕ) (start old new : Front) → IsStepped what start old → Swallows left old now new → IsStepped what start new
+swallows_one : (what : ChipTask) (left now : ℕ) (start old new : Front) → IsStepped what start old → Swallows left old now new → IsStepped what start new
 swallows_one what left now start old new was one =
     swallows_after one.byte what left now start one.between new (record {
       at = takes_step what old one.byte one.between one.takes was.at;
       base = base_on start.adapter.controller old.adapter.controller one.between.adapter.controller was.base (takes_front_base old one.byte one.between was.base.command one.takes);
     }) one.after
 
-pub swallows_many : (n : ℕ) (what : Task) (left now : ℕ) (start old new : Front) → IsStepped what start old → SwallowsBy n left old now new → IsStepped what start new
+pub swallows_many : (n : ℕ) (what : ChipTask) (left now : ℕ) (start old new : Front) → IsStepped what start old → SwallowsBy n left old now new → IsStepped what start new
 unfolding SwallowsBy
 swallows_many zero what left now start old new was (now_is, is) = subst (IsStepped what start) (sym is) was
 swallows_many (suc n) what left now start old new was (some, between, many, one) =
@@ -225,7 +225,7 @@ verify_step left old between new basis was (set, all, may) =
     may_end_sound (task.Verify left) (task.Verify all.now) chip new (set_basis (Busy (task.Verify all.now)) (with_front all.front old) still) refl after.at
     (subst (λ from. MayEnd (task.Verify left) from new) all.after may)
 
-busy_step : (what : Task) (old : ChipState) (between : Front) (new : ChipState) → old.stage ≡ Busy what → IsBasis old → IsStepped what old.front between → FollowsTask what (with_front between old) new → IsSound new
+busy_step : (what : ChipTask) (old : ChipState) (between : Front) (new : ChipState) → old.stage ≡ Busy what → IsBasis old → IsStepped what old.front between → FollowsTask what (with_front between old) new → IsSound new
 busy_step (task.Verify left) old between new at basis was follows = verify_step left old between new basis was follows
 busy_step task.Sent old between new at basis was may = may_end_sound task.Sent task.Sent (with_front between old) new (basis_front between old basis was.base) at was.at may
 busy_step (task.Sought first) old between new at basis was may =
@@ -258,19 +258,19 @@ gives_rests unit goal old set new stands front stage count order implied (sends,
       implied = ap implies rest ∙ implied;
     }
 
-ends_rest : (goal : Option ℕ) (pace : Pace) (old new : ChipState) → Stands old.front → EndsPace goal pace (record old { pace = None }) new → IsResting old new
+ends_rest : (goal : Option ℕ) (pace : PacedSeek) (old new : ChipState) → Stands old.front → EndsPace goal pace (record old { pace = None }) new → IsResting old new
 ends_rest (Some target) pace old new stands ends = gives_rests pace.unit (Some target) old (record old { pace = None }) new stands refl refl refl refl refl ends
 ends_rest None pace old new stands is =
     let (rests, base) = recalibrated_rests pace.unit pace.left old.front stands in
     subst (IsResting old) (sym is) (record { rests = rests; base = base; stage = refl; count = refl; order = refl; implied = refl })
 
-pulses_rest : (b : Bool) (pace : Pace) (old new : ChipState) → Stands old.front → PulsesIf b pace old new → IsResting old new
+pulses_rest : (b : Bool) (pace : PacedSeek) (old new : ChipState) → Stands old.front → PulsesIf b pace old new → IsResting old new
 pulses_rest true pace old new stands ends = ends_rest pace.goal pace old new stands ends
 pulses_rest false pace old new stands pulses =
-    let next : Pace = stepped (step_words old.settings) pace in
+    let next : PacedSeek = stepped (step_words old.settings) pace in
     gives_rests pace.unit (Some next.cylinder) old (record old { pace = Some next }) new stands refl refl refl refl refl pulses
 
-goes_rests : (b : Bool) (pace : Pace) (old new : ChipState) → old.front.adapter.controller.non_dma ≡ false → old.front.adapter.controller.command ≡ [] → RestsBehind old.front → is_due pace old ≡ b
+goes_rests : (b : Bool) (pace : PacedSeek) (old new : ChipState) → old.front.adapter.controller.non_dma ≡ false → old.front.adapter.controller.command ≡ [] → RestsBehind old.front → is_due pace old ≡ b
     → GoesOnIf b pace old new → IsResting old new
 goes_rests true pace old new by_dma none rests due pulses =
     let waited = nat_le pace.wait 1 in
@@ -288,7 +288,7 @@ goes_rests false pace old new by_dma none rests due is =
     subst (IsResting old) (sym is) (record { rests = rests; base = base_same old.front.adapter.controller none; stage = refl; count = refl; order = refl; implied = refl })
 
 -- the inner controller still rests
-pub paces_rest : (pace : Option Pace) (old new : ChipState) → old.front.adapter.controller.non_dma ≡ false → old.front.adapter.controller.command ≡ [] → RestsBehind old.front → Paces pace old new → IsResting old new
+pub paces_rest : (pace : Option PacedSeek) (old new : ChipState) → old.front.adapter.controller.non_dma ≡ false → old.front.adapter.controller.command ≡ [] → RestsBehind old.front → Paces pace old new → IsResting old new
 paces_rest None old new by_dma none rests is =
     subst (IsResting old) (sym is) (record { rests = rests; base = base_same old.front.adapter.controller none; stage = refl; count = refl; order = refl; implied = refl })
 paces_rest (Some pace) old new by_dma none rests goes =
@@ -326,7 +326,7 @@ ready_step true old set new sound idle was is =
     (resting.stage ∙ was.stage) (resting.count ∙ was.count) (resting.order ∙ was.order))
 ready_step false old set new sound idle was is = subst IsSound (sym is) (stage_rests old set sound idle was.rests was.base was.stage was.count was.order)
 
-step_at : (stage : Stage) (old : ChipState) (between : Front) (new : ChipState) → old.stage ≡ stage → IsSound old → StepsFront old.front between → Follows stage (with_front between old) new → IsSound new
+step_at : (stage : ChipStage) (old : ChipState) (between : Front) (new : ChipState) → old.stage ≡ stage → IsSound old → StepsFront old.front between → Follows stage (with_front between old) new → IsSound new
 step_at Ready old between new at sound step (paced, paces, is) =
     ready_step (interrupts_outside paced.front) old paced new sound (ap is_busy at) (stepped_rests old between paced sound (ap is_busy at) step paces) is
 step_at Held old between new at sound step (paced, paces, attends) =

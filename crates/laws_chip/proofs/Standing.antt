@@ -13,8 +13,8 @@ use Rattle.fdc_core.specs.Whole.{is_idle}
 use Rattle.fdc_core.specs.declared.controller.Fdc.{Fdc}
 use Rattle.fdc_sequencer.specs.Fronts.{Front, status_at}
 use Rattle.fdc_sequencer.specs.Senses.{is_ready, is_ready_at}
-use Rattle.fdc_sequencer.specs.declared.stage.Stage.{Stage}
-use Rattle.fdc_sequencer.specs.declared.stage.Stage.TheVariants.{Through, Collecting, Seeking, Moving, Telling}
+use Rattle.fdc_sequencer.specs.declared.stage.FrontStage.{FrontStage}
+use Rattle.fdc_sequencer.specs.declared.stage.FrontStage.TheVariants.{Through, Collecting, Seeking, Moving, Telling}
 use Rattle.fdc_chip.specs.Doing.{moves_heads}
 use Rattle.laws_chip.specs.Beginning.{IsFreeBehind, IsOfFour}
 
@@ -39,7 +39,7 @@ begun_none : (command : List ℕ) → is_begun command ≡ false → command ≡
 begun_none [] is = refl
 begun_none (byte ∷ rest) is = absurd (false≢true (sym is))
 
-ready_through : (stage : Stage) (fdc : Fdc) → is_ready_at stage fdc ≡ true → (stage ≡ Through) × (is_idle fdc ≡ true)
+ready_through : (stage : FrontStage) (fdc : Fdc) → is_ready_at stage fdc ≡ true → (stage ≡ Through) × (is_idle fdc ≡ true)
 ready_through Through fdc is = (refl, is)
 ready_through (Collecting opcode) fdc is = absurd (false≢true is)
 ready_through (Seeking transfer counted) fdc is = absurd (false≢true is)

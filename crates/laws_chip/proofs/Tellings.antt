@@ -6,14 +6,14 @@ use Rattle.fdc_registers.specs.St2.{wrong_cylinder, bad_cylinder}
 use Rattle.fdc_commands.specs.declared.results.Results.{Results}
 use Rattle.fdc_sequencer.specs.Fronts.{Front, asks_outside, status_at}
 use Rattle.fdc_sequencer.specs.Senses.{is_through}
-use Rattle.fdc_sequencer.specs.declared.stage.Stage.TheVariants as behind
+use Rattle.fdc_sequencer.specs.declared.stage.FrontStage.TheVariants as behind
 use Rattle.fdc_chip.specs.Chips.{ChipState, asks_chip, interrupts_chip, passes, passes_at, shows_behind, with_front}
 use Rattle.fdc_chip.specs.Ending.{EndsIf, EndsSent, MayEnd, cylinder_bits, done_if, fits_selected, has_results, has_room, looks_for_cylinder, results_behind, results_taken, with_cylinder_passed, results_judged}
 use Rattle.fdc_chip.specs.Orders.{is_format}
 use Rattle.fdc_chip.specs.Settings.{is_by_port}
 use Rattle.fdc_chip.specs.Steps.{Follows, StepsChip}
-use Rattle.fdc_chip.specs.declared.stage.Stage.TheVariants.{Busy}
-use Rattle.fdc_chip.specs.declared.stage.Task.TheVariants.{Sent, Sought}
+use Rattle.fdc_chip.specs.declared.stage.ChipStage.TheVariants.{Busy}
+use Rattle.fdc_chip.specs.declared.stage.ChipTask.TheVariants.{Sent, Sought}
 use Rattle.laws_chip.specs.Told.{AddsCylinder, AreOfCylinder, LooksFor, LooksOrTells, Tells}
 
 -- ---- ---- the results of a front that gives them

@@ -21,12 +21,12 @@ use Rattle.fdc_chip.specs.Doing.{Obeys, Sends, TransfersIf, absent_key, implies,
 use Rattle.fdc_chip.specs.Ending.{EndsAddress, EndsAddressIf, EndsAt, EndsData, EndsIf, EndsIndex, LooksOn, ReadsOn, has_results, is_over, met_key, results_judged, results_taken, sector_met, without_one}
 use Rattle.fdc_chip.specs.Ports.{GivesChipIf, GivesIf, ReadsAt, ReadsChip, ReadsIf, TakesByte, TakesIf, count_told, counted_if, latched_by, reset_if, value_behind}
 use Rattle.fdc_chip.specs.Steps.{Follows, StepsChip}
-use Rattle.fdc_chip.specs.declared.code.Code.TheVariants.{ReadTrack}
+use Rattle.fdc_chip.specs.declared.code.ChipOpcode.TheVariants.{ReadTrack}
 use Rattle.fdc_chip.specs.declared.stage.Place.{Place}
 use Rattle.fdc_chip.specs.declared.stage.Place.TheVariants.{Index, Address, Data}
-use Rattle.fdc_chip.specs.declared.stage.Stage.TheVariants.{Busy}
-use Rattle.fdc_chip.specs.declared.stage.Task.{Task}
-use Rattle.fdc_chip.specs.declared.stage.Task.TheVariants as task
+use Rattle.fdc_chip.specs.declared.stage.ChipStage.TheVariants.{Busy}
+use Rattle.fdc_chip.specs.declared.stage.ChipTask.{ChipTask}
+use Rattle.fdc_chip.specs.declared.stage.ChipTask.TheVariants as task
 use Rattle.fdc_chip.specs.declared.stage.Track.{Track}
 use Rattle.laws_chip.specs.Beginning.{IsFreeBehind, transfer_sent}
 use Rattle.laws_chip.specs.Calls as made
@@ -433,7 +433,7 @@ pub track_leaves : (old begun : ChipState) → is_size old.order.key.n ≡ true 
 track_leaves old begun size free obeys range =
     let order = old.order in
     let noted = with_last order.last_sector old in
-    let what : Task = task.Track (track_begun (implies noted) order) in
+    let what : ChipTask = task.Track (track_begun (implies noted) order) in
     let key = absent_key order.key.c in
     let bytes = reading_one order.unit key order.gap order.length in
     let begins : TransfersIf true true what bytes noted begun = subst (λ b. TransfersIf b true what bytes noted begun) size obeys in

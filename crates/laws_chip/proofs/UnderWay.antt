@@ -3,8 +3,8 @@ use Rattle.std.proofs.Common.{◌≡◌, ℕ, Bool, true, false, ◌==◌, if◌
 use Rattle.std.proofs.lemmas.Bool.{false≢true, eqb-true}
 use Rattle.fdc_core.specs.Ports.{resets}
 use Rattle.fdc_sequencer.specs.Fronts.{Front, GivesAt, TakesAt, TakesByte, WritesFront, after_reading, byte_given, count_told, reset_if, told_front}
-use Rattle.fdc_sequencer.specs.declared.stage.Stage.{Stage}
-use Rattle.fdc_sequencer.specs.declared.stage.Stage.TheVariants.{Through, Collecting, Seeking, Moving, Telling}
+use Rattle.fdc_sequencer.specs.declared.stage.FrontStage.{FrontStage}
+use Rattle.fdc_sequencer.specs.declared.stage.FrontStage.TheVariants.{Through, Collecting, Seeking, Moving, Telling}
 use Rattle.laws_sequencer.specs.Lasting.{is_under_way}
 
 pub clash : {A : Type 0} (b : Bool) → b ≡ false → b ≡ true → A
@@ -23,7 +23,7 @@ same_under old new is under = ap (λ front. is_under_way front.stage) is ∙ und
 
 -- ---- the channel
 
-pub takes_under : (stage : Stage) (byte : Option ℕ) (old new : Front) → old.stage ≡ stage → is_under_way stage ≡ true → TakesAt stage old byte new → is_under_way new.stage ≡ true
+pub takes_under : (stage : FrontStage) (byte : Option ℕ) (old new : Front) → old.stage ≡ stage → is_under_way stage ≡ true → TakesAt stage old byte new → is_under_way new.stage ≡ true
 takes_under Through byte old new at under takes = absurd (false≢true under)
 takes_under (Collecting opcode) byte old new at under takes = absurd (false≢true under)
 takes_under (Telling results read) byte old new at under takes = absurd (false≢true under)
@@ -31,7 +31,7 @@ takes_under (Seeking transfer counted) byte old new at under (none, is) = ap (λ
 takes_under (Moving moving) None old new at under (quiet, is) = ap (λ front. is_under_way front.stage) is ∙ ap is_under_way at
 takes_under (Moving moving) (Some byte) old new at under (up, byte_is, is) = ap (λ front. is_under_way front.stage) is
 
-pub gives_under : (stage : Stage) (byte : ℕ) (was : Bool) (old new : Front) → old.stage ≡ stage → is_under_way stage ≡ true → GivesAt stage byte old was new → is_under_way new.stage ≡ true
+pub gives_under : (stage : FrontStage) (byte : ℕ) (was : Bool) (old new : Front) → old.stage ≡ stage → is_under_way stage ≡ true → GivesAt stage byte old was new → is_under_way new.stage ≡ true
 gives_under Through byte was old new at under gives = absurd (false≢true under)
 gives_under (Collecting opcode) byte was old new at under gives = absurd (false≢true under)
 gives_under (Telling results read) byte was old new at under gives = absurd (false≢true under)
@@ -39,7 +39,7 @@ gives_under (Seeking transfer counted) byte was old new at under (none, is) = ap
 gives_under (Moving moving) byte false old new at under (quiet, is) = ap (λ front. is_under_way front.stage) is ∙ ap is_under_way at
 gives_under (Moving moving) byte true old new at under (up, is) = ap (λ front. is_under_way front.stage) is
 
-counted_under : (stage : Stage) (old new : Front) → is_under_way stage ≡ true → new ≡ count_told stage old → is_under_way new.stage ≡ true
+counted_under : (stage : FrontStage) (old new : Front) → is_under_way stage ≡ true → new ≡ count_told stage old → is_under_way new.stage ≡ true
 counted_under Through old new under is = absurd (false≢true under)
 counted_under (Collecting opcode) old new under is = absurd (false≢true under)
 counted_under (Telling results read) old new under is = absurd (false≢true under)
@@ -51,7 +51,7 @@ counts_under old new under is = counted_under old.stage old new under is
 
 -- ---- ports
 
-given_same : (stage : Stage) (front : Front) → is_under_way stage ≡ true → byte_given stage front ≡ front
+given_same : (stage : FrontStage) (front : Front) → is_under_way stage ≡ true → byte_given stage front ≡ front
 given_same Through front under = absurd (false≢true under)
 given_same (Collecting opcode) front under = absurd (false≢true under)
 given_same (Telling results read) front under = absurd (false≢true under)
@@ -65,14 +65,14 @@ reads_same port front under = by_port (port == 0x3F5)
     by_port true = given_same front.stage front under
     by_port false = refl
 
-pub byte_ignored : (stage : Stage) (byte : ℕ) (old new : Front) → is_under_way stage ≡ true → TakesByte stage byte old new → new ≡ old
+pub byte_ignored : (stage : FrontStage) (byte : ℕ) (old new : Front) → is_under_way stage ≡ true → TakesByte stage byte old new → new ≡ old
 byte_ignored Through byte old new under takes = absurd (false≢true under)
 byte_ignored (Collecting opcode) byte old new under takes = absurd (false≢true under)
 byte_ignored (Telling results read) byte old new under takes = absurd (false≢true under)
 byte_ignored (Seeking transfer counted) byte old new under takes = takes
 byte_ignored (Moving moving) byte old new under takes = takes
 
-ignores : (stage : Stage) (byte : ℕ) (front : Front) → is_under_way stage ≡ true → TakesByte stage byte front front
+ignores : (stage : FrontStage) (byte : ℕ) (front : Front) → is_under_way stage ≡ true → TakesByte stage byte front front
 ignores Through byte front under = absurd (false≢true under)
 ignores (Collecting opcode) byte front under = absurd (false≢true under)
 ignores (Telling results read) byte front under = absurd (false≢true under)

@@ -11,11 +11,11 @@ use Rattle.fdc_chip.specs.Doing.{AttendsIf, MovesIf, Obeys, drained, is_moving, 
 use Rattle.fdc_chip.specs.Interrupts.{cylinder_of}
 use Rattle.fdc_chip.specs.Ports.{WritesChip}
 use Rattle.fdc_chip.specs.Settings.{step_words}
-use Rattle.fdc_chip.specs.declared.code.Code.{Code}
-use Rattle.fdc_chip.specs.declared.code.Code.TheVariants as code
-use Rattle.fdc_chip.specs.declared.pace.Pace.{Pace}
-use Rattle.fdc_chip.specs.declared.stage.Stage.{Stage}
-use Rattle.fdc_chip.specs.declared.stage.Stage.TheVariants.{Ready, Held, Busy, Telling}
+use Rattle.fdc_chip.specs.declared.code.ChipOpcode.{ChipOpcode}
+use Rattle.fdc_chip.specs.declared.code.ChipOpcode.TheVariants as code
+use Rattle.fdc_chip.specs.declared.pace.PacedSeek.{PacedSeek}
+use Rattle.fdc_chip.specs.declared.stage.ChipStage.{ChipStage}
+use Rattle.fdc_chip.specs.declared.stage.ChipStage.TheVariants.{Ready, Held, Busy, Telling}
 use Rattle.laws_chip.specs.Beginning.{Completes, still_moves}
 use Rattle.laws_chip.specs.Bounds.{AreUses, HasRanges, HeadsMove, IsGiven, IsUsed, IsWorking, WaitsFor, heads_of, heads_steps, wait_of, wait_at}
 use Rattle.laws_chip.specs.Bounds as bounds
@@ -55,11 +55,11 @@ used_known chip used =
 
 -- ---- a command that is done isn't held
 
-abbrev pub is_held_at : Stage → Bool
+abbrev pub is_held_at : ChipStage → Bool
 is_held_at Held = true
 is_held_at _ = false
 
-busy_free : (stage : Stage) → is_busy stage ≡ true → is_held_at stage ≡ false
+busy_free : (stage : ChipStage) → is_busy stage ≡ true → is_held_at stage ≡ false
 busy_free Ready busy = refl
 busy_free Held busy = absurd (false≢true busy)
 busy_free (Busy what) busy = refl
@@ -69,7 +69,7 @@ moves_free : (b : Bool) (goal : Option ℕ) (old new : ChipState) → MovesIf b 
 moves_free true goal old new is = ap (λ (chip : ChipState). is_held_at chip.stage) is
 moves_free false goal old new (sends, rest) = ap (λ (chip : ChipState). is_held_at chip.stage) rest
 
-pub obeys_free : (found : Code) (old new : ChipState) → Obeys found old new → is_held_at new.stage ≡ false
+pub obeys_free : (found : ChipOpcode) (old new : ChipState) → Obeys found old new → is_held_at new.stage ≡ false
 obeys_free code.Specify old new is = ap (λ (chip : ChipState). is_held_at chip.stage) is
 obeys_free code.SenseInterrupt old new is = ap (λ (chip : ChipState). is_held_at chip.stage) is
 obeys_free code.Version old new is = ap (λ (chip : ChipState). is_held_at chip.stage) is
@@ -93,7 +93,7 @@ obeys_free (code.ReadTrack mfm) old new obeys = busy_free new.stage (obeys_busy 
 at_most : (n : ℕ) → n ≤ n
 at_most n = omega arith
 
-known_moves : (found : Code) (byte : ℕ) (old begun : ChipState) → IsKnown old → byte < 256 → needs_heads found ≡ true → Completes found byte old → WritesChip 0x3F5 byte old begun → begun.stage ≡ Held → HeadsMove (heads_of begun) begun
+known_moves : (found : ChipOpcode) (byte : ℕ) (old begun : ChipState) → IsKnown old → byte < 256 → needs_heads found ≡ true → Completes found byte old → WritesChip 0x3F5 byte old begun → begun.stage ≡ Held → HeadsMove (heads_of begun) begun
 known_moves found byte old begun known few heads last writes held = either_way (still_moves old)
     (λ moves.
     let start = attending byte old in
@@ -112,7 +112,7 @@ known_moves found byte old begun known few heads last writes held = either_way (
     started : (old begun : ChipState) → IsKnown old → Completes found byte old → old.stage ≡ Ready
     started old begun known last = known.sound.comes (ap (λ n. n == 0) last.others ∙ (last_bytes found heads).0)
 
-pub used_given : (found : Code) (byte : ℕ) (old begun : ChipState) → IsUsed old → byte < 256 → needs_heads found ≡ true → Completes found byte old → WritesChip 0x3F5 byte old begun → IsWorking begun
+pub used_given : (found : ChipOpcode) (byte : ℕ) (old begun : ChipState) → IsUsed old → byte < 256 → needs_heads found ≡ true → Completes found byte old → WritesChip 0x3F5 byte old begun → IsWorking begun
     → IsGiven (wait_of begun) found byte old begun
 used_given found byte old begun used few heads last writes working =
     let known = used_known old used in
@@ -127,4 +127,4 @@ used_given found byte old begun used few heads last writes working =
 
 pub few_unpaced : (chip : ChipState) → HasRanges chip → chip.pace ≡ None → heads_of chip ≤ 256
 few_unpaced chip ranges none =
-    subst (λ (p : Option Pace). heads_steps (step_words chip.settings) p chip.front.adapter.controller.seeks.seek ≤ 256) (sym none) (range_steps chip.front.adapter.controller ranges.controller)
+    subst (λ (p : Option PacedSeek). heads_steps (step_words chip.settings) p chip.front.adapter.controller.seeks.seek ≤ 256) (sym none) (range_steps chip.front.adapter.controller ranges.controller)

@@ -8,8 +8,8 @@ use Rattle.fdc_sequencer.specs.Fronts.{Front, TakesAt, count_told as front_told,
 use Rattle.fdc_sequencer.specs.Opcodes.{opcode_of}
 use Rattle.fdc_sequencer.specs.Transfers.{size_of}
 use Rattle.fdc_sequencer.specs.declared.opcode.Opcode.{Opcode}
-use Rattle.fdc_sequencer.specs.declared.stage.Stage.{Stage as FrontStage}
-use Rattle.fdc_sequencer.specs.declared.stage.Stage.TheVariants.{Through, Collecting, Seeking, Moving, Telling}
+use Rattle.fdc_sequencer.specs.declared.stage.FrontStage.{FrontStage}
+use Rattle.fdc_sequencer.specs.declared.stage.FrontStage.TheVariants.{Through, Collecting, Seeking, Moving, Telling}
 use Rattle.fdc_sequencer.specs.declared.transfer.Transfer.{Transfer}
 use Rattle.laws_sequencer.specs.Calls as behind
 use Rattle.laws_sequencer.specs.Lasting as lasting
@@ -24,10 +24,10 @@ use Rattle.fdc_chip.specs.Orders.{is_format, order_bytes}
 use Rattle.fdc_chip.specs.Ports.{GivesChipIf, GivesIf, ReadsAt, ReadsChip, ReadsIf, TakesByte, TakesIf, count_told, value_behind}
 use Rattle.fdc_chip.specs.Settings.{is_by_port}
 use Rattle.fdc_chip.specs.Steps.{Follows, StepsChip, Swallows, SwallowsAs, SwallowsBy}
-use Rattle.fdc_chip.specs.declared.code.Code.TheVariants.{Verify as VerifyCode}
-use Rattle.fdc_chip.specs.declared.stage.Stage.{Stage}
-use Rattle.fdc_chip.specs.declared.stage.Stage.TheVariants.{Busy}
-use Rattle.fdc_chip.specs.declared.stage.Task.TheVariants.{Verify}
+use Rattle.fdc_chip.specs.declared.code.ChipOpcode.TheVariants.{Verify as VerifyCode}
+use Rattle.fdc_chip.specs.declared.stage.ChipStage.{ChipStage}
+use Rattle.fdc_chip.specs.declared.stage.ChipStage.TheVariants.{Busy}
+use Rattle.fdc_chip.specs.declared.stage.ChipTask.TheVariants.{Verify}
 use Rattle.laws_chip.specs.Beginning.{BeginsBehind, IsBegun, IsFreeBehind, transfer_sent}
 use Rattle.laws_chip.specs.Calls as made
 use Rattle.laws_chip.specs.Calls.{AreServed, Call, Does, steps_in, steps_of}
@@ -141,7 +141,7 @@ swallows_within (suc n) left now old new under (some, between, many, one) =
 
 -- ---- device steps
 
-abbrev is_verify : Stage → Bool
+abbrev is_verify : ChipStage → Bool
 is_verify (Busy (Verify left)) = true
 is_verify _ = false
 

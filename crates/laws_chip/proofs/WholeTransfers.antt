@@ -12,10 +12,10 @@ use Rattle.fdc_chip.specs.Interrupts.{with_result}
 use Rattle.fdc_chip.specs.Paces.{Paces}
 use Rattle.fdc_chip.specs.Ports.{CollectsIf, ComesIf, GivesChipIf, GivesIf, ReadsAt, ReadsIf, TakesByte, TakesIf, WritesChip, count_told, latched_by, given_one, is_whole, may_come, reset_if, with_next}
 use Rattle.fdc_chip.specs.Steps.{Follows, StepsChip}
-use Rattle.fdc_chip.specs.declared.code.Code.{Code}
-use Rattle.fdc_chip.specs.declared.code.Code.TheVariants.{ReadTrack, Specify, SenseDrive, Transfer, Recalibrate, SenseInterrupt, ReadId, FormatTrack, DumpRegisters, Seek, RelativeSeek, Version, Perpendicular, Configure, Lock, Verify}
+use Rattle.fdc_chip.specs.declared.code.ChipOpcode.{ChipOpcode}
+use Rattle.fdc_chip.specs.declared.code.ChipOpcode.TheVariants.{ReadTrack, Specify, SenseDrive, Transfer, Recalibrate, SenseInterrupt, ReadId, FormatTrack, DumpRegisters, Seek, RelativeSeek, Version, Perpendicular, Configure, Lock, Verify}
 use Rattle.fdc_chip.specs.declared.order.Order.{Order}
-use Rattle.fdc_chip.specs.declared.stage.Stage.TheVariants.{Ready, Held}
+use Rattle.fdc_chip.specs.declared.stage.ChipStage.TheVariants.{Ready, Held}
 use Rattle.laws_chip.specs.Beginning.{BeginsUnless, Completes, CompletesTransfer, IsBegun, IsDoneFree, IsFreeBehind, IsHeldFor, IsTransferOf, completed, still_moves, transfer_sent}
 use Rattle.laws_chip.specs.Calls as made
 use Rattle.laws_chip.specs.Calls.{Call, Does, is_reset, is_step}
@@ -74,7 +74,7 @@ same_moves one other same paced =
 -- ---- a whole command
 
 -- a chip where nothing is under way attends to the command
-pub record IsAttended (code : Code) (set new : ChipState) : Type 0 where
+pub record IsAttended (code : ChipOpcode) (set new : ChipState) : Type 0 where
   pub basis : IsBasis set
   pub rests : RestsBehind set.front
   pub attends : Attends code set new
@@ -87,7 +87,7 @@ free_of front stands rests still = record {
   by_dma = stands.by_dma;
 }
 
-pub attended_free : (code : Code) (old new : ChipState) → IsAttended code old new → still_moves old ≡ false → IsDoneFree code old.order (implies old) new
+pub attended_free : (code : ChipOpcode) (old new : ChipState) → IsAttended code old new → still_moves old ≡ false → IsDoneFree code old.order (implies old) new
 attended_free code old new attended still =
     let set = drained old in
     let resting : IsResting old set = drained_rests 4 old attended.basis.whole attended.rests in
@@ -100,7 +100,7 @@ attended_free code old new attended still =
       obeys = subst (λ b. AttendsIf b code set new) (and_right (needs_heads code) (is_moving set) still) attended.attends;
     }
 
-pub attended_held : (code : Code) (old new : ChipState) → IsAttended code old new → needs_heads code ≡ true → still_moves old ≡ true → IsHeldFor old.order new
+pub attended_held : (code : ChipOpcode) (old new : ChipState) → IsAttended code old new → needs_heads code ≡ true → still_moves old ≡ true → IsHeldFor old.order new
 attended_held code old new attended heads moves =
     let set = drained old in
     let resting : IsResting old set = drained_rests 4 old attended.basis.whole attended.rests in
@@ -123,7 +123,7 @@ abbrev pub attending : ℕ → ChipState → ChipState
 attending byte old = record (with_next byte old) { count = 0 }
 
 -- the byte isn't the first one, and no more are wanted
-pub last_bytes : (code : Code) → needs_heads code ≡ true → ((parameters code == 0) ≡ false) × (nat_le (parameters code + 1) ((parameters code + 1) % 256) ≡ true)
+pub last_bytes : (code : ChipOpcode) → needs_heads code ≡ true → ((parameters code == 0) ≡ false) × (nat_le (parameters code + 1) ((parameters code + 1) % 256) ≡ true)
 last_bytes Specify heads = absurd (false≢true heads)
 last_bytes SenseInterrupt heads = absurd (false≢true heads)
 last_bytes Version heads = absurd (false≢true heads)
@@ -141,7 +141,7 @@ last_bytes (Transfer mfm) heads = (refl, refl)
 last_bytes (Verify mfm) heads = (refl, refl)
 last_bytes (ReadTrack mfm) heads = (refl, refl)
 
-pub byte_attends : (code : Code) (byte : ℕ) (old new : ChipState) → IsSound old → byte < 256 → needs_heads code ≡ true → Completes code byte old → WritesChip 0x3F5 byte old new → IsAttended code (attending byte old) new
+pub byte_attends : (code : ChipOpcode) (byte : ℕ) (old new : ChipState) → IsSound old → byte < 256 → needs_heads code ≡ true → Completes code byte old → WritesChip 0x3F5 byte old new → IsAttended code (attending byte old) new
 byte_attends code byte old new sound few heads completes writes =
     let (some, enough) = last_bytes code heads in
     let begun : (old.count == 0) ≡ false = ap (λ n. n == 0) completes.others ∙ some in
@@ -151,7 +151,7 @@ byte_attends code byte old new sound few heads completes writes =
     let found = code_of (completed byte old).code in
     let collects : CollectsIf (is_whole ((old.count + 1) % 256) found) found (with_next byte old) new = subst (λ b. ComesIf b byte old new) comes taken in
     let named : CollectsIf (is_whole ((old.count + 1) % 256) (Some code)) (Some code) (with_next byte old) new =
-    subst (λ (is : Option Code). CollectsIf (is_whole ((old.count + 1) % 256) is) is (with_next byte old) new) completes.whole collects in
+    subst (λ (is : Option ChipOpcode). CollectsIf (is_whole ((old.count + 1) % 256) is) is (with_next byte old) new) completes.whole collects in
     let whole : is_whole ((old.count + 1) % 256) (Some code) ≡ true = ap (λ n. nat_le (parameters code + 1) ((n + 1) % 256)) completes.others ∙ enough in
     record {
       basis = record {
@@ -166,7 +166,7 @@ byte_attends code byte old new sound few heads completes writes =
       attends = subst (λ b. CollectsIf b (Some code) (with_next byte old) new) whole named;
     }
 
-pub byte_free : (code : Code) (byte : ℕ) (old new : ChipState) → IsSound old → byte < 256 → needs_heads code ≡ true → Completes code byte old → WritesChip 0x3F5 byte old new → still_moves old ≡ false
+pub byte_free : (code : ChipOpcode) (byte : ℕ) (old new : ChipState) → IsSound old → byte < 256 → needs_heads code ≡ true → Completes code byte old → WritesChip 0x3F5 byte old new → still_moves old ≡ false
     → IsDoneFree code (completed byte old) (implies old) new
 byte_free code byte old new sound few heads completes writes still =
     attended_free code (attending byte old) new (byte_attends code byte old new sound few heads completes writes) (same_moves (attending byte old) old refl refl ∙ still)
@@ -179,11 +179,11 @@ byte_begins opcode byte old new sound few completes writes =
 
 -- ---- ---- a device step of a held command
 
-pub step_attends : (code : Code) (old paced new : ChipState) → IsSound old → old.stage ≡ Held → code_of old.order.code ≡ Some code → IsResting old paced → AttendsTo (code_of paced.order.code) paced new → IsAttended code paced new
+pub step_attends : (code : ChipOpcode) (old paced new : ChipState) → IsSound old → old.stage ≡ Held → code_of old.order.code ≡ Some code → IsResting old paced → AttendsTo (code_of paced.order.code) paced new → IsAttended code paced new
 step_attends code old paced new sound at is was attends = record {
   basis = basis_same old paced (sound_basis old (ap parts.is_ready at) sound) was.base was.count was.order;
   rests = was.rests;
-  attends = subst (λ (found : Option Code). AttendsTo found paced new) (ap (λ (order : Order). code_of order.code) was.order ∙ is) attends;
+  attends = subst (λ (found : Option ChipOpcode). AttendsTo found paced new) (ap (λ (order : Order). code_of order.code) was.order ∙ is) attends;
 }
 
 -- what the chip does after the device step
@@ -193,10 +193,10 @@ follows_held old new step at = subst (λ stage. Follows stage (with_front step.b
 pub step_rests : (old paced new : ChipState) (step : StepsChip old new) → IsSound old → old.stage ≡ Held → Paces old.pace (with_front step.between old) paced → IsResting old paced
 step_rests old paced new step sound at paces = stepped_rests old step.between paced sound (ap is_busy at) step.steps paces
 
-of_order : (code : Code) (one other : Order) (seeks implied : Bool) (new : ChipState) → one ≡ other → seeks ≡ implied → IsDoneFree code one seeks new → IsDoneFree code other implied new
+of_order : (code : ChipOpcode) (one other : Order) (seeks implied : Bool) (new : ChipState) → one ≡ other → seeks ≡ implied → IsDoneFree code one seeks new → IsDoneFree code other implied new
 of_order code one other seeks implied new is same done = record { set = done.set; order_is = done.order_is ∙ is; implied = done.implied ∙ same; free = done.free; obeys = done.obeys }
 
-pub step_free : (code : Code) (old new : ChipState) (step : StepsChip old new) → IsSound old → old.stage ≡ Held → code_of old.order.code ≡ Some code
+pub step_free : (code : ChipOpcode) (old new : ChipState) (step : StepsChip old new) → IsSound old → old.stage ≡ Held → code_of old.order.code ≡ Some code
     → (paced : ChipState) × Paces old.pace (with_front step.between old) paced × (still_moves paced ≡ false → IsDoneFree code old.order (implies old) new)
 step_free code old new step sound at is =
     let (paced, paces, attends) = follows_held old new step at in

@@ -13,8 +13,8 @@ use Rattle.fdc_sequencer.specs.Opcodes.{opcode_of, operation_of}
 use Rattle.fdc_sequencer.specs.Transfers.{size_of}
 use Rattle.fdc_sequencer.specs.declared.opcode.Opcode.{Opcode}
 use Rattle.fdc_sequencer.specs.declared.opcode.Operation.{Operation}
-use Rattle.fdc_sequencer.specs.declared.stage.Stage.{Stage as BehindStage}
-use Rattle.fdc_sequencer.specs.declared.stage.Stage.TheVariants.{Through, Collecting, Seeking, Moving, Telling}
+use Rattle.fdc_sequencer.specs.declared.stage.FrontStage.{FrontStage}
+use Rattle.fdc_sequencer.specs.declared.stage.FrontStage.TheVariants.{Through, Collecting, Seeking, Moving, Telling}
 use Rattle.fdc_sequencer.specs.declared.transfer.Transfer.{Transfer}
 use Rattle.laws_sequencer.specs.Lasting.{HasByteNumbers, HasByteRecords, is_under_way, most_steps, sectors_from}
 use Rattle.laws_sequencer.specs.Serving.{ServesAt, nothing_moved}
@@ -23,10 +23,10 @@ use Rattle.fdc_chip.specs.Chips.{ChipState}
 use Rattle.fdc_chip.specs.Codes.{code_of, has_bit, has_multitrack}
 use Rattle.fdc_chip.specs.Doing.{Begins, FormatsIf, Obeys, Refuses, TransfersIf, format_bytes, absent_key, identifying, implies, is_size, no_key, reading_one, sectors_of_track, sectors_to, sectors_verified, track_begun, verifying, with_keys, with_last}
 use Rattle.fdc_chip.specs.Orders.{order_bytes}
-use Rattle.fdc_chip.specs.declared.code.Code.{Code}
-use Rattle.fdc_chip.specs.declared.code.Code.TheVariants as code
+use Rattle.fdc_chip.specs.declared.code.ChipOpcode.{ChipOpcode}
+use Rattle.fdc_chip.specs.declared.code.ChipOpcode.TheVariants as code
 use Rattle.fdc_chip.specs.declared.order.Order.{Order}
-use Rattle.fdc_chip.specs.declared.stage.Task.TheVariants as task
+use Rattle.fdc_chip.specs.declared.stage.ChipTask.TheVariants as task
 use Rattle.laws_chip.specs.Beginning.{BeginsBehind, IsDoneFree, IsFreeBehind, transfer_sent}
 use Rattle.laws_chip.specs.Bounds.{IsWorking, most_steps_of, sectors_of}
 use Rattle.laws_chip.specs.Lasting.{most_track_steps}
@@ -110,7 +110,7 @@ same_sectors seeks opcode order is =
     ap (λ b. sectors_to order.last_sector order.key.r + (if b && not (has_bit order.unit 0x04) then sectors_to order.last_sector 1 else 0)) (opcode_multitrack order.code opcode is)
 
 -- the numbers of the first sector are those of the sequencer
-first_records : (stage : BehindStage) (first : Transfer) (fdc : Fdc) → ServesAt stage first (nothing_moved false) fdc → is_under_way stage ≡ true → HasByteNumbers stage → HasByteRecords first
+first_records : (stage : FrontStage) (first : Transfer) (fdc : Fdc) → ServesAt stage first (nothing_moved false) fdc → is_under_way stage ≡ true → HasByteNumbers stage → HasByteRecords first
 first_records Through first fdc now under bytes = absurd now
 first_records (Collecting opcode) first fdc now under bytes = absurd now
 first_records (Telling results read) first fdc now under bytes = absurd (false≢true under)
@@ -182,7 +182,7 @@ track_starts true old new free obeys working = either_way (is_size old.order.key
 -- ---- ---- any of these commands
 
 -- the command reads, writes or formats sectors, or reads a sector ID
-abbrev pub is_data : Code → Bool
+abbrev pub is_data : ChipOpcode → Bool
 is_data (code.ReadId _) = true
 is_data (code.FormatTrack _) = true
 is_data (code.Transfer _) = true
@@ -190,7 +190,7 @@ is_data (code.Verify _) = true
 is_data (code.ReadTrack _) = true
 is_data _ = false
 
-starts : (found : Code) (old new : ChipState) → is_data found ≡ true → IsSound new → old.order.code < 256 → code_of old.order.code ≡ Some found → IsFreeBehind old.front → Obeys found old new → IsWorking new
+starts : (found : ChipOpcode) (old new : ChipState) → is_data found ≡ true → IsSound new → old.order.code < 256 → code_of old.order.code ≡ Some found → IsFreeBehind old.front → Obeys found old new → IsWorking new
     → BusyLeft (most_steps_of found old.order) new
 starts (code.ReadId mfm) old new kind sound few is free obeys working = id_starts mfm old new sound is free obeys
 starts (code.FormatTrack mfm) old new kind sound few is free obeys working = format_starts mfm old new free obeys
@@ -209,7 +209,7 @@ starts code.Configure old new kind sound few is free obeys working = absurd (fal
 starts code.DumpRegisters old new kind sound few is free obeys working = absurd (false≢true kind)
 starts (code.Lock on) old new kind sound few is free obeys working = absurd (false≢true kind)
 
-pub done_left : (found : Code) (order : Order) (seeks : Bool) (new : ChipState) → is_data found ≡ true → IsSound new → order.code < 256 → code_of order.code ≡ Some found → IsDoneFree found order seeks new → IsWorking new
+pub done_left : (found : ChipOpcode) (order : Order) (seeks : Bool) (new : ChipState) → is_data found ≡ true → IsSound new → order.code < 256 → code_of order.code ≡ Some found → IsDoneFree found order seeks new → IsWorking new
     → BusyLeft (most_steps_of found order) new
 done_left found order seeks new kind sound few is done working =
     subst (λ o. BusyLeft (most_steps_of found o) new) done.order_is

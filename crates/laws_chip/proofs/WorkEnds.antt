@@ -5,12 +5,12 @@ use Rattle.fdc_commands.specs.declared.results.Results.{Results}
 use Rattle.fdc_chip.specs.Chips.{ChipState}
 use Rattle.fdc_chip.specs.Codes.{code_of}
 use Rattle.fdc_chip.specs.Doing.{AttendsIf, Begins, BeginsReadId, FormatsIf, Obeys, RemembersIf, TransfersIf, begun, drained, implies, is_moving, is_size, needs_heads, sought_if, with_keys, with_last}
-use Rattle.fdc_chip.specs.declared.code.Code.{Code}
-use Rattle.fdc_chip.specs.declared.code.Code.TheVariants as code
+use Rattle.fdc_chip.specs.declared.code.ChipOpcode.{ChipOpcode}
+use Rattle.fdc_chip.specs.declared.code.ChipOpcode.TheVariants as code
 use Rattle.fdc_chip.specs.declared.order.Order.{Order}
-use Rattle.fdc_chip.specs.declared.stage.Stage.{Stage}
-use Rattle.fdc_chip.specs.declared.stage.Stage.TheVariants.{Ready, Held, Busy, Telling}
-use Rattle.fdc_chip.specs.declared.stage.Task.{Task}
+use Rattle.fdc_chip.specs.declared.stage.ChipStage.{ChipStage}
+use Rattle.fdc_chip.specs.declared.stage.ChipStage.TheVariants.{Ready, Held, Busy, Telling}
+use Rattle.fdc_chip.specs.declared.stage.ChipTask.{ChipTask}
 use Rattle.laws_chip.specs.Beginning.{IsHeldFor, completed}
 use Rattle.laws_chip.specs.Bounds.{AreWithoutReset, EndsAmong, IsGiven, IsWorking, HasRanges, has_command, most_steps_of}
 use Rattle.laws_chip.specs.Calls as made
@@ -32,11 +32,11 @@ remembers_busy : (b : Bool) (old new : ChipState) → is_busy old.stage ≡ true
 remembers_busy true old new busy (sends, rest) = ap (λ (chip : ChipState). is_busy chip.stage) rest ∙ busy
 remembers_busy false old new busy is = ap (λ (chip : ChipState). is_busy chip.stage) is ∙ busy
 
-begins_busy : (what : Task) (seeks : Bool) (bytes : List ℕ) (old new : ChipState) → Begins what seeks bytes old new → is_busy new.stage ≡ true
+begins_busy : (what : ChipTask) (seeks : Bool) (bytes : List ℕ) (old new : ChipState) → Begins what seeks bytes old new → is_busy new.stage ≡ true
 begins_busy what seeks bytes old new begins =
     ap (λ (chip : ChipState). is_busy chip.stage) begins.sends.1 ∙ remembers_busy old.settings.forgotten (begun what old) begins.set refl begins.remembers
 
-transfers_busy : (b mfm : Bool) (what : Task) (bytes : List ℕ) (old new : ChipState) → TransfersIf b mfm what bytes old new → is_busy new.stage ≡ true
+transfers_busy : (b mfm : Bool) (what : ChipTask) (bytes : List ℕ) (old new : ChipState) → TransfersIf b mfm what bytes old new → is_busy new.stage ≡ true
 transfers_busy true mfm what bytes old new begins = begins_busy _ _ _ (sought_if (implies old) old) new begins
 transfers_busy false mfm what bytes old new begins = begins_busy _ _ _ old new begins
 
@@ -48,7 +48,7 @@ id_busy : (mfm : Bool) (old new : ChipState) → BeginsReadId mfm old new → is
 id_busy true old new begins = begins_busy _ _ _ old new begins
 id_busy false old new begins = begins_busy _ _ _ old new begins
 
-pub obeys_busy : (found : Code) (old new : ChipState) → is_data found ≡ true → Obeys found old new → is_busy new.stage ≡ true
+pub obeys_busy : (found : ChipOpcode) (old new : ChipState) → is_data found ≡ true → Obeys found old new → is_busy new.stage ≡ true
 obeys_busy (code.ReadId mfm) old new kind obeys = id_busy mfm old new obeys
 obeys_busy (code.FormatTrack mfm) old new kind obeys = formats_busy (mfm && is_size old.order.key.c) mfm (with_keys old.order.key.h (with_last old.order.key.h old)) new obeys
 obeys_busy (code.Transfer mfm) old new kind obeys = transfers_busy (mfm && is_size old.order.key.n) mfm _ _ (with_last old.order.last_sector old) new obeys
@@ -66,19 +66,19 @@ obeys_busy code.Configure old new kind obeys = absurd (false≢true kind)
 obeys_busy code.DumpRegisters old new kind obeys = absurd (false≢true kind)
 obeys_busy (code.Lock on) old new kind obeys = absurd (false≢true kind)
 
-busy_works : (stage : Stage) → is_busy stage ≡ true → has_command stage ≡ true
+busy_works : (stage : ChipStage) → is_busy stage ≡ true → has_command stage ≡ true
 busy_works Ready busy = absurd (false≢true busy)
 busy_works Held busy = refl
 busy_works (Busy what) busy = refl
 busy_works (Telling answer read) busy = absurd (false≢true busy)
 
-attends_works : (b : Bool) (found : Code) (old new : ChipState) → is_data found ≡ true → AttendsIf b found old new → has_command new.stage ≡ true
+attends_works : (b : Bool) (found : ChipOpcode) (old new : ChipState) → is_data found ≡ true → AttendsIf b found old new → has_command new.stage ≡ true
 attends_works true found old new kind is = ap (λ (chip : ChipState). has_command chip.stage) is
 attends_works false found old new kind obeys = busy_works new.stage (obeys_busy found old new kind obeys)
 
 -- ---- a held command stays under way
 
-held_works : (found : Code) (order : Order) (call : Call) (old new : ChipState) → is_data found ≡ true → code_of order.code ≡ Some found → IsSound old → IsHeldFor order old → Does call old new → is_reset call ≡ false
+held_works : (found : ChipOpcode) (order : Order) (call : Call) (old new : ChipState) → is_data found ≡ true → code_of order.code ≡ Some found → IsSound old → IsHeldFor order old → Does call old new → is_reset call ≡ false
     → has_command new.stage ≡ true
 held_works found order call old new kind is sound held does quiet = either_way (is_step call)
     (λ steps. by_step call steps does)
@@ -109,7 +109,7 @@ none_left n some none = omega arith
 fewer_left : (n steps more : ℕ) → n ≤ steps + more → n - steps ≤ more
 fewer_left n steps more few = omega arith
 
-module _ (found : Code) (order : Order) (kind : is_data found ≡ true) (heads : needs_heads found ≡ true) (few_code : order.code < 256) (is : code_of order.code ≡ Some found) where
+module _ (found : ChipOpcode) (order : Order) (kind : is_data found ≡ true) (heads : needs_heads found ≡ true) (few_code : order.code < 256) (is : code_of order.code ≡ Some found) where
   -- a command that is over after a call was executed, and its results are told
   over_tells : (n : ℕ) (call : Call) (old new : ChipState) → IsSound old → WorkLeft (most_steps_of found order) order n old → Does call old new → is_reset call ≡ false → has_command new.stage ≡ false
       → (results : Results) × Tells results new
@@ -128,7 +128,7 @@ module _ (found : Code) (order : Order) (kind : is_data found ≡ true) (heads :
       inr (works, works_end calls (n - steps_of call) between new still working (work_call found order kind heads few_code is call n old between sound still worked working was does) rest (fewer_left n (steps_of call) (steps_in calls) many)))
       (λ over. inl (over_tells n call old between sound was does quiet over))
 
-pub given_ends : (found : Code) → is_data found ≡ true → needs_heads found ≡ true → (wait byte : ℕ) (calls : List Call) (old begun new : ChipState) → IsGiven wait found byte old begun → (are : AreWithoutReset calls begun new)
+pub given_ends : (found : ChipOpcode) → is_data found ≡ true → needs_heads found ≡ true → (wait byte : ℕ) (calls : List Call) (old begun new : ChipState) → IsGiven wait found byte old begun → (are : AreWithoutReset calls begun new)
     → wait + most_steps_of found (completed byte old) ≤ steps_in calls → EndsAmong calls begun new are
 given_ends found kind heads wait byte calls old begun new given are many =
     let order = completed byte old in

@@ -7,10 +7,10 @@ use Rattle.fdc_chip.specs.Doing.{implies, needs_heads}
 use Rattle.fdc_chip.specs.Orders.{is_format}
 use Rattle.fdc_chip.specs.Ports.{GivesIf, ReadsAt, ReadsIf, TakesByte}
 use Rattle.fdc_chip.specs.Settings.{is_by_port}
-use Rattle.fdc_chip.specs.declared.code.Code.{Code}
-use Rattle.fdc_chip.specs.declared.code.Code.TheVariants as code
+use Rattle.fdc_chip.specs.declared.code.ChipOpcode.{ChipOpcode}
+use Rattle.fdc_chip.specs.declared.code.ChipOpcode.TheVariants as code
 use Rattle.fdc_chip.specs.declared.order.Order.{Order}
-use Rattle.fdc_chip.specs.declared.stage.Stage.TheVariants.{Held}
+use Rattle.fdc_chip.specs.declared.stage.ChipStage.TheVariants.{Held}
 use Rattle.laws_chip.specs.Beginning.{IsDoneFree, IsHeldFor, completed, still_moves}
 use Rattle.laws_chip.specs.Bounds.{AreWorking, IsGiven, HeadsMove, IsWorking, WaitsFor, has_command, heads_of, most_steps_of}
 use Rattle.laws_chip.specs.Bounds as bounds
@@ -111,7 +111,7 @@ move_done wait most n some few = omega arith
 next : (n : ℕ) → suc n ≡ n + 1
 next n = omega arith
 
-module _ (found : Code) (order : Order) (kind : is_data found ≡ true) (heads : needs_heads found ≡ true) (few_code : order.code < 256) (is : code_of order.code ≡ Some found) where
+module _ (found : ChipOpcode) (order : Order) (kind : is_data found ≡ true) (heads : needs_heads found ≡ true) (few_code : order.code < 256) (is : code_of order.code ≡ Some found) where
   abbrev most : ℕ
   most = most_steps_of found order
 
@@ -211,7 +211,7 @@ same_most : (n : ℕ) → n ≤ n
 same_most n = omega arith
 
 -- the command begins, or is held
-pub given_left : (wait : ℕ) (found : Code) (byte : ℕ) (old begun : ChipState) → is_data found ≡ true → needs_heads found ≡ true → IsGiven wait found byte old begun
+pub given_left : (wait : ℕ) (found : ChipOpcode) (byte : ℕ) (old begun : ChipState) → is_data found ≡ true → needs_heads found ≡ true → IsGiven wait found byte old begun
     → WorkLeft (most_steps_of found (completed byte old)) (completed byte old) (wait + most_steps_of found (completed byte old)) begun
 given_left wait found byte old begun kind heads given =
     let order = completed byte old in
@@ -227,7 +227,7 @@ given_left wait found byte old begun kind heads given =
     let done = byte_free found byte old begun given.sound given.few heads given.last given.writes stands in
     inl (more_left most (wait + most) begun (at_most wait most) (done_left found order (implies old) begun kind still few given.last.whole done given.working)))
 
-pub given_lasts : (found : Code) → is_data found ≡ true → needs_heads found ≡ true → (wait byte : ℕ) (calls : List Call) (old begun new : ChipState) → IsGiven wait found byte old begun → AreWorking calls begun new
+pub given_lasts : (found : ChipOpcode) → is_data found ≡ true → needs_heads found ≡ true → (wait byte : ℕ) (calls : List Call) (old begun new : ChipState) → IsGiven wait found byte old begun → AreWorking calls begun new
     → steps_in calls < wait + most_steps_of found (completed byte old)
 given_lasts found kind heads wait byte calls old begun new given are =
     let order = completed byte old in

@@ -7,7 +7,7 @@ use Rattle.fdc_sequencer.specs.Opcodes.{opcode_of}
 use Rattle.fdc_sequencer.specs.Senses.{is_ready}
 use Rattle.fdc_sequencer.specs.Transfers.{transfer_with}
 use Rattle.fdc_sequencer.specs.declared.opcode.Opcode.{Opcode}
-use Rattle.fdc_sequencer.specs.declared.stage.Stage.TheVariants.{Through}
+use Rattle.fdc_sequencer.specs.declared.stage.FrontStage.TheVariants.{Through}
 use Rattle.fdc_sequencer.specs.declared.transfer.Transfer.{Transfer}
 use Rattle.laws_sequencer.specs.Calls as behind
 use Rattle.laws_sequencer.specs.Calls.{IsLastByte, Served}
@@ -17,10 +17,10 @@ use Rattle.fdc_chip.specs.Codes.{code_of, parameters}
 use Rattle.fdc_chip.specs.Doing.{Obeys, drained, implies, is_moving, is_size, moves_heads}
 use Rattle.fdc_chip.specs.Orders.{with_byte}
 use Rattle.fdc_chip.specs.Steps.{StepsChip}
-use Rattle.fdc_chip.specs.declared.code.Code.{Code}
-use Rattle.fdc_chip.specs.declared.code.Code.TheVariants.{Transfer as TransferCode}
+use Rattle.fdc_chip.specs.declared.code.ChipOpcode.{ChipOpcode}
+use Rattle.fdc_chip.specs.declared.code.ChipOpcode.TheVariants.{Transfer as TransferCode}
 use Rattle.fdc_chip.specs.declared.order.Order.{Order}
-use Rattle.fdc_chip.specs.declared.stage.Stage.TheVariants.{Held}
+use Rattle.fdc_chip.specs.declared.stage.ChipStage.TheVariants.{Held}
 use Rattle.laws_chip.specs.Calls.{AreServed, Call, IsServing, MakesAll}
 
 -- if a seek runs, it is of one of four drives
@@ -68,7 +68,7 @@ abbrev pub completed : ℕ → ChipState → Order
 completed byte chip = with_byte chip.count byte chip.order
 
 -- all bytes of the command but one have come, and this is the last
-pub record Completes (code : Code) (byte : ℕ) (old : ChipState) : Type 0 where
+pub record Completes (code : ChipOpcode) (byte : ℕ) (old : ChipState) : Type 0 where
   pub others : old.count ≡ parameters code
   pub whole : code_of (completed byte old).code ≡ Some code
 
@@ -98,7 +98,7 @@ BeginsUnless true seeks opcode order new = IsHeldFor order new
 BeginsUnless false seeks opcode order new = IsBegun (transfer_sent seeks opcode order) new
 
 -- a chip does a command while its inner controller is free. The Bool says whether the chip implies seeks
-pub record IsDoneFree (code : Code) (order : Order) (seeks : Bool) (new : ChipState) : Type 0 where
+pub record IsDoneFree (code : ChipOpcode) (order : Order) (seeks : Bool) (new : ChipState) : Type 0 where
   pub set : ChipState
   pub order_is : set.order ≡ order
   pub implied : implies set ≡ seeks

@@ -12,12 +12,12 @@ use Rattle.fdc_chip.specs.Codes.{has_bit, has_multitrack}
 use Rattle.fdc_chip.specs.Doing.{sectors_to, verifying}
 use Rattle.fdc_chip.specs.Ports.{WritesChip}
 use Rattle.fdc_chip.specs.Settings.{step_words}
-use Rattle.fdc_chip.specs.declared.code.Code.{Code}
-use Rattle.fdc_chip.specs.declared.code.Code.TheVariants.{FormatTrack, ReadId, ReadTrack, Transfer, Verify}
+use Rattle.fdc_chip.specs.declared.code.ChipOpcode.{ChipOpcode}
+use Rattle.fdc_chip.specs.declared.code.ChipOpcode.TheVariants.{FormatTrack, ReadId, ReadTrack, Transfer, Verify}
 use Rattle.fdc_chip.specs.declared.order.Order.{Order}
-use Rattle.fdc_chip.specs.declared.pace.Pace.{Pace}
-use Rattle.fdc_chip.specs.declared.stage.Stage.{Stage}
-use Rattle.fdc_chip.specs.declared.stage.Stage.TheVariants.{Busy, Held}
+use Rattle.fdc_chip.specs.declared.pace.PacedSeek.{PacedSeek}
+use Rattle.fdc_chip.specs.declared.stage.ChipStage.{ChipStage}
+use Rattle.fdc_chip.specs.declared.stage.ChipStage.TheVariants.{Busy, Held}
 use Rattle.laws_chip.specs.Beginning.{Completes}
 use Rattle.laws_chip.specs.Calls.{Call, Does, WritesByte, is_reset}
 use Rattle.laws_chip.specs.Lasting.{most_track_steps}
@@ -40,7 +40,7 @@ abbrev pub most_sector_steps : Order → ℕ
 most_sector_steps order = 256 + 65536 * (sectors_of order + 1)
 
 -- the device steps that a command takes at most once it is executed. A VERIFY is a READ DATA
-abbrev pub most_steps_of : Code → Order → ℕ
+abbrev pub most_steps_of : ChipOpcode → Order → ℕ
 most_steps_of (ReadId _) order = 65536
 most_steps_of (FormatTrack _) order = 65536
 most_steps_of (Transfer _) order = most_sector_steps order
@@ -51,7 +51,7 @@ most_steps_of _ order = 0
 -- ---- ---- under way
 
 -- a command is held or executed
-abbrev pub has_command : Stage → Bool
+abbrev pub has_command : ChipStage → Bool
 has_command Held = true
 has_command (Busy task) = true
 has_command _ = false
@@ -81,7 +81,7 @@ seek_steps (Some seek) = steps_left seek.motion
 
 -- the device steps for which heads move at most, if pulses come in so many word times. The inner controller takes at
 -- most 256 for a pulse, and as many for the command that ends the seek
-abbrev pub heads_steps : ℕ → Option Pace → Option DriveSeek → ℕ
+abbrev pub heads_steps : ℕ → Option PacedSeek → Option DriveSeek → ℕ
 heads_steps words None seek = seek_steps seek
 heads_steps words (Some pace) seek = max pace.wait (seek_steps seek) + (pulses_left pace * (max words 256 + 1) + 257)
 
@@ -102,7 +102,7 @@ pub data WaitsFor (left : ℕ) (chip : ChipState) : Type 0 where
   pace : (pulses drive : ℕ) (goal : Option ℕ) → HeadsPaced pulses drive goal Held chip → pulses + most_of goal ≤ left → WaitsFor left chip
 
 -- the device steps for which a command waits at most: none if it isn't held
-abbrev pub wait_at : Stage → ChipState → ℕ
+abbrev pub wait_at : ChipStage → ChipState → ℕ
 wait_at Held chip = heads_of chip
 wait_at _ chip = 0
 
@@ -111,7 +111,7 @@ wait_of chip = wait_at chip.stage chip
 
 -- a sound chip is given the last byte of a command, which is then under way. If it is held, it waits for heads for at
 -- most so many device steps
-pub record IsGiven (wait : ℕ) (code : Code) (byte : ℕ) (old new : ChipState) : Type 0 where
+pub record IsGiven (wait : ℕ) (code : ChipOpcode) (byte : ℕ) (old new : ChipState) : Type 0 where
   pub sound : IsSound old
   pub few : byte < 256
   pub last : Completes code byte old
@@ -156,7 +156,7 @@ pub record IsUsed (chip : ChipState) : Type 0 where
 abbrev pub heads_go : ChipState → Bool
 heads_go chip = is_some chip.pace || is_seeking chip.front.adapter.controller.seeks
 
-abbrev pub is_executed : Stage → Bool
+abbrev pub is_executed : ChipStage → Bool
 is_executed (Busy task) = true
 is_executed _ = false
 
@@ -170,7 +170,7 @@ pub record HeadsGoOn (words : ℕ) (chip : ChipState) : Type 0 where
   pub ranges : HasRanges chip
 
 -- a command that is held stays held
-abbrev pub StaysHeld : Stage → Stage → Type 0
+abbrev pub StaysHeld : ChipStage → ChipStage → Type 0
 StaysHeld Held new = new ≡ Held
 StaysHeld _ new = Unit {0}
 

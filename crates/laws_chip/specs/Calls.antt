@@ -4,8 +4,8 @@ use Rattle.fdc_core.specs.Ports.{resets}
 use Rattle.fdc_chip.specs.Chips.{ChipState, KeepsChip, passes_by_channel, passes_by_port}
 use Rattle.fdc_chip.specs.Ports.{GivesChip, ReadsChip, TakesChip, WritesChip, told_chip, value_behind}
 use Rattle.fdc_chip.specs.Steps.{StepsChip}
-use Rattle.fdc_chip.specs.declared.stage.Stage.TheVariants.{Busy}
-use Rattle.fdc_chip.specs.declared.stage.Task.TheVariants.{Sent}
+use Rattle.fdc_chip.specs.declared.stage.ChipStage.TheVariants.{Busy}
+use Rattle.fdc_chip.specs.declared.stage.ChipTask.TheVariants.{Sent}
 use Rattle.laws_sequencer.specs.Calls as behind
 use Rattle.laws_sequencer.specs.Lasting as lasting
 use Rattle.laws_sequencer.specs.Lasting.{is_under_way}

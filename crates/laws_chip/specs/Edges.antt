@@ -2,8 +2,8 @@
 use Rattle.std.specs.Prelude.{◌≡◌, ℕ, Bool, true, false}
 use Rattle.fdc_sequencer.specs.Fronts.{interrupts_outside}
 use Rattle.fdc_chip.specs.Chips.{ChipState}
-use Rattle.fdc_chip.specs.declared.answer.Answer.{Answer}
-use Rattle.fdc_chip.specs.declared.stage.Stage.TheVariants.{Ready, Telling}
+use Rattle.fdc_chip.specs.declared.answer.ChipAnswer.{ChipAnswer}
+use Rattle.fdc_chip.specs.declared.stage.ChipStage.TheVariants.{Ready, Telling}
 use Rattle.laws_chip.specs.Calls as call
 use Rattle.laws_chip.specs.Calls.{Call}
 
@@ -15,7 +15,7 @@ is_of_channel _ = false
 
 -- the last byte of an answer was read, and INT of the inner controller is up, because a seek or poll ended meanwhile
 pub record EndsAnswer (old new : ChipState) : Type 0 where
-  pub answer : Answer
+  pub answer : ChipAnswer
   pub read : ℕ
   pub told : old.stage ≡ Telling answer read
   pub ready : new.stage ≡ Ready

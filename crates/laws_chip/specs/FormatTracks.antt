@@ -14,8 +14,8 @@ use Rattle.fdc_sequencer.specs.Fronts.{GivesFront}
 use Rattle.fdc_chip.specs.Chips.{ChipState, passes_by_port}
 use Rattle.fdc_chip.specs.Doing.{Begins, is_size}
 use Rattle.fdc_chip.specs.declared.order.Order.{Order}
-use Rattle.fdc_chip.specs.declared.stage.Stage.{Stage}
-use Rattle.fdc_chip.specs.declared.stage.Task.TheVariants.{Sent}
+use Rattle.fdc_chip.specs.declared.stage.ChipStage.{ChipStage}
+use Rattle.fdc_chip.specs.declared.stage.ChipTask.TheVariants.{Sent}
 use Rattle.laws_sequencer.specs.Serving.{passed_in}
 use Rattle.laws_chip.specs.Beginning.{IsFreeBehind}
 use Rattle.laws_chip.specs.Calls as call
@@ -48,7 +48,7 @@ GivesAs (call.Writes port value) old new bytes = GivesByte (passes_by_port old) 
 GivesAs _ old new bytes = bytes ≡ []
 
 -- all bytes that the calls gave, in order
-abbrev pub GiveAll : (stage : Stage) (calls : List Call) (old new : ChipState) → AreAt stage calls old new → List ℕ → Type 0
+abbrev pub GiveAll : (stage : ChipStage) (calls : List Call) (old new : ChipState) → AreAt stage calls old new → List ℕ → Type 0
 GiveAll stage [] old new same bytes = bytes ≡ []
 GiveAll stage (made ∷ calls) old new at bytes =
     (first : List ℕ) × (rest : List ℕ) × GivesAs made old at.0 first × GiveAll stage calls at.0 new at.4 rest × (bytes ≡ first ++ rest)

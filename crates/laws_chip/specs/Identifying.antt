@@ -5,8 +5,8 @@ use Rattle.fdc_adapter.specs.Adapters.{drive_at}
 use Rattle.fdc_chip.specs.Chips.{ChipState}
 use Rattle.fdc_chip.specs.Doing.{Begins, identifying}
 use Rattle.fdc_chip.specs.declared.order.Order.{Order}
-use Rattle.fdc_chip.specs.declared.stage.Stage.{Stage}
-use Rattle.fdc_chip.specs.declared.stage.Task.TheVariants.{Sent}
+use Rattle.fdc_chip.specs.declared.stage.ChipStage.{ChipStage}
+use Rattle.fdc_chip.specs.declared.stage.ChipTask.TheVariants.{Sent}
 use Rattle.laws_sequencer.specs.Media.{IsAt, Place, TurnsOn}
 use Rattle.laws_chip.specs.Beginning.{IsFreeBehind}
 use Rattle.laws_chip.specs.Calls as call
@@ -30,7 +30,7 @@ TurnsOnBy call.Changes old new = TurnsOn old new
 TurnsOnBy _ old new = Unit {0}
 
 -- a medium is in before and after each of these calls
-abbrev pub StaysUnder : Place → (stage : Stage) (calls : List Call) (old new : ChipState) → AreAt stage calls old new → Type 0
+abbrev pub StaysUnder : Place → (stage : ChipStage) (calls : List Call) (old new : ChipState) → AreAt stage calls old new → Type 0
 StaysUnder place stage [] old new same = IsAt place old.front
 StaysUnder place stage (made ∷ calls) old new at =
     IsAt place old.front × TurnsOnBy made (drive_at old.front.adapter place.bay) (drive_at at.0.front.adapter place.bay)

@@ -4,15 +4,15 @@ use Rattle.laws_sequencer.specs.Lasting.{is_under_way}
 use Rattle.fdc_chip.specs.Chips.{ChipState}
 use Rattle.fdc_chip.specs.Doing.{sectors_of_track}
 use Rattle.fdc_chip.specs.declared.order.Order.{Order}
-use Rattle.fdc_chip.specs.declared.stage.Stage.{Stage}
-use Rattle.fdc_chip.specs.declared.stage.Stage.TheVariants.{Busy}
-use Rattle.fdc_chip.specs.declared.stage.Task.TheVariants as task
-use Rattle.fdc_chip.specs.declared.stage.Task.TheVariants.{Verify}
+use Rattle.fdc_chip.specs.declared.stage.ChipStage.{ChipStage}
+use Rattle.fdc_chip.specs.declared.stage.ChipStage.TheVariants.{Busy}
+use Rattle.fdc_chip.specs.declared.stage.ChipTask.TheVariants as task
+use Rattle.fdc_chip.specs.declared.stage.ChipTask.TheVariants.{Verify}
 use Rattle.fdc_chip.specs.declared.stage.Track.{Track}
 use Rattle.laws_chip.specs.Calls.{Call, Does, WritesByte}
 
 -- these calls, after each of which the chip is at this stage
-abbrev pub AreAt : Stage → List Call → ChipState → ChipState → Type 0
+abbrev pub AreAt : ChipStage → List Call → ChipState → ChipState → Type 0
 AreAt stage [] old new = new ≡ old
 AreAt stage (made ∷ calls) old new =
     (between : ChipState) × Does made old between × WritesByte made × (between.stage ≡ stage) × AreAt stage calls between new

@@ -3,13 +3,13 @@ use Rattle.std.specs.Prelude.{◌≡◌, ◌⊎◌, ◌≤◌, ℕ, ◌+◌, ◌
 use Rattle.fdc_phases.specs.declared.phases.Phase.TheVariants.{Command as Taking}
 use Rattle.fdc_core.specs.State.{is_held}
 use Rattle.fdc_sequencer.specs.Fronts.{Front}
-use Rattle.fdc_sequencer.specs.declared.stage.Stage.TheVariants.{Through}
+use Rattle.fdc_sequencer.specs.declared.stage.FrontStage.TheVariants.{Through}
 use Rattle.fdc_chip.specs.Chips.{ChipState}
 use Rattle.fdc_chip.specs.Codes.{code_of}
 use Rattle.fdc_chip.specs.Ports.{is_whole, with_next}
 use Rattle.fdc_chip.specs.Settings.{step_words}
-use Rattle.fdc_chip.specs.declared.pace.Pace.{Pace}
-use Rattle.fdc_chip.specs.declared.stage.Stage.{Stage}
+use Rattle.fdc_chip.specs.declared.pace.PacedSeek.{PacedSeek}
+use Rattle.fdc_chip.specs.declared.stage.ChipStage.{ChipStage}
 use Rattle.laws_chip.specs.Seeks.{SeeksBehind}
 
 -- ---- pulses
@@ -21,7 +21,7 @@ pulses_to None cylinder most = min cylinder most
 pulses_to (Some target) cylinder most = (cylinder - target) + (target - cylinder)
 
 -- the pulses that come before the seek is over
-abbrev pub pulses_left : Pace → ℕ
+abbrev pub pulses_left : PacedSeek → ℕ
 pulses_left pace = pulses_to pace.goal pace.cylinder pace.left
 
 -- the device steps that so many pulses take at most, with so many word times from one pulse to the next. The inner
@@ -58,15 +58,15 @@ GoesBehind behind apart drive cylinder front = StandsBehind apart drive cylinder
 
 -- the device steps that the rest of such a seek takes at most. The next pulse comes once its time is over and the inner
 -- controller is done with the one before
-abbrev pub most_left : ℕ → ℕ → ℕ → Pace → ℕ
+abbrev pub most_left : ℕ → ℕ → ℕ → PacedSeek → ℕ
 most_left behind apart words pace = max pace.wait (behind + 1) + apart + pulses_left pace * max words 2
 
 -- pulses of a seek of this drive are to come, and the chip is at this stage. In at most `left` device steps the inner
 -- controller is given the command that ends the seek
-pub record HeadsPaced (left drive : ℕ) (goal : Option ℕ) (stage : Stage) (chip : ChipState) : Type 0 where
+pub record HeadsPaced (left drive : ℕ) (goal : Option ℕ) (stage : ChipStage) (chip : ChipState) : Type 0 where
   pub at : chip.stage ≡ stage
   pub few : drive ≤ 3
-  pub pace : Pace
+  pub pace : PacedSeek
   pub paced : chip.pace ≡ Some pace
   pub drive_is : pace.unit % 4 ≡ drive
   pub goal_is : pace.goal ≡ goal

@@ -4,12 +4,12 @@ use Rattle.fdc_commands.specs.Seeking as seeking
 use Rattle.fdc_core.specs.State.{is_held}
 use Rattle.fdc_phases.specs.declared.phases.Phase.TheVariants.{Command as Taking}
 use Rattle.fdc_sequencer.specs.Fronts.{Front}
-use Rattle.fdc_sequencer.specs.declared.stage.Stage.TheVariants.{Through}
+use Rattle.fdc_sequencer.specs.declared.stage.FrontStage.TheVariants.{Through}
 use Rattle.fdc_chip.specs.Chips.{ChipState}
 use Rattle.fdc_chip.specs.Interrupts.{at_rest}
-use Rattle.fdc_chip.specs.declared.answer.Answer.TheVariants.{Sensed}
-use Rattle.fdc_chip.specs.declared.stage.Stage.{Stage}
-use Rattle.fdc_chip.specs.declared.stage.Stage.TheVariants.{Ready, Telling}
+use Rattle.fdc_chip.specs.declared.answer.ChipAnswer.TheVariants.{Sensed}
+use Rattle.fdc_chip.specs.declared.stage.ChipStage.{ChipStage}
+use Rattle.fdc_chip.specs.declared.stage.ChipStage.TheVariants.{Ready, Telling}
 use Rattle.laws_chip.specs.Calls as call
 use Rattle.laws_chip.specs.Calls.{Call}
 
@@ -47,7 +47,7 @@ abbrev pub polls_from : ℕ → List (Option ℕ)
 polls_from first = poll_from first 0 ∷ poll_from first 1 ∷ poll_from first 2 ∷ poll_from first 3 ∷ []
 
 -- the results of the poll are pending, each drive counts as at cylinder 0, and nothing else is under way
-pub record HasPolls (first : ℕ) (stage : Stage) (chip : ChipState) : Type 0 where
+pub record HasPolls (first : ℕ) (stage : ChipStage) (chip : ChipState) : Type 0 where
   pub at : chip.stage ≡ stage
   pub count : chip.count ≡ 0
   pub pending : chip.interrupts.pending ≡ polls_from first
@@ -57,5 +57,5 @@ pub record HasPolls (first : ℕ) (stage : Stage) (chip : ChipState) : Type 0 wh
   pub behind : IsFreshBehind false chip.front
 
 -- so many bytes were read of what SENSE INTERRUPT reports of a drive: ST0 and the cylinder
-abbrev pub telling_poll : ℕ → ℕ → Stage
+abbrev pub telling_poll : ℕ → ℕ → ChipStage
 telling_poll drive read = Telling (Sensed (0xC0 + drive) 0) read

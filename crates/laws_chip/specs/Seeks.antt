@@ -8,15 +8,15 @@ use Rattle.fdc_core.specs.Ranges.{IsInRange}
 use Rattle.fdc_core.specs.State.{is_held}
 use Rattle.fdc_adapter.specs.Adapters.{lines_at}
 use Rattle.fdc_sequencer.specs.Fronts.{Front}
-use Rattle.fdc_sequencer.specs.declared.stage.Stage.TheVariants.{Through}
+use Rattle.fdc_sequencer.specs.declared.stage.FrontStage.TheVariants.{Through}
 use Rattle.fdc_chip.specs.Chips.{ChipState}
 use Rattle.fdc_chip.specs.Doing.{moves_heads, relative_target}
 use Rattle.fdc_chip.specs.Interrupts.{Interrupting, cylinder_of, with_result}
-use Rattle.fdc_chip.specs.declared.code.Code.{Code}
-use Rattle.fdc_chip.specs.declared.code.Code.TheVariants.{Recalibrate, RelativeSeek, Seek}
+use Rattle.fdc_chip.specs.declared.code.ChipOpcode.{ChipOpcode}
+use Rattle.fdc_chip.specs.declared.code.ChipOpcode.TheVariants.{Recalibrate, RelativeSeek, Seek}
 use Rattle.fdc_chip.specs.declared.order.Order.{Order}
-use Rattle.fdc_chip.specs.declared.stage.Stage.{Stage}
-use Rattle.fdc_chip.specs.declared.stage.Stage.TheVariants.{Ready, Held}
+use Rattle.fdc_chip.specs.declared.stage.ChipStage.{ChipStage}
+use Rattle.fdc_chip.specs.declared.stage.ChipStage.TheVariants.{Ready, Held}
 use Rattle.laws_chip.specs.Sound.{IsSound}
 
 -- a sound chip, whose controller has numbers that its registers hold
@@ -28,7 +28,7 @@ pub record IsSoundInRange (chip : ChipState) : Type 0 where
 
 -- where a command moves the heads: a RECALIBRATE to track 0, and a SEEK or RELATIVE SEEK to a cylinder, which may
 -- depend on these cylinder numbers
-abbrev pub goal_of : Code → Order → Interrupting → Option (Option ℕ)
+abbrev pub goal_of : ChipOpcode → Order → Interrupting → Option (Option ℕ)
 goal_of Recalibrate order interrupts = Some None
 goal_of Seek order interrupts = Some (Some order.key.c)
 goal_of (RelativeSeek inward) order interrupts = Some (Some (relative_target inward (cylinder_of order.unit interrupts) order.key.c))
@@ -60,7 +60,7 @@ status_at_end (Some target) drive track0 = sought drive
 -- ---- ---- while heads move
 
 -- no command is under way, or one is held
-abbrev pub waits_for_heads : Stage → Bool
+abbrev pub waits_for_heads : ChipStage → Bool
 waits_for_heads Ready = true
 waits_for_heads Held = true
 waits_for_heads _ = false
@@ -81,7 +81,7 @@ pub record SeeksBehind (left drive : ℕ) (goal : Option ℕ) (front : Front) : 
   pub four : length front.adapter.controller.seeks.cylinders ≡ 4
 
 -- such a seek is under way, and the chip is at this stage, with no pulses that come in the time that SPECIFY sets
-pub record HeadsGo (left drive : ℕ) (goal : Option ℕ) (stage : Stage) (chip : ChipState) : Type 0 where
+pub record HeadsGo (left drive : ℕ) (goal : Option ℕ) (stage : ChipStage) (chip : ChipState) : Type 0 where
   pub at : chip.stage ≡ stage
   pub unpaced : chip.pace ≡ None
   pub few : drive ≤ 3

@@ -8,18 +8,18 @@ use Rattle.fdc_phases.specs.declared.phases.Task.TheVariants.{ReadId, Format}
 use Rattle.fdc_core.specs.State.{is_gated, is_held}
 use Rattle.fdc_core.specs.Steps.{IsCounted}
 use Rattle.fdc_sequencer.specs.Fronts.{Front}
-use Rattle.fdc_sequencer.specs.declared.stage.Stage.{Stage}
-use Rattle.fdc_sequencer.specs.declared.stage.Stage.TheVariants.{Through, Seeking}
+use Rattle.fdc_sequencer.specs.declared.stage.FrontStage.{FrontStage}
+use Rattle.fdc_sequencer.specs.declared.stage.FrontStage.TheVariants.{Through, Seeking}
 use Rattle.fdc_sequencer.specs.declared.transfer.Transfer.{Transfer}
 use Rattle.laws_sequencer.specs.Lasting.{is_under_way}
 use Rattle.laws_sequencer.specs.Serving.{History, Serves}
 use Rattle.fdc_chip.specs.Chips.{ChipState}
 use Rattle.fdc_chip.specs.declared.stage.Place.{Place}
 use Rattle.fdc_chip.specs.declared.stage.Place.TheVariants.{Address}
-use Rattle.fdc_chip.specs.declared.stage.Stage.{Stage as ChipStage}
-use Rattle.fdc_chip.specs.declared.stage.Stage.TheVariants.{Ready, Busy}
-use Rattle.fdc_chip.specs.declared.stage.Task.{Task as ChipTask}
-use Rattle.fdc_chip.specs.declared.stage.Task.TheVariants as task
+use Rattle.fdc_chip.specs.declared.stage.ChipStage.{ChipStage}
+use Rattle.fdc_chip.specs.declared.stage.ChipStage.TheVariants.{Ready, Busy}
+use Rattle.fdc_chip.specs.declared.stage.ChipTask.{ChipTask}
+use Rattle.fdc_chip.specs.declared.stage.ChipTask.TheVariants as task
 use Rattle.laws_chip.specs.Beginning.{IsOfFour}
 
 -- ---- ---- the inner controller
@@ -49,7 +49,7 @@ pub record ExecutesBehind (front : Front) : Type 0 where
   pub rests : seek_bits front.adapter.controller.seeks ≡ 0
 
 -- as long as heads seek before the first sector, the controller executes nothing
-abbrev pub WaitsForHeads : Stage → Phase → Type 0
+abbrev pub WaitsForHeads : FrontStage → Phase → Type 0
 WaitsForHeads (Seeking _ _) phase = phase ≡ Taking
 WaitsForHeads _ phase = Unit {0}
 

@@ -7,10 +7,10 @@ use Rattle.fdc_sequencer.specs.Fronts.{Front}
 use Rattle.fdc_chip.specs.Chips.{ChipState}
 use Rattle.fdc_chip.specs.Doing.{Sends, identifying}
 use Rattle.fdc_chip.specs.Ending.{results_taken, unit_of}
-use Rattle.fdc_chip.specs.declared.answer.Answer.TheVariants as answer
-use Rattle.fdc_chip.specs.declared.stage.Stage.TheVariants.{Busy, Telling}
-use Rattle.fdc_chip.specs.declared.stage.Task.{Task}
-use Rattle.fdc_chip.specs.declared.stage.Task.TheVariants.{Sought}
+use Rattle.fdc_chip.specs.declared.answer.ChipAnswer.TheVariants as answer
+use Rattle.fdc_chip.specs.declared.stage.ChipStage.TheVariants.{Busy, Telling}
+use Rattle.fdc_chip.specs.declared.stage.ChipTask.{ChipTask}
+use Rattle.fdc_chip.specs.declared.stage.ChipTask.TheVariants.{Sought}
 
 -- the host reads these results, and INT is up, where DOR lets it out
 pub record Tells (results : Results) (chip : ChipState) : Type 0 where
@@ -39,4 +39,4 @@ LooksOrTells first new =
 
 -- a command is executed, or its results are given
 abbrev pub IsBusyOrTells : ChipState → Type 0
-IsBusyOrTells chip = ((task : Task) × (chip.stage ≡ Busy task)) ⊎ ((results : Results) × Tells results chip)
+IsBusyOrTells chip = ((task : ChipTask) × (chip.stage ≡ Busy task)) ⊎ ((results : Results) × Tells results chip)

@@ -7,8 +7,8 @@ ghost use Rattle.fdc_chip.specs.Doing.{Begins, sensing};
 ghost use Rattle.fdc_chip.specs.Interrupts.{sensed};
 ghost use Rattle.fdc_chip.specs.Ports.{ReadsChip, byte_told, told_chip};
 ghost use Rattle.fdc_chip.specs.Settings.{is_by_port};
-ghost use Rattle.fdc_chip.specs.declared.answer.Answer.TheVariants as answer;
-ghost use Rattle.fdc_chip.specs.declared.stage.Task.{Task};
+ghost use Rattle.fdc_chip.specs.declared.answer.ChipAnswer.TheVariants as answer;
+ghost use Rattle.fdc_chip.specs.declared.stage.ChipTask.{ChipTask};
 ghost use Rattle.laws_chip.specs.Calls.{Call, Does};
 ghost use Rattle.laws_chip.specs.Edges.{EndsAnswer, is_of_channel};
 
@@ -29,6 +29,6 @@ pub fn a_read_raises_int_with_an_answer()
 pub fn a_taken_interrupt_is_seen()
     ensures results { (results : Results) (old : ChipState) → interrupts_chip (byte_told (answer.Results results) 0 old) ≡ false }
     ensures sense { (status cylinder : ℕ) (old : ChipState) → sensed old.interrupts ≡ Some (status, cylinder) → interrupts_chip (sensing old) ≡ false }
-    ensures begins { (task : Task) (seeks : Bool) (bytes : List ℕ) (old new : ChipState) → is_by_port old.settings ≡ false → Begins task seeks bytes old new
+    ensures begins { (task : ChipTask) (seeks : Bool) (bytes : List ℕ) (old new : ChipState) → is_by_port old.settings ≡ false → Begins task seeks bytes old new
         → interrupts_chip new ≡ false }
 {}

@@ -8,9 +8,9 @@ ghost use Rattle.fdc_sequencer.specs.declared.transfer.Transfer.{Transfer};
 ghost use Rattle.laws_sequencer.specs.Lasting.{HasByteNumbers, most_steps};
 ghost use Rattle.fdc_chip.specs.Chips.{ChipState};
 ghost use Rattle.fdc_chip.specs.Doing.{Obeys, implies, is_size, verifying};
-ghost use Rattle.fdc_chip.specs.declared.code.Code.TheVariants.{ReadTrack, Verify as VerifyCode};
-ghost use Rattle.fdc_chip.specs.declared.stage.Stage.TheVariants.{Busy};
-ghost use Rattle.fdc_chip.specs.declared.stage.Task.{Task};
+ghost use Rattle.fdc_chip.specs.declared.code.ChipOpcode.TheVariants.{ReadTrack, Verify as VerifyCode};
+ghost use Rattle.fdc_chip.specs.declared.stage.ChipStage.TheVariants.{Busy};
+ghost use Rattle.fdc_chip.specs.declared.stage.ChipTask.{ChipTask};
 ghost use Rattle.laws_chip.specs.Beginning.{BeginsBehind, IsBegun, IsFreeBehind, transfer_sent};
 ghost use Rattle.laws_chip.specs.Calls.{AreServed, Call, steps_in};
 ghost use Rattle.laws_chip.specs.Lasting.{AreAt, AreTracked, AreVerified, IsVerifying, most_track_steps};
@@ -21,7 +21,7 @@ ghost use Rattle.laws_chip.specs.Sound.{ExecutesBehind, IsSound};
 /// have. A command of several sectors ends within 256 device steps for an implied seek and 65,536 for each of its
 /// sectors.
 pub fn each_command_ends()
-    ensures single { (task : Task) (calls : List Call) (old new : ChipState) → IsSound old → old.stage ≡ Busy task → ExecutesBehind old.front → AreAt (Busy task) calls old new
+    ensures single { (task : ChipTask) (calls : List Call) (old new : ChipState) → IsSound old → old.stage ≡ Busy task → ExecutesBehind old.front → AreAt (Busy task) calls old new
         → steps_in calls < 65536 }
     ensures transfer { (first : Transfer) (calls : List Call) (begun new : ChipState) → IsBegun first begun → HasByteNumbers begun.front.stage → IsInRange begun.front.adapter.controller
         → AreServed calls begun new → steps_in calls < most_steps first }

@@ -2,7 +2,7 @@
 // does.
 ghost use Rattle.std.specs.Prelude.{◌≡◌, ◌+◌, ◌<◌, ◌≤◌, ℕ, Bool, List};
 ghost use Rattle.fdc_chip.specs.Chips.{ChipState};
-ghost use Rattle.fdc_chip.specs.declared.code.Code.TheVariants.{FormatTrack, ReadId, ReadTrack, Transfer, Verify};
+ghost use Rattle.fdc_chip.specs.declared.code.ChipOpcode.TheVariants.{FormatTrack, ReadId, ReadTrack, Transfer, Verify};
 ghost use Rattle.laws_chip.specs.Beginning.{completed};
 ghost use Rattle.laws_chip.specs.Bounds.{AreWithoutReset, AreWorking, EndsAmong, IsGiven, most_steps_of};
 ghost use Rattle.laws_chip.specs.Calls.{Call, steps_in};

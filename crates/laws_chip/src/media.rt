@@ -4,7 +4,7 @@ ghost use Rattle.std.specs.Prelude.{◌≡◌, ◌++◌, ◌∷◌, [], Bool, So
 ghost use Rattle.fdc_adapter.specs.Adapters.{drive_at};
 ghost use Rattle.fdc_commands.specs.declared.results.Results.{Results};
 ghost use Rattle.fdc_sequencer.specs.declared.opcode.Operation.TheVariants.{Read, Write};
-ghost use Rattle.fdc_sequencer.specs.declared.stage.Stage.TheVariants as behind;
+ghost use Rattle.fdc_sequencer.specs.declared.stage.FrontStage.TheVariants as behind;
 ghost use Rattle.fdc_sequencer.specs.declared.transfer.Transfer.{Transfer};
 ghost use Rattle.laws_sequencer.specs.Calls.{Steps};
 ghost use Rattle.laws_sequencer.specs.Media.{IsReadFrom, Place, StaysIn};

@@ -7,8 +7,8 @@ ghost use Rattle.fdc_chip.specs.Chips.{ChipState, interrupts_chip};
 ghost use Rattle.fdc_chip.specs.Ports.{ReadsChip, WritesChip, value_behind};
 ghost use Rattle.fdc_chip.specs.Quiet.{rests_at};
 ghost use Rattle.fdc_chip.specs.Steps.{StepsChip};
-ghost use Rattle.fdc_chip.specs.declared.stage.Stage.{Stage};
-ghost use Rattle.fdc_chip.specs.declared.stage.Stage.TheVariants.{Ready};
+ghost use Rattle.fdc_chip.specs.declared.stage.ChipStage.{ChipStage};
+ghost use Rattle.fdc_chip.specs.declared.stage.ChipStage.TheVariants.{Ready};
 ghost use Rattle.laws_chip.specs.Calls.{Call, Does, is_reset, is_step};
 ghost use Rattle.laws_chip.specs.Resets.{AwaitsPoll, HasPolls, is_of_data_port, telling_poll};
 ghost use Rattle.laws_chip.specs.Sound.{IsSound};
@@ -38,7 +38,7 @@ pub fn four_polls_are_sensed()
         → (value ≡ 0xC0 + drive) × HasPolls first (telling_poll drive 1) new }
     ensures cylinder { (drive first value : ℕ) (old new : ChipState) → HasPolls first (telling_poll drive 1) old → ReadsChip 0x3F5 old value new
         → (value ≡ 0) × HasPolls first Ready new }
-    ensures steps { (first : ℕ) (stage : Stage) (old new : ChipState) → rests_at stage ≡ true → HasPolls first stage old → StepsChip old new → HasPolls first stage new }
+    ensures steps { (first : ℕ) (stage : ChipStage) (old new : ChipState) → rests_at stage ≡ true → HasPolls first stage old → StepsChip old new → HasPolls first stage new }
 {}
 
 /// The poll of a reset comes in the first device step in which DOR doesn't hold the controller in reset, whatever is

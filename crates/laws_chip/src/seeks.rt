@@ -7,10 +7,10 @@ ghost use Rattle.fdc_chip.specs.Interrupts.{cylinder_of};
 ghost use Rattle.fdc_chip.specs.Ports.{WritesChip};
 ghost use Rattle.fdc_chip.specs.Settings.{step_words};
 ghost use Rattle.fdc_chip.specs.Steps.{StepsChip};
-ghost use Rattle.fdc_chip.specs.declared.code.Code.{Code};
+ghost use Rattle.fdc_chip.specs.declared.code.ChipOpcode.{ChipOpcode};
 ghost use Rattle.fdc_chip.specs.declared.order.Order.{Order};
-ghost use Rattle.fdc_chip.specs.declared.stage.Stage.{Stage};
-ghost use Rattle.fdc_chip.specs.declared.stage.Stage.TheVariants.{Ready, Held};
+ghost use Rattle.fdc_chip.specs.declared.stage.ChipStage.{ChipStage};
+ghost use Rattle.fdc_chip.specs.declared.stage.ChipStage.TheVariants.{Ready, Held};
 ghost use Rattle.laws_chip.specs.Beginning.{Completes, IsDoneFree, IsHeldFor, completed, still_moves};
 ghost use Rattle.laws_chip.specs.Calls.{Call, Does, is_reset, is_step};
 ghost use Rattle.laws_chip.specs.PacedSeeks.{HeadsPaced, completes, most_paced, pulses_left};
@@ -22,10 +22,10 @@ ghost use Rattle.laws_chip.specs.Sound.{IsSound};
 /// for the time of step pulses is off. They move for at most 256 device steps, and at most 80 of a RECALIBRATE. They go
 /// on through all other calls except a reset, even while a command is held.
 pub fn a_seek_begins()
-    ensures comes { (code : Code) (goal : Option ℕ) (byte : ℕ) (old new : ChipState) → IsSoundInRange old → IsSoundInRange new → byte < 256 → Completes code byte old → goal_of code (completed byte old) (drained old).interrupts ≡ Some goal
+    ensures comes { (code : ChipOpcode) (goal : Option ℕ) (byte : ℕ) (old new : ChipState) → IsSoundInRange old → IsSoundInRange new → byte < 256 → Completes code byte old → goal_of code (completed byte old) (drained old).interrupts ≡ Some goal
         → WritesChip 0x3F5 byte old new → still_moves old ≡ false → old.paced ≡ false → old.front.adapter.controller.poll_due ≡ false
         → HeadsGo (most_of goal) ((completed byte old).unit % 4) goal Ready new }
-    ensures stays { (left drive : ℕ) (goal : Option ℕ) (stage : Stage) (made : Call) (old new : ChipState) → waits_for_heads stage ≡ true → HeadsGo left drive goal stage old
+    ensures stays { (left drive : ℕ) (goal : Option ℕ) (stage : ChipStage) (made : Call) (old new : ChipState) → waits_for_heads stage ≡ true → HeadsGo left drive goal stage old
         → Does made old new → is_step made ≡ false → is_reset made ≡ false → is_of_data_port made ≡ false → HeadsGo left drive goal stage new }
 {}
 
@@ -42,10 +42,10 @@ pub fn a_seek_ends_by_int()
 /// A command that needs the inner controller is held while heads move, for at most as many device steps as they still
 /// take. It is done in the device step in which they stand, by a chip whose inner controller is free.
 pub fn a_held_command_starts()
-    ensures comes { (left drive : ℕ) (goal : Option ℕ) (code : Code) (byte : ℕ) (old new : ChipState) → IsSound old → byte < 256 → needs_heads code ≡ true
+    ensures comes { (left drive : ℕ) (goal : Option ℕ) (code : ChipOpcode) (byte : ℕ) (old new : ChipState) → IsSound old → byte < 256 → needs_heads code ≡ true
         → Completes code byte old → HeadsGo left drive goal Ready old → WritesChip 0x3F5 byte old new
         → IsHeldFor (completed byte old) new × HeadsGo left drive goal Held new }
-    ensures steps { (left drive : ℕ) (goal : Option ℕ) (code : Code) (order : Order) (old new : ChipState) → IsSound old → IsHeldFor order old → code_of order.code ≡ Some code
+    ensures steps { (left drive : ℕ) (goal : Option ℕ) (code : ChipOpcode) (order : Order) (old new : ChipState) → IsSound old → IsHeldFor order old → code_of order.code ≡ Some code
         → needs_heads code ≡ true → HeadsGo (left + 1) drive goal Held old → StepsChip old new
         → (IsHeldFor order new × HeadsGo left drive goal Held new) ⊎ IsDoneFree code order (implies old) new }
     ensures some { (drive : ℕ) (goal : Option ℕ) (chip : ChipState) → HeadsGo 0 drive goal Held chip → ⊥ }
@@ -56,13 +56,13 @@ pub fn a_held_command_starts()
 /// take at most their times, and 255 device steps more. The seek goes on through all other calls except a reset, even
 /// while a command is held.
 pub fn a_paced_seek_begins()
-    ensures comes { (code : Code) (goal : Option ℕ) (byte : ℕ) (old new : ChipState) → IsSoundInRange old → IsSoundInRange new → byte < 256 → Completes code byte old → goal_of code (completed byte old) (drained old).interrupts ≡ Some goal
+    ensures comes { (code : ChipOpcode) (goal : Option ℕ) (byte : ℕ) (old new : ChipState) → IsSoundInRange old → IsSoundInRange new → byte < 256 → Completes code byte old → goal_of code (completed byte old) (drained old).interrupts ≡ Some goal
         → WritesChip 0x3F5 byte old new → still_moves old ≡ false → old.paced ≡ true → old.front.adapter.controller.poll_due ≡ false
         → HeadsPaced (most_paced (step_words new.settings) (pulses_left (pace_begun (completed byte old).unit (cylinder_of (completed byte old).unit (drained old).interrupts) goal)))
         ((completed byte old).unit % 4) goal Ready new }
     ensures few { (unit cylinder : ℕ) (goal : Option ℕ) → cylinder < 256 → unwrap_or goal 0 < 256 → pulses_left (pace_begun unit cylinder goal) ≤ 255 }
     ensures recalibrates { (unit cylinder : ℕ) → pulses_left (pace_begun unit cylinder None) ≤ 79 }
-    ensures stays { (left drive : ℕ) (goal : Option ℕ) (stage : Stage) (made : Call) (old new : ChipState) → waits_for_heads stage ≡ true → HeadsPaced left drive goal stage old
+    ensures stays { (left drive : ℕ) (goal : Option ℕ) (stage : ChipStage) (made : Call) (old new : ChipState) → waits_for_heads stage ≡ true → HeadsPaced left drive goal stage old
         → Does made old new → is_step made ≡ false → is_reset made ≡ false → is_of_data_port made ≡ false → HeadsPaced left drive goal stage new }
 {}
 
@@ -71,7 +71,7 @@ pub fn a_paced_seek_begins()
 pub fn a_paced_seek_ends()
     ensures steps { (left drive : ℕ) (goal : Option ℕ) (old new : ChipState) → IsSoundInRange old → IsSoundInRange new → HeadsPaced (left + 1) drive goal Ready old → StepsChip old new
         → HeadsPaced left drive goal Ready new ⊎ HeadsGo (most_of goal) drive goal Ready new }
-    ensures some { (drive : ℕ) (goal : Option ℕ) (stage : Stage) (chip : ChipState) → HeadsPaced 0 drive goal stage chip → ⊥ }
+    ensures some { (drive : ℕ) (goal : Option ℕ) (stage : ChipStage) (chip : ChipState) → HeadsPaced 0 drive goal stage chip → ⊥ }
 {}
 
 /// While heads move, or pulses are to come, the bytes of a command are taken. Those before its last one leave the heads
@@ -86,10 +86,10 @@ pub fn a_command_comes_while_heads_move()
 /// A command that needs the inner controller is held while pulses are to come. It is still held when the inner
 /// controller is given the command that ends the seek. From then on the law of held commands tells when it starts.
 pub fn a_held_command_waits_for_pulses()
-    ensures comes { (left drive : ℕ) (goal : Option ℕ) (code : Code) (byte : ℕ) (old new : ChipState) → IsSound old → byte < 256 → needs_heads code ≡ true
+    ensures comes { (left drive : ℕ) (goal : Option ℕ) (code : ChipOpcode) (byte : ℕ) (old new : ChipState) → IsSound old → byte < 256 → needs_heads code ≡ true
         → Completes code byte old → HeadsPaced left drive goal Ready old → WritesChip 0x3F5 byte old new
         → IsHeldFor (completed byte old) new × HeadsPaced left drive goal Held new }
-    ensures steps { (left drive : ℕ) (goal : Option ℕ) (code : Code) (order : Order) (old new : ChipState) → IsSoundInRange old → IsSoundInRange new → IsHeldFor order old
+    ensures steps { (left drive : ℕ) (goal : Option ℕ) (code : ChipOpcode) (order : Order) (old new : ChipState) → IsSoundInRange old → IsSoundInRange new → IsHeldFor order old
         → code_of order.code ≡ Some code → needs_heads code ≡ true → HeadsPaced (left + 1) drive goal Held old → StepsChip old new
         → IsHeldFor order new × (HeadsPaced left drive goal Held new ⊎ HeadsGo (most_of goal) drive goal Held new) }
 {}

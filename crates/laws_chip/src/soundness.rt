@@ -9,10 +9,10 @@ ghost use Rattle.fdc_chip.specs.Paces.{Paces};
 ghost use Rattle.fdc_chip.specs.Pins.{ResetsByPin};
 ghost use Rattle.fdc_chip.specs.Ports.{WritesChip};
 ghost use Rattle.fdc_chip.specs.Steps.{RunsChip, StepsChip};
-ghost use Rattle.fdc_chip.specs.declared.code.Code.{Code};
+ghost use Rattle.fdc_chip.specs.declared.code.ChipOpcode.{ChipOpcode};
 ghost use Rattle.fdc_chip.specs.declared.order.Order.{Order};
-ghost use Rattle.fdc_chip.specs.declared.stage.Stage.TheVariants.{Busy, Held};
-ghost use Rattle.fdc_chip.specs.declared.stage.Task.{Task};
+ghost use Rattle.fdc_chip.specs.declared.stage.ChipStage.TheVariants.{Busy, Held};
+ghost use Rattle.fdc_chip.specs.declared.stage.ChipTask.{ChipTask};
 ghost use Rattle.laws_chip.specs.Beginning.{BeginsUnless, Completes, CompletesTransfer, IsDoneFree, IsHeldFor, IsTransferOf, completed, still_moves};
 ghost use Rattle.laws_chip.specs.Calls.{AreMade, Call, Does, WritesByte, is_reset, is_step};
 ghost use Rattle.laws_chip.specs.Sound.{IsSound};
@@ -32,9 +32,9 @@ pub fn a_chip_stays_sound()
 /// A command that needs the inner controller is done with its last byte, or, if it was held, in the device step in
 /// which heads stand. The inner controller is then free. What the step does to pulses that come in time comes first.
 pub fn what_stands_behind_is_free()
-    ensures comes { (code : Code) (byte : ℕ) (old new : ChipState) → IsSound old → byte < 256 → needs_heads code ≡ true → Completes code byte old
+    ensures comes { (code : ChipOpcode) (byte : ℕ) (old new : ChipState) → IsSound old → byte < 256 → needs_heads code ≡ true → Completes code byte old
         → WritesChip 0x3F5 byte old new → still_moves old ≡ false → IsDoneFree code (completed byte old) (implies old) new }
-    ensures released { (code : Code) (old new : ChipState) (step : StepsChip old new) → IsSound old → old.stage ≡ Held → code_of old.order.code ≡ Some code
+    ensures released { (code : ChipOpcode) (old new : ChipState) (step : StepsChip old new) → IsSound old → old.stage ≡ Held → code_of old.order.code ≡ Some code
         → (paced : ChipState) × Paces old.pace (with_front step.between old) paced × (still_moves paced ≡ false → IsDoneFree code old.order (implies old) new) }
 {}
 
@@ -51,5 +51,5 @@ pub fn a_whole_transfer_begins()
 
 /// A chip that is busy stays busy until it gives results, and INT with them, or until it is reset.
 pub fn no_command_is_silent()
-    ensures { (made : Call) (task : Task) (old new : ChipState) → Does made old new → old.stage ≡ Busy task → is_reset made ≡ false → IsBusyOrTells new }
+    ensures { (made : Call) (task : ChipTask) (old new : ChipState) → Does made old new → old.stage ≡ Busy task → is_reset made ≡ false → IsBusyOrTells new }
 {}

@@ -21,8 +21,8 @@ use Rattle.sector_model.specs.Runs.{IsEndStop}
 use Rattle.sector_model.specs.Plays.{IsText, most_job_bytes}
 use Rattle.floppy_words.specs.Forms.{ports_file_of}
 use Rattle.floppy_tools.specs.Performed.{Stand, Performed, ports_world}
-use Rattle.text_commands.specs.declared.ports.answer.Answer.{Answer}
-use Rattle.text_commands.specs.declared.ports.answer.Answer.TheVariants as answer
+use Rattle.text_commands.specs.declared.ports.answer.LineAnswer.{LineAnswer}
+use Rattle.text_commands.specs.declared.ports.answer.LineAnswer.TheVariants as answer
 use Rattle.text_commands.specs.Benches.{Bench, no_names}
 use Rattle.text_commands.specs.PortCourses.{Taken, PortRun, lines_of, has_refusal}
 use Rattle.text_commands.specs.PortLines.{DoesLine, StopsAt, KeepsMedia, LoadsMedium, StoresMedium, IsRefused, insert_refusal, eject_refusal}
@@ -95,7 +95,7 @@ module _ (Holds : List ℕ → Type 0) (names : Names) (old : Bench) (kept : IsK
     ];
   }
 
-  insert_kept : (bay : ℕ) (name : List ℕ) (said : Answer) (new : Bench) → IsInRange new.board → DoesLine (port.Insert bay name) old said new
+  insert_kept : (bay : ℕ) (name : List ℕ) (said : LineAnswer) (new : Bench) → IsInRange new.board → DoesLine (port.Insert bay name) old said new
       → Behind (request.Insert bay name) new (named_by names (request.Insert bay name))
   insert_kept bay name said new range does =
       let asked = request.Insert bay name in
@@ -127,7 +127,7 @@ module _ (Holds : List ℕ → Type 0) (names : Names) (old : Bench) (kept : IsK
             ]);
       }
 
-  eject_kept : (bay : ℕ) (said : Answer) (new : Bench) → IsInRange new.board → DoesLine (port.Eject bay) old said new
+  eject_kept : (bay : ℕ) (said : LineAnswer) (new : Bench) → IsInRange new.board → DoesLine (port.Eject bay) old said new
       → Behind (request.Eject bay) new (named_by names (request.Eject bay))
   eject_kept bay said new range does =
       let asked = request.Eject bay in
@@ -140,7 +140,7 @@ module _ (Holds : List ℕ → Type 0) (names : Names) (old : Bench) (kept : IsK
 -- ---- lines
 
 -- a line was done, and the lines after it go on
-through_line : {R : Type 0} (Holds : List ℕ → Type 0) (names : Names) (asked : PortLine) (more : List PortLine) (old : Bench) (said : Answer) (new : Bench)
+through_line : {R : Type 0} (Holds : List ℕ → Type 0) (names : Names) (asked : PortLine) (more : List PortLine) (old : Bench) (said : LineAnswer) (new : Bench)
     → DoesLine asked old said new → IsInRange new.board → IsKept Holds names old → InsertsDisks Holds names (media_among (asked ∷ more))
     → ((Now : List ℕ → Type 0) (names : Names) → IsKept Now names new → InsertsDisks Now names (media_among more) → R) → R
 through_line Holds names (port.In number) more old said new does range kept inserts next = next Holds names (media_kept Holds names old kept new range does.1) inserts

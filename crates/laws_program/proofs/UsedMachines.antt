@@ -26,8 +26,8 @@ use Rattle.machine_commands.specs.Started.{IsFreshBoard}
 use Rattle.sector_model.specs.declared.reply.Reason.{Reason}
 use Rattle.floppy_words.specs.Forms.{ports_file_of}
 use Rattle.floppy_tools.specs.Performed.{Stand, Performed, ports_world}
-use Rattle.text_commands.specs.declared.ports.answer.Answer.{Answer}
-use Rattle.text_commands.specs.declared.ports.answer.Answer.TheVariants as answer
+use Rattle.text_commands.specs.declared.ports.answer.LineAnswer.{LineAnswer}
+use Rattle.text_commands.specs.declared.ports.answer.LineAnswer.TheVariants as answer
 use Rattle.text_commands.specs.Benches.{Bench, no_names}
 use Rattle.text_commands.specs.PortCourses.{Taken, PortRun}
 use Rattle.text_commands.specs.PortFinishes.{EndInTime}
@@ -100,19 +100,19 @@ used_recalibrate old new n used range goes is many =
 same_bench : (old new : Bench) → new ≡ old → NotBoth (controller_of old.board) → NotBoth (controller_of new.board)
 same_bench old new same was = subst (λ (bench : Bench). NotBoth (controller_of bench.board)) (sym same) was
 
-inserts_apart : (old new : Bench) (bay : ℕ) (name : List ℕ) (said : Answer) (refusal : Option Reason)
+inserts_apart : (old new : Bench) (bay : ℕ) (name : List ℕ) (said : LineAnswer) (refusal : Option Reason)
     → MatchOption refusal ((said ≡ answer.Done) × LoadsMedium bay name old new) (λ cause. IsRefused cause old said new)
     → NotBoth (controller_of old.board) → NotBoth (controller_of new.board)
 inserts_apart old new bay name said None (done, loads) was = handled_apart bay old.board new.board loads.touches was
 inserts_apart old new bay name said (Some cause) refused was = same_bench old new refused.same was
 
-ejects_apart : (old new : Bench) (bay : ℕ) (said : Answer) (refusal : Option Reason)
+ejects_apart : (old new : Bench) (bay : ℕ) (said : LineAnswer) (refusal : Option Reason)
     → MatchOption refusal ((said ≡ answer.Done) × StoresMedium bay old new) (λ cause. IsRefused cause old said new)
     → NotBoth (controller_of old.board) → NotBoth (controller_of new.board)
 ejects_apart old new bay said None (done, stores) was = handled_apart bay old.board new.board stores.takes.touches was
 ejects_apart old new bay said (Some cause) refused was = same_bench old new refused.same was
 
-line_apart : (old new : Bench) (asked : PortLine) (said : Answer) → DoesLine asked old said new → NotBoth (controller_of old.board)
+line_apart : (old new : Bench) (asked : PortLine) (said : LineAnswer) → DoesLine asked old said new → NotBoth (controller_of old.board)
     → NotBoth (controller_of new.board)
 line_apart old new (port.In number) said (reads, keeps) was =
     goes_apart old.board new.board _ (input_goes number reads.value old.board new.board reads.inputs) was

@@ -7,7 +7,7 @@ use Rattle.fdc_sequencer.specs.Fronts.{Front, KeepsFront}
 use Rattle.fdc_sequencer.specs.Moves.{FollowsStep, RunsFrontWith, StepsFront}
 use Rattle.laws_sequencer.specs.Serving.{GoesOn, History, KeepsServing, Serves, ServesAt, ServesUnless, all_bytes, gives_last, hears_count, history_counted, history_given, history_stepped, history_taken}
 use Rattle.fdc_sequencer.specs.declared.opcode.Operation.{Operation}
-use Rattle.fdc_sequencer.specs.declared.stage.Stage.TheVariants.{Through}
+use Rattle.fdc_sequencer.specs.declared.stage.FrontStage.TheVariants.{Through}
 use Rattle.fdc_sequencer.specs.declared.transfer.Transfer.{Transfer}
 use Rattle.laws_sequencer.proofs.Courses.{none_more}
 use Rattle.laws_sequencer.proofs.Served.{counts_serve, gives_serve, none_told, reads_serve, steps_serve, takes_serve, writes_serve}

@@ -25,8 +25,8 @@ use Rattle.fdc_sequencer.specs.Opcodes.{opcode_of}
 use Rattle.fdc_sequencer.specs.Transfers.{transfer_of}
 use Rattle.fdc_sequencer.specs.declared.opcode.Opcode.{Opcode}
 use Rattle.fdc_sequencer.specs.declared.stage.Moving.{Moving as MovingSector}
-use Rattle.fdc_sequencer.specs.declared.stage.Stage.{Stage}
-use Rattle.fdc_sequencer.specs.declared.stage.Stage.TheVariants.{Through, Collecting, Seeking, Moving, Telling}
+use Rattle.fdc_sequencer.specs.declared.stage.FrontStage.{FrontStage}
+use Rattle.fdc_sequencer.specs.declared.stage.FrontStage.TheVariants.{Through, Collecting, Seeking, Moving, Telling}
 use Rattle.fdc_sequencer.specs.declared.transfer.Transfer.{Transfer}
 use Rattle.laws_sequencer.proofs.Known.{clash, either_way, which_drive}
 
@@ -81,7 +81,7 @@ port_idle port value lines old new writes no_byte no_reset idle =
 
 -- ---- ---- what the front does
 
-at_stage : (stage : Stage) (new : Front) → new.stage ≡ stage → WaitsAt stage new.adapter.controller → Waits new
+at_stage : (stage : FrontStage) (new : Front) → new.stage ≡ stage → WaitsAt stage new.adapter.controller → Waits new
 at_stage stage new is waits = subst (λ s. WaitsAt s new.adapter.controller) (sym is) waits
 
 same_waits : (old new : Front) → new ≡ old → Waits old → Waits new
@@ -123,7 +123,7 @@ seeks_waits : (b : Bool) (at : Transfer) (counted : Bool) (old new : Front) → 
 seeks_waits true at counted old new stage_is seeks = begins_waits _ _ _ _ new seeks
 seeks_waits false at counted old new stage_is is = at_stage (Seeking at counted) new (ap (λ front. front.stage) is ∙ stage_is) tt
 
-step_waits : (stage : Stage) (old : Front) (between : AdapterState) (new : Front) → old.stage ≡ stage → WaitsAt stage old.adapter.controller → StepsAdapter old.adapter between
+step_waits : (stage : FrontStage) (old : Front) (between : AdapterState) (new : Front) → old.stage ≡ stage → WaitsAt stage old.adapter.controller → StepsAdapter old.adapter between
     → FollowsStep (mark_of old.adapter.controller) stage (record old { adapter = between }) new → Waits new
 step_waits Through old between new stage_is waits steps is = at_stage Through new (ap (λ front. front.stage) is ∙ stage_is) tt
 step_waits (Collecting opcode) old between new stage_is waits steps is =
@@ -134,7 +134,7 @@ step_waits (Telling results read) old between new stage_is waits steps is = at_s
 
 -- ---- the channel
 
-takes_waits : (stage : Stage) (byte : Option ℕ) (old new : Front) → old.stage ≡ stage → Waits old → TakesAt stage old byte new → Waits new
+takes_waits : (stage : FrontStage) (byte : Option ℕ) (old new : Front) → old.stage ≡ stage → Waits old → TakesAt stage old byte new → Waits new
 takes_waits Through byte old new stage_is waits (takes, is) = at_stage Through new (ap (λ front. front.stage) is ∙ stage_is) tt
 takes_waits (Collecting opcode) byte old new stage_is waits (none, is) = same_waits old new is waits
 takes_waits (Seeking at counted) byte old new stage_is waits (none, is) = same_waits old new is waits
@@ -142,7 +142,7 @@ takes_waits (Telling results read) byte old new stage_is waits (none, is) = same
 takes_waits (Moving moving) None old new stage_is waits (quiet, is) = same_waits old new is waits
 takes_waits (Moving moving) (Some byte) old new stage_is waits (up, byte_is, is) = at_stage _ new (ap (λ front. front.stage) is) tt
 
-gives_waits : (stage : Stage) (byte : ℕ) (was : Bool) (old new : Front) → old.stage ≡ stage → Waits old → GivesAt stage byte old was new → Waits new
+gives_waits : (stage : FrontStage) (byte : ℕ) (was : Bool) (old new : Front) → old.stage ≡ stage → Waits old → GivesAt stage byte old was new → Waits new
 gives_waits Through byte was old new stage_is waits (gives, is) = at_stage Through new (ap (λ front. front.stage) is ∙ stage_is) tt
 gives_waits (Collecting opcode) byte was old new stage_is waits (none, is) = same_waits old new is waits
 gives_waits (Seeking at counted) byte was old new stage_is waits (none, is) = same_waits old new is waits
@@ -150,7 +150,7 @@ gives_waits (Telling results read) byte was old new stage_is waits (none, is) = 
 gives_waits (Moving moving) byte false old new stage_is waits (quiet, is) = same_waits old new is waits
 gives_waits (Moving moving) byte true old new stage_is waits (up, is) = at_stage _ new (ap (λ front. front.stage) is) tt
 
-counts_waits : (stage : Stage) (old new : Front) → old.stage ≡ stage → Waits old → new ≡ count_told stage old → Waits new
+counts_waits : (stage : FrontStage) (old new : Front) → old.stage ≡ stage → Waits old → new ≡ count_told stage old → Waits new
 counts_waits Through old new stage_is waits is = at_stage Through new (ap (λ front. front.stage) is ∙ stage_is) tt
 counts_waits (Collecting opcode) old new stage_is waits is = same_waits old new is waits
 counts_waits (Seeking at counted) old new stage_is waits is = at_stage _ new (ap (λ front. front.stage) is) tt
@@ -159,7 +159,7 @@ counts_waits (Telling results read) old new stage_is waits is = same_waits old n
 
 -- ---- ports
 
-given_waits : (stage : Stage) (old new : Front) → old.stage ≡ stage → Waits old → new ≡ byte_given stage old → Waits new
+given_waits : (stage : FrontStage) (old new : Front) → old.stage ≡ stage → Waits old → new ≡ byte_given stage old → Waits new
 given_waits Through old new stage_is waits is = at_stage Through new (ap (λ front. front.stage) is ∙ stage_is) tt
 given_waits (Collecting opcode) old new stage_is waits is = same_waits old new is waits
 given_waits (Seeking at counted) old new stage_is waits is = same_waits old new is waits
@@ -196,7 +196,7 @@ collects_waits More opcode old new stage_is idle is = at_stage (Collecting opcod
 collects_waits (Ready command) opcode old new stage_is idle starts = starts_waits (transfer_of (implies_seeks old) opcode command) old new starts
 collects_waits Invalid opcode old new stage_is idle refuses = at_stage Through new (ap (λ front. front.stage) refuses.after) tt
 
-byte_waits : (stage : Stage) (byte : ℕ) (old new : Front) → old.stage ≡ stage → WaitsAt stage old.adapter.controller → Waits old → TakesByte stage byte old new → Waits new
+byte_waits : (stage : FrontStage) (byte : ℕ) (old new : Front) → old.stage ≡ stage → WaitsAt stage old.adapter.controller → Waits old → TakesByte stage byte old new → Waits new
 byte_waits Through byte old new stage_is here waits passes = passes_waits (begins_with byte old.adapter.controller) byte old new stage_is refl passes
 byte_waits (Collecting opcode) byte old new stage_is idle waits collects =
     let bytes = old.bytes ++ byte ∷ [] in collects_waits (answer bytes) opcode (record old { bytes = kept (answer bytes) bytes }) new stage_is idle collects
@@ -204,7 +204,7 @@ byte_waits (Seeking at counted) byte old new stage_is here waits is = same_waits
 byte_waits (Moving moving) byte old new stage_is here waits is = same_waits old new is waits
 byte_waits (Telling results read) byte old new stage_is here waits is = same_waits old new is waits
 
-port_waits : (stage : Stage) (port value : ℕ) (old new : Front) → old.stage ≡ stage → WaitsAt stage old.adapter.controller → (port == 0x3F5) ≡ false → resets port value ≡ false
+port_waits : (stage : FrontStage) (port value : ℕ) (old new : Front) → old.stage ≡ stage → WaitsAt stage old.adapter.controller → (port == 0x3F5) ≡ false → resets port value ≡ false
     → WritesAdapter port value old.adapter new.adapter → new.stage ≡ old.stage → Waits new
 port_waits Through port value old new stage_is here no_byte no_reset wrote same = at_stage Through new (same ∙ stage_is) tt
 port_waits (Collecting opcode) port value old new stage_is idle no_byte no_reset wrote same =

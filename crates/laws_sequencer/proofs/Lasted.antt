@@ -33,8 +33,8 @@ use Rattle.fdc_sequencer.specs.Transfers.{is_last, next_of}
 use Rattle.fdc_sequencer.specs.declared.opcode.Operation.{Operation}
 use Rattle.fdc_sequencer.specs.declared.opcode.Operation.TheVariants.{Read, Write}
 use Rattle.fdc_sequencer.specs.declared.stage.Moving.{Moving as MovingSector}
-use Rattle.fdc_sequencer.specs.declared.stage.Stage.{Stage}
-use Rattle.fdc_sequencer.specs.declared.stage.Stage.TheVariants.{Through, Collecting, Seeking, Moving, Telling}
+use Rattle.fdc_sequencer.specs.declared.stage.FrontStage.{FrontStage}
+use Rattle.fdc_sequencer.specs.declared.stage.FrontStage.TheVariants.{Through, Collecting, Seeking, Moving, Telling}
 use Rattle.fdc_sequencer.specs.declared.transfer.Transfer.{Transfer}
 use Rattle.laws_sequencer.specs.Calls as call
 use Rattle.laws_sequencer.specs.Calls.{AreWithin, Call, Does, IsLastByte, Steps}
@@ -122,7 +122,7 @@ pub record MovesWithin (n : ℕ) (at : Transfer) (fdc : Fdc) : Type 0 where
   counted : IsCounted fdc.phase
   within : steps_left fdc.phase + 65536 * sectors_from at ≤ n + 65536
 
-abbrev pub LastsAt : ℕ → Stage → Fdc → Type 0
+abbrev pub LastsAt : ℕ → FrontStage → Fdc → Type 0
 LastsAt n (Seeking at counted) fdc = SeeksWithin n at fdc
 LastsAt n (Moving moving) fdc = MovesWithin n moving.transfer fdc
 LastsAt n (Telling results read) fdc = Unit {0}
@@ -131,7 +131,7 @@ LastsAt n _ fdc = ⊥
 abbrev pub Lasts : ℕ → Front → Type 0
 Lasts n front = LastsAt n front.stage front.adapter.controller
 
-at_stage : (n : ℕ) (stage : Stage) (new : Front) → new.stage ≡ stage → LastsAt n stage new.adapter.controller → Lasts n new
+at_stage : (n : ℕ) (stage : FrontStage) (new : Front) → new.stage ≡ stage → LastsAt n stage new.adapter.controller → Lasts n new
 at_stage n stage new is lasts = subst (λ s. LastsAt n s new.adapter.controller) (sym is) lasts
 
 same_lasts : (n : ℕ) (old new : Front) → new ≡ old → Lasts n old → Lasts n new
@@ -251,7 +251,7 @@ module _ (n : ℕ) (moving : MovingSector) (old : Fdc) (was : MovesWithin n movi
     within = fewer_within (steps_left front.adapter.controller.phase) (steps_left old.phase) (sectors_from moving.transfer) n fewer (sectors_some moving.transfer) was.within;
   }) is
 
-step_lasts : (n : ℕ) (first : Transfer) (history : History) (stage : Stage) (old : Front) (between : AdapterState) (new : Front) → old.stage ≡ stage → ServesAt stage first history old.adapter.controller
+step_lasts : (n : ℕ) (first : Transfer) (history : History) (stage : FrontStage) (old : Front) (between : AdapterState) (new : Front) → old.stage ≡ stage → ServesAt stage first history old.adapter.controller
     → LastsAt n stage old.adapter.controller → StepsAdapter old.adapter between → FollowsStep (mark_of old.adapter.controller) stage (record old { adapter = between }) new → (new.stage ≡ Through → ⊥) → Lasts (n - 1) new
 step_lasts n first history Through old between new stage_is now was steps follows stays = absurd was
 step_lasts n first history (Collecting opcode) old between new stage_is now was steps follows stays = absurd was
@@ -270,7 +270,7 @@ passed_lasts n moving fdc old was = by_last (moving.left - 1 == 0)
     by_last true = told_within n moving.transfer fdc was
     by_last false = was
 
-takes_last : (n : ℕ) (stage : Stage) (byte : Option ℕ) (old new : Front) → LastsAt n stage old.adapter.controller → Lasts n old → TakesAt stage old byte new → Lasts n new
+takes_last : (n : ℕ) (stage : FrontStage) (byte : Option ℕ) (old new : Front) → LastsAt n stage old.adapter.controller → Lasts n old → TakesAt stage old byte new → Lasts n new
 takes_last n Through byte old new now was takes = absurd now
 takes_last n (Collecting opcode) byte old new now was takes = absurd now
 takes_last n (Seeking at counted) byte old new now was (none, is) = same_lasts n old new is was
@@ -279,7 +279,7 @@ takes_last n (Moving moving) None old new now was (quiet, is) = same_lasts n old
 takes_last n (Moving moving) (Some byte) old new now was (up, byte_is, is) =
     subst (Lasts n) (sym is) (passed_lasts n moving (taken_out old.adapter.controller) old (record { bytes = now.bytes; counted = now.counted; within = now.within }))
 
-gives_last : (n : ℕ) (stage : Stage) (byte : ℕ) (given : Bool) (old new : Front) → LastsAt n stage old.adapter.controller → Lasts n old → GivesAt stage byte old given new → Lasts n new
+gives_last : (n : ℕ) (stage : FrontStage) (byte : ℕ) (given : Bool) (old new : Front) → LastsAt n stage old.adapter.controller → Lasts n old → GivesAt stage byte old given new → Lasts n new
 gives_last n Through byte given old new now was gives = absurd now
 gives_last n (Collecting opcode) byte given old new now was gives = absurd now
 gives_last n (Seeking at counted) byte given old new now was (none, is) = same_lasts n old new is was
@@ -288,7 +288,7 @@ gives_last n (Moving moving) byte false old new now was (quiet, is) = same_lasts
 gives_last n (Moving moving) byte true old new now was (up, is) =
     subst (Lasts n) (sym is) (passed_lasts n moving (taken_in byte old.adapter.controller) old (record { bytes = now.bytes; counted = now.counted; within = now.within }))
 
-counts_last : (n : ℕ) (stage : Stage) (old new : Front) → LastsAt n stage old.adapter.controller → Lasts n old → new ≡ count_told stage old → Lasts n new
+counts_last : (n : ℕ) (stage : FrontStage) (old new : Front) → LastsAt n stage old.adapter.controller → Lasts n old → new ≡ count_told stage old → Lasts n new
 counts_last n Through old new now was is = absurd now
 counts_last n (Collecting opcode) old new now was is = absurd now
 counts_last n (Telling results read) old new now was is = same_lasts n old new is was
@@ -301,7 +301,7 @@ result_lasts : (n : ℕ) (last : Bool) (results : Results) (read : ℕ) (old new
 result_lasts n true results read old new stays is = absurd (stays (ap (λ front. front.stage) is))
 result_lasts n false results read old new stays is = at_stage n (Telling results (read + 1)) new (ap (λ front. front.stage) is) tt
 
-reads_last : (n : ℕ) (stage : Stage) (b : Bool) (old new : Front) → LastsAt n stage old.adapter.controller → Lasts n old → (new.stage ≡ Through → ⊥) → new ≡ (if b then byte_given stage old else old) → Lasts n new
+reads_last : (n : ℕ) (stage : FrontStage) (b : Bool) (old new : Front) → LastsAt n stage old.adapter.controller → Lasts n old → (new.stage ≡ Through → ⊥) → new ≡ (if b then byte_given stage old else old) → Lasts n new
 reads_last n stage false old new now was stays is = same_lasts n old new is was
 reads_last n Through true old new now was stays is = absurd now
 reads_last n (Collecting opcode) true old new now was stays is = absurd now
@@ -309,14 +309,14 @@ reads_last n (Seeking at counted) true old new now was stays is = same_lasts n o
 reads_last n (Moving moving) true old new now was stays is = same_lasts n old new is was
 reads_last n (Telling results read) true old new now was stays is = result_lasts n (nat_le 6 read) results read old new stays is
 
-ignored : (n : ℕ) (stage : Stage) (byte : ℕ) (old new : Front) → LastsAt n stage old.adapter.controller → TakesByte stage byte old new → new ≡ old
+ignored : (n : ℕ) (stage : FrontStage) (byte : ℕ) (old new : Front) → LastsAt n stage old.adapter.controller → TakesByte stage byte old new → new ≡ old
 ignored n Through byte old new now takes = absurd now
 ignored n (Collecting opcode) byte old new now takes = absurd now
 ignored n (Seeking at counted) byte old new now takes = takes
 ignored n (Moving moving) byte old new now takes = takes
 ignored n (Telling results read) byte old new now takes = takes
 
-port_lasts : (n : ℕ) (stage : Stage) (old new : Fdc) → SameCommand old new → LastsAt n stage old → LastsAt n stage new
+port_lasts : (n : ℕ) (stage : FrontStage) (old new : Fdc) → SameCommand old new → LastsAt n stage old → LastsAt n stage new
 port_lasts n Through old new same was = absurd was
 port_lasts n (Collecting opcode) old new same was = absurd was
 port_lasts n (Telling results read) old new same was = tt
@@ -446,7 +446,7 @@ first_under byte first start begun last writes stays =
     starts_under first (record start { bytes = [] }) begun stays (first_starts byte first start begun last writes)
 
 -- what is then under way is of the command's first sector
-begun_records : (stage : Stage) (first : Transfer) (fdc : Fdc) → ServesAt stage first (nothing_moved false) fdc → is_under_way stage ≡ true → HasByteNumbers stage → HasByteRecords first
+begun_records : (stage : FrontStage) (first : Transfer) (fdc : Fdc) → ServesAt stage first (nothing_moved false) fdc → is_under_way stage ≡ true → HasByteNumbers stage → HasByteRecords first
 begun_records Through first fdc now under bytes = absurd now
 begun_records (Collecting opcode) first fdc now under bytes = absurd now
 begun_records (Telling results read) first fdc now under bytes = absurd (false≢true under)
@@ -462,7 +462,7 @@ some_moves : (left sectors n : ℕ) → 1 ≤ left → 1 ≤ sectors → left + 
 some_moves left sectors n some one all = omega arith
 
 -- while the command is under way, at least one device step is left
-pub lasts_some : (n : ℕ) (stage : Stage) (first : Transfer) (history : History) (fdc : Fdc) → ServesAt stage first history fdc → LastsAt n stage fdc → is_under_way stage ≡ true → 1 ≤ n
+pub lasts_some : (n : ℕ) (stage : FrontStage) (first : Transfer) (history : History) (fdc : Fdc) → ServesAt stage first history fdc → LastsAt n stage fdc → is_under_way stage ≡ true → 1 ≤ n
 lasts_some n Through first history fdc now was under = absurd was
 lasts_some n (Collecting opcode) first history fdc now was under = absurd was
 lasts_some n (Telling results read) first history fdc now was under = absurd (false≢true under)
@@ -482,7 +482,7 @@ command_within byte first start begun end calls last bytes writes stays range ar
     let lasts = calls_last calls (most_steps first) first (nothing_moved false) begun end are serves (first_lasts byte first start begun last (λ more. records) writes stays range) in
     less_by (most_steps first) (steps_in calls) (lasts_some (most_steps first - steps_in calls) end.stage first behind.history end.adapter.controller behind.serves.now lasts under)
 
-told_by : (stage : Stage) (first : Transfer) (history : History) (end : Front) → end.stage ≡ stage → ServesAt stage first history end.adapter.controller → (is_under_way stage ≡ true → ⊥) → HasResults end
+told_by : (stage : FrontStage) (first : Transfer) (history : History) (end : Front) → end.stage ≡ stage → ServesAt stage first history end.adapter.controller → (is_under_way stage ≡ true → ⊥) → HasResults end
 told_by Through first history end is now over = absurd now
 told_by (Collecting opcode) first history end is now over = absurd now
 told_by (Seeking at counted) first history end is now over = absurd (over refl)

@@ -45,8 +45,8 @@ use Rattle.fdc_sequencer.specs.Moves.{EndsIf, EndsSector, FollowsStep, MovesOn, 
 use Rattle.fdc_sequencer.specs.Transfers.{next_of}
 use Rattle.fdc_sequencer.specs.declared.opcode.Operation.TheVariants.{Read}
 use Rattle.fdc_sequencer.specs.declared.stage.Moving.{Moving as MovingSector}
-use Rattle.fdc_sequencer.specs.declared.stage.Stage.{Stage}
-use Rattle.fdc_sequencer.specs.declared.stage.Stage.TheVariants.{Through, Collecting, Seeking, Moving, Telling}
+use Rattle.fdc_sequencer.specs.declared.stage.FrontStage.{FrontStage}
+use Rattle.fdc_sequencer.specs.declared.stage.FrontStage.TheVariants.{Through, Collecting, Seeking, Moving, Telling}
 use Rattle.fdc_sequencer.specs.declared.transfer.Transfer.{Transfer}
 use Rattle.laws_sequencer.specs.Calls.{AreWithin, Call, Changes, Counts, Does, Gather, Gives, Grows, Reads, Steps, Straps, Takes, Writes}
 use Rattle.laws_sequencer.specs.Media.{AreOnMedium, BeginsOnTrack, HasMarkOnTrack, HasOnTrack, IsAt, IsAtWhile, IsClean, IsOnMedium, IsReadFrom, Place, StaysIn, TurnsOn, TurnsOnIn, track_under}
@@ -175,7 +175,7 @@ hearing_over place at past drive clean (from, since, was, began) = elim was.driv
 abbrev here_of : Transfer → History → Transfer
 here_of first history = sector_after (length history.parts) first
 
-abbrev NowHeard : Stage → Place → Transfer → History → Front → Type 0
+abbrev NowHeard : FrontStage → Place → Transfer → History → Front → Type 0
 NowHeard (Seeking at counted) place first history front = (at ≡ first) × (history.parts ≡ [])
 NowHeard (Moving moving) place first history front =
     (moving.transfer ≡ here_of first history) × IsHearingAt place (here_of first history) history.past (drive_at front.adapter place.bay)
@@ -380,7 +380,7 @@ module _ (place : Place) (first : Transfer) (wanted skip : Bool) (reads : first.
           (fresh_hearing place new (here_of first history) (told_in counted new_past) (at_new moving new stage_now is_at) (told_unheard counted))
       by_busy false is = absurd (stays (ap (λ front. front.stage) is))
 
-  step_hears : (stage : Stage) (history : History) (time : WordTime) (old : Front) (between : AdapterState) (new : Front) → old.stage ≡ stage → AreHeardAt place history.parts → NowHeard stage place first history old
+  step_hears : (stage : FrontStage) (history : History) (time : WordTime) (old : Front) (between : AdapterState) (new : Front) → old.stage ≡ stage → AreHeardAt place history.parts → NowHeard stage place first history old
       → IsAtWhile stage place old → (new.stage ≡ Through → ⊥) → IsAtWhile new.stage place new → Passes stage time old.adapter between → FollowsStep (mark_of old.adapter.controller) stage (record old { adapter = between }) new
       → Hears place first (history_stepped stage time between.controller history) new
   step_hears Through history time old between new stage_is parts now at stays at_then passes follows = absurd now
@@ -407,7 +407,7 @@ module _ (place : Place) (first : Transfer) (wanted skip : Bool) (reads : first.
       (subst (λ front. IsHearingAt place (here_of first history) (told_in (moving.left - 1 == 0) now) (drive_at front.adapter place.bay)) (sym is)
       (told_hearing place (here_of first history) (moving.left - 1 == 0) now (drive_at old.adapter place.bay) hearing))
 
-  take_hears : (stage : Stage) (byte : Option ℕ) (history : History) (old new : Front) → NowHeard stage place first history old → Hears place first history old → TakesAt stage old byte new
+  take_hears : (stage : FrontStage) (byte : Option ℕ) (history : History) (old new : Front) → NowHeard stage place first history old → Hears place first history old → TakesAt stage old byte new
       → Hears place first (history_taken stage byte history) new
   take_hears Through byte history old new now was takes = absurd now
   take_hears (Collecting opcode) byte history old new now was takes = absurd now
@@ -418,7 +418,7 @@ module _ (place : Place) (first : Transfer) (wanted skip : Bool) (reads : first.
       one_hears history moving (gave byte history.past) (taken_out old.adapter.controller) old new was.parts here
       (bytes_hearing place (here_of first history) history.past (history.past.given ++ byte ∷ []) history.past.taken history.past.counted (drive_at old.adapter place.bay) hearing) is
 
-  give_hears : (stage : Stage) (byte : ℕ) (given : Bool) (history : History) (old new : Front) → NowHeard stage place first history old → Hears place first history old → GivesAt stage byte old given new
+  give_hears : (stage : FrontStage) (byte : ℕ) (given : Bool) (history : History) (old new : Front) → NowHeard stage place first history old → Hears place first history old → GivesAt stage byte old given new
       → Hears place first (history_given stage byte given history) new
   give_hears Through byte given history old new now was gives = absurd now
   give_hears (Collecting opcode) byte given history old new now was gives = absurd now
@@ -429,7 +429,7 @@ module _ (place : Place) (first : Transfer) (wanted skip : Bool) (reads : first.
       one_hears history moving (took byte history.past) (taken_in byte old.adapter.controller) old new was.parts here
       (bytes_hearing place (here_of first history) history.past history.past.given (history.past.taken ++ byte ∷ []) history.past.counted (drive_at old.adapter place.bay) hearing) is
 
-  count_hears : (stage : Stage) (history : History) (old new : Front) → NowHeard stage place first history old → Hears place first history old → new ≡ count_told stage old
+  count_hears : (stage : FrontStage) (history : History) (old new : Front) → NowHeard stage place first history old → Hears place first history old → new ≡ count_told stage old
       → Hears place first (history_counted stage history) new
   count_hears Through history old new now was is = absurd now
   count_hears (Collecting opcode) history old new now was is = absurd now
@@ -448,7 +448,7 @@ module _ (place : Place) (first : Transfer) (wanted skip : Bool) (reads : first.
   result_hears true results read history old new parts heard stays is = absurd (stays (ap (λ front. front.stage) is))
   result_hears false results read history old new parts heard stays is = to_telling history results (read + 1) new (ap (λ front. front.stage) is) parts heard
 
-  read_hears : (stage : Stage) (b : Bool) (history : History) (old new : Front) → NowHeard stage place first history old → Hears place first history old → (new.stage ≡ Through → ⊥)
+  read_hears : (stage : FrontStage) (b : Bool) (history : History) (old new : Front) → NowHeard stage place first history old → Hears place first history old → (new.stage ≡ Through → ⊥)
       → new ≡ (if b then byte_given stage old else old) → Hears place first history new
   read_hears stage false history old new now was stays is = same_front history old new is was
   read_hears Through true history old new now was stays is = absurd now
@@ -458,7 +458,7 @@ module _ (place : Place) (first : Transfer) (wanted skip : Bool) (reads : first.
   read_hears (Telling results read) true history old new now was stays is = result_hears (nat_le 6 read) results read history old new was.parts now stays is
 
   -- the stage stays, and while a sector is moved the medium turns on
-  turn_hears : (stage : Stage) (history : History) (old new : Front) → AreHeardAt place history.parts → NowHeard stage place first history old → new.stage ≡ stage → IsAtWhile new.stage place new
+  turn_hears : (stage : FrontStage) (history : History) (old new : Front) → AreHeardAt place history.parts → NowHeard stage place first history old → new.stage ≡ stage → IsAtWhile new.stage place new
       → ((moving : MovingSector) → stage ≡ Moving moving → IsAt place new → TurnsOn (drive_at old.adapter place.bay) (drive_at new.adapter place.bay)) → Hears place first history new
   turn_hears Through history old new parts now is at turns = absurd now
   turn_hears (Collecting opcode) history old new parts now is at turns = absurd now
@@ -468,7 +468,7 @@ module _ (place : Place) (first : Transfer) (wanted skip : Bool) (reads : first.
       let there = at_new moving new is at in
       to_moving history moving new is parts here (kept_hearing place new (here_of first history) history.past (drive_at old.adapter place.bay) there (turns moving refl there) hearing)
 
-  ignored : (stage : Stage) (byte : ℕ) (history : History) (old new : Front) → NowHeard stage place first history old → TakesByte stage byte old new → new ≡ old
+  ignored : (stage : FrontStage) (byte : ℕ) (history : History) (old new : Front) → NowHeard stage place first history old → TakesByte stage byte old new → new ≡ old
   ignored Through byte history old new now takes = absurd now
   ignored (Collecting opcode) byte history old new now takes = absurd now
   ignored (Seeking at counted) byte history old new now takes = takes
@@ -537,7 +537,7 @@ module _ (place : Place) (first : Transfer) (wanted skip : Bool) (reads : first.
   call_hears (Straps on) history grown old new does stays at at_then turns is was =
       subst (λ h. Hears place first h new) (sym is) (subst (Hears place first history) (sym does) (record { parts = was.parts; now = strapped old.stage was.now }))
     where
-      strapped : (stage : Stage) → NowHeard stage place first history old → NowHeard stage place first history (record old { strapped = on })
+      strapped : (stage : FrontStage) → NowHeard stage place first history old → NowHeard stage place first history (record old { strapped = on })
       strapped Through now = now
       strapped (Collecting opcode) now = now
       strapped (Seeking target counted) now = now
@@ -607,7 +607,7 @@ module _ (place : Place) (first : Transfer) (wanted skip : Bool) (reads : first.
       subst (λ o. AreOnMedium place o history.parts) (sym reads) (all_on_medium first history.parts hears.parts (subst (λ o. AreMoved o first history.parts) reads moved))
 
   -- a command of which nothing was heard
-  nothing_heard : (stage : Stage) (begun : Front) → begun.stage ≡ stage → ServesAt stage first (nothing_moved false) begun.adapter.controller → IsAtWhile stage place begun → Hears place first (nothing_moved false) begun
+  nothing_heard : (stage : FrontStage) (begun : Front) → begun.stage ≡ stage → ServesAt stage first (nothing_moved false) begun.adapter.controller → IsAtWhile stage place begun → Hears place first (nothing_moved false) begun
   nothing_heard Through begun is now at = absurd now
   nothing_heard (Collecting opcode) begun is now at = absurd now
   nothing_heard (Seeking target counted) begun is (here, none) at =

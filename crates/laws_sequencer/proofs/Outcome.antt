@@ -19,8 +19,8 @@ use Rattle.fdc_sequencer.specs.Transfers.{is_last, is_other, is_skipping, next_o
 use Rattle.fdc_sequencer.specs.declared.opcode.Operation.{Operation}
 use Rattle.fdc_sequencer.specs.declared.opcode.Operation.TheVariants.{Read, Write}
 use Rattle.fdc_sequencer.specs.declared.stage.Moving.{Moving as MovingSector}
-use Rattle.fdc_sequencer.specs.declared.stage.Stage.{Stage}
-use Rattle.fdc_sequencer.specs.declared.stage.Stage.TheVariants.{Through, Collecting, Seeking, Moving, Telling}
+use Rattle.fdc_sequencer.specs.declared.stage.FrontStage.{FrontStage}
+use Rattle.fdc_sequencer.specs.declared.stage.FrontStage.TheVariants.{Through, Collecting, Seeking, Moving, Telling}
 use Rattle.fdc_sequencer.specs.declared.transfer.Transfer.{Transfer}
 use Rattle.laws_sequencer.proofs.Courses.{done_written, met_then, nothing_left, or_none, over_counted, part_moved, sector_opcode, skipped_over, would_uncounted}
 use Rattle.laws_sequencer.proofs.Known.{clash}
@@ -166,7 +166,7 @@ none_passed : (operation : Operation) (sent : Sent) → IsOfSector operation new
 none_passed (Read wanted skip) sent = ([], inl refl, ([], refl))
 none_passed (Write deleted) sent = ([], inl ([], refl), inl refl)
 
-passes_at : (stage : Stage) (first : Transfer) (history : History) (fdc : Fdc) → ServesAt stage first history fdc → PassesOfSector first history
+passes_at : (stage : FrontStage) (first : Transfer) (history : History) (fdc : Fdc) → ServesAt stage first history fdc → PassesOfSector first history
 passes_at Through first history fdc now = absurd now
 passes_at (Collecting opcode) first history fdc now = absurd now
 passes_at (Seeking at counted) first history fdc (here, none) = subst (PassesOfSector first) (sym none) (none_passed first.opcode.operation (sent_of first))

@@ -36,8 +36,8 @@ use Rattle.fdc_sequencer.specs.declared.opcode.Opcode.{Opcode}
 use Rattle.fdc_sequencer.specs.declared.opcode.Operation.{Operation}
 use Rattle.fdc_sequencer.specs.declared.opcode.Operation.TheVariants.{Read, Write}
 use Rattle.fdc_sequencer.specs.declared.stage.Moving.{Moving as MovingSector}
-use Rattle.fdc_sequencer.specs.declared.stage.Stage.{Stage}
-use Rattle.fdc_sequencer.specs.declared.stage.Stage.TheVariants.{Through, Collecting, Seeking, Moving, Telling}
+use Rattle.fdc_sequencer.specs.declared.stage.FrontStage.{FrontStage}
+use Rattle.fdc_sequencer.specs.declared.stage.FrontStage.TheVariants.{Through, Collecting, Seeking, Moving, Telling}
 use Rattle.fdc_sequencer.specs.declared.transfer.Transfer.{Transfer}
 use Rattle.laws_sequencer.proofs.Judged.{judges}
 use Rattle.laws_sequencer.proofs.Known.{BadGoes, KnownOn, MovedOn, bytes_told, clash, either_way, in_on, out_on, port_busy, port_mark, port_on, steps_on}
@@ -57,7 +57,7 @@ pub same_front : (first : Transfer) (history : History) (old new : Front) → ne
 same_front first history old new is serves = (none_more first.opcode.operation history, none_told history.counted, subst (Serves first history) (sym is) serves)
 
 -- the stage stays
-pub same_stage : (first : Transfer) (history : History) (stage : Stage) (new : Front) → new.stage ≡ stage → IsSizeCode first.key.n → AreMoved first.opcode.operation first history.parts
+pub same_stage : (first : Transfer) (history : History) (stage : FrontStage) (new : Front) → new.stage ≡ stage → IsSizeCode first.key.n → AreMoved first.opcode.operation first history.parts
     → ServesAt stage first history new.adapter.controller → GoesOn [] false first history history new
 same_stage first history stage new is sized parts now =
     (none_more first.opcode.operation history, none_told history.counted, record { sized = sized; parts = parts; now = subst (λ s. ServesAt s first history new.adapter.controller) (sym is) now })
@@ -456,7 +456,7 @@ seeks_on true first history at counted old new ended stage_is sized here none do
 seeks_on false first history at counted old new ended stage_is sized here none does =
     inl (same_stage first history (Seeking at counted) new (ap (λ front. front.stage) does ∙ stage_is) sized (subst (λ h. AreMoved first.opcode.operation first h.parts) (sym none) tt) (here, none))
 
-step_at : (stage : Stage) (first : Transfer) (history : History) (old : Front) (between : AdapterState) (new : Front) → old.stage ≡ stage → IsSizeCode first.key.n → AreMoved first.opcode.operation first history.parts
+step_at : (stage : FrontStage) (first : Transfer) (history : History) (old : Front) (between : AdapterState) (new : Front) → old.stage ≡ stage → IsSizeCode first.key.n → AreMoved first.opcode.operation first history.parts
     → ServesAt stage first history old.adapter.controller → StepsAdapter old.adapter between → FollowsStep (mark_of old.adapter.controller) stage (record old { adapter = between }) new
     → StepsTo first history old between new ⊎ RefusesFirst old new
 step_at Through first history old between new stage_is sized parts now steps follows = absurd now
@@ -485,7 +485,7 @@ steps_serve old new step first history serves = step_at old.stage first history 
 
 -- ---- the channel
 
-take_at : (stage : Stage) (byte : Option ℕ) (first : Transfer) (history : History) (old new : Front) → ServesAt stage first history old.adapter.controller → Serves first history old → TakesAt stage old byte new
+take_at : (stage : FrontStage) (byte : Option ℕ) (first : Transfer) (history : History) (old new : Front) → ServesAt stage first history old.adapter.controller → Serves first history old → TakesAt stage old byte new
     → GoesOn (passed_out byte) false first history (history_taken stage byte history) new
 take_at Through byte first history old new now serves takes = absurd now
 take_at (Collecting opcode) byte first history old new now serves takes = absurd now
@@ -496,7 +496,7 @@ take_at (Telling results read) byte first history old new now serves (none, is) 
 pub takes_serve : (old : Front) (byte : Option ℕ) (new : Front) → TakesFront old byte new → KeepsServing (passed_out byte) (history_taken old.stage byte) old new
 takes_serve old byte new takes first history serves = take_at old.stage byte first history old new serves.now serves takes
 
-give_at : (stage : Stage) (byte : ℕ) (was : Bool) (first : Transfer) (history : History) (old new : Front) → ServesAt stage first history old.adapter.controller → Serves first history old → GivesAt stage byte old was new
+give_at : (stage : FrontStage) (byte : ℕ) (was : Bool) (first : Transfer) (history : History) (old new : Front) → ServesAt stage first history old.adapter.controller → Serves first history old → GivesAt stage byte old was new
     → GoesOn (passed_in was byte) false first history (history_given stage byte was history) new
 give_at Through byte was first history old new now serves gives = absurd now
 give_at (Collecting opcode) byte was first history old new now serves gives = absurd now
@@ -515,7 +515,7 @@ seek_counted first history at counted new sized here none is = subst (λ h. Goes
   record { sized = sized; parts = tt; now = subst (λ s. ServesAt s first (nothing_moved true) new.adapter.controller) (sym is) (here, refl) },
 )
 
-count_at : (stage : Stage) (first : Transfer) (history : History) (old new : Front) → ServesAt stage first history old.adapter.controller → Serves first history old → new ≡ count_told stage old
+count_at : (stage : FrontStage) (first : Transfer) (history : History) (old new : Front) → ServesAt stage first history old.adapter.controller → Serves first history old → new ≡ count_told stage old
     → GoesOn [] (hears_count stage) first history (history_counted stage history) new
 count_at Through first history old new now serves is = absurd now
 count_at (Collecting opcode) first history old new now serves is = absurd now
@@ -533,7 +533,7 @@ result_read true results read old new stage_is is = ap (λ front. front.stage) i
 result_read false results read old new stage_is is = λ first history serves.
     same_stage first history (Telling results (read + 1)) new (ap (λ front. front.stage) is) serves.sized serves.parts (subst (λ stage. ServesAt stage first history old.adapter.controller) stage_is serves.now)
 
-byte_read : (stage : Stage) (old new : Front) → old.stage ≡ stage → new ≡ byte_given stage old → ServesUnless (gives_last stage) old new
+byte_read : (stage : FrontStage) (old new : Front) → old.stage ≡ stage → new ≡ byte_given stage old → ServesUnless (gives_last stage) old new
 byte_read Through old new stage_is is = λ first history serves. absurd (subst (λ stage. ServesAt stage first history old.adapter.controller) stage_is serves.now)
 byte_read (Collecting opcode) old new stage_is is = λ first history serves. absurd (subst (λ stage. ServesAt stage first history old.adapter.controller) stage_is serves.now)
 byte_read (Seeking at counted) old new stage_is is = λ first history serves. same_front first history old new is serves
@@ -549,14 +549,14 @@ reads_serve port old new is = by_port (port == 0x3F5) is
 
 -- ---- writes of a port
 
-byte_ignored : (stage : Stage) (byte : ℕ) (first : Transfer) (history : History) (old new : Front) → ServesAt stage first history old.adapter.controller → TakesByte stage byte old new → new ≡ old
+byte_ignored : (stage : FrontStage) (byte : ℕ) (first : Transfer) (history : History) (old new : Front) → ServesAt stage first history old.adapter.controller → TakesByte stage byte old new → new ≡ old
 byte_ignored Through byte first history old new now takes = absurd now
 byte_ignored (Collecting opcode) byte first history old new now takes = absurd now
 byte_ignored (Seeking at counted) byte first history old new now takes = takes
 byte_ignored (Moving moving) byte first history old new now takes = takes
 byte_ignored (Telling results read) byte first history old new now takes = takes
 
-other_port : (stage : Stage) (port value : ℕ) (first : Transfer) (history : History) (old new : Front) → old.stage ≡ stage → IsSizeCode first.key.n → AreMoved first.opcode.operation first history.parts
+other_port : (stage : FrontStage) (port value : ℕ) (first : Transfer) (history : History) (old new : Front) → old.stage ≡ stage → IsSizeCode first.key.n → AreMoved first.opcode.operation first history.parts
     → ServesAt stage first history old.adapter.controller → (port == 0x3F5) ≡ false → resets port value ≡ false → WritesAdapter port value old.adapter new.adapter → new.stage ≡ old.stage → GoesOn [] false first history history new
 other_port Through port value first history old new stage_is sized parts now no_byte no_reset writes same = absurd now
 other_port (Collecting opcode) port value first history old new stage_is sized parts now no_byte no_reset writes same = absurd now
@@ -609,7 +609,7 @@ begins_with opcode byte old new takes command first whole is =
     let collects : CollectsAs opcode (Ready command) (record old { bytes = [] }) new = subst (λ accepted. CollectsAs opcode accepted (record old { bytes = kept accepted bytes }) new) whole takes in
     starts_serve first (record old { bytes = [] }) new (first_sized (implies_seeks old) opcode command first (answer_sized bytes command whole) is) (subst (λ transfer. Starts transfer (record old { bytes = [] }) new) is collects)
 
-pub begins_at : (stage : Stage) (port byte : ℕ) (old new : Front) → old.stage ≡ stage → WritesFront port byte old new → port ≡ 0x3F5 → BeginsAt stage byte old new
+pub begins_at : (stage : FrontStage) (port byte : ℕ) (old new : Front) → old.stage ≡ stage → WritesFront port byte old new → port ≡ 0x3F5 → BeginsAt stage byte old new
 begins_at Through port byte old new stage_is writes here = tt
 begins_at (Collecting opcode) port byte old new stage_is writes here = begins_with opcode byte old new (subst (λ s. TakesByte s byte old new) stage_is (writes.bytes here))
 begins_at (Seeking at counted) port byte old new stage_is writes here = tt

@@ -9,11 +9,11 @@ use Rattle.fdc_commands.specs.declared.results.Results.{Results}
 use Rattle.fdc_core.specs.State.{is_gated}
 use Rattle.fdc_core.specs.declared.controller.Fdc.{Fdc}
 use Rattle.fdc_sequencer.specs.Fronts.{Front, after_reading, asks_at, asks_outside, byte_at, byte_given, interrupts_at, interrupts_outside, seeking_bit, status_at, value_outside}
-use Rattle.fdc_sequencer.specs.declared.stage.Stage.{Stage}
-use Rattle.fdc_sequencer.specs.declared.stage.Stage.TheVariants.{Through, Collecting, Seeking, Moving, Telling}
+use Rattle.fdc_sequencer.specs.declared.stage.FrontStage.{FrontStage}
+use Rattle.fdc_sequencer.specs.declared.stage.FrontStage.TheVariants.{Through, Collecting, Seeking, Moving, Telling}
 use Rattle.laws_sequencer.specs.Lasting.{is_under_way}
 
-busy_at : (stage : Stage) (fdc : Fdc) → is_under_way stage ≡ true → status_at stage fdc ≡ bit_or busy (seeking_bit stage)
+busy_at : (stage : FrontStage) (fdc : Fdc) → is_under_way stage ≡ true → status_at stage fdc ≡ bit_or busy (seeking_bit stage)
 busy_at Through fdc under = absurd (false≢true under)
 busy_at (Collecting opcode) fdc under = absurd (false≢true under)
 busy_at (Seeking at counted) fdc under = refl
@@ -24,7 +24,7 @@ pub shows_busy : (front : Front) → is_under_way front.stage ≡ true → value
 shows_busy front under = busy_at front.stage front.adapter.controller under
 
 -- no results wait
-asks_none : (stage : Stage) → (bit_and (bit_or busy (seeking_bit stage)) 0xC0 == 0xC0) ≡ false
+asks_none : (stage : FrontStage) → (bit_and (bit_or busy (seeking_bit stage)) 0xC0 == 0xC0) ≡ false
 asks_none Through = refl
 asks_none (Collecting opcode) = refl
 asks_none (Seeking at counted) = by_drive (at.head_drive % 4 == 0) (at.head_drive % 4 == 1) (at.head_drive % 4 == 2)
@@ -40,7 +40,7 @@ asks_none (Telling results read) = refl
 pub none_shown : (front : Front) → is_under_way front.stage ≡ true → (bit_and (value_outside 0x3F4 front) 0xC0 == 0xC0) ≡ false
 none_shown front under = ap (λ value. bit_and value 0xC0 == 0xC0) (shows_busy front under) ∙ asks_none front.stage
 
-silent_at : (stage : Stage) (fdc : Fdc) → is_under_way stage ≡ true → interrupts_at stage fdc ≡ false
+silent_at : (stage : FrontStage) (fdc : Fdc) → is_under_way stage ≡ true → interrupts_at stage fdc ≡ false
 silent_at Through fdc under = absurd (false≢true under)
 silent_at (Collecting opcode) fdc under = absurd (false≢true under)
 silent_at (Seeking at counted) fdc under = refl

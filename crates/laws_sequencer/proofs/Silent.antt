@@ -41,8 +41,8 @@ use Rattle.fdc_sequencer.specs.Moves.{EndsIf, EndsSector, FollowsStep, MovesOn, 
 use Rattle.fdc_sequencer.specs.declared.opcode.Operation.{Operation}
 use Rattle.fdc_sequencer.specs.declared.opcode.Operation.TheVariants.{Read, Write}
 use Rattle.fdc_sequencer.specs.declared.stage.Moving.{Moving as MovingSector}
-use Rattle.fdc_sequencer.specs.declared.stage.Stage.{Stage}
-use Rattle.fdc_sequencer.specs.declared.stage.Stage.TheVariants.{Through, Collecting, Seeking, Moving, Telling}
+use Rattle.fdc_sequencer.specs.declared.stage.FrontStage.{FrontStage}
+use Rattle.fdc_sequencer.specs.declared.stage.FrontStage.TheVariants.{Through, Collecting, Seeking, Moving, Telling}
 use Rattle.fdc_sequencer.specs.declared.transfer.Transfer.{Transfer}
 use Rattle.laws_sequencer.specs.Calls.{AreWithin, Call, Changes, Counts, Does, Gather, Gives, Grows, Reads, Steps, Straps, Takes, Writes, passed_by, passed_in_all}
 use Rattle.laws_sequencer.specs.Serving.{History, MayMove, Serves, ServesAt, history_counted, history_ended, history_given, history_moved, history_sought, history_stepped, history_taken, passed_in, passed_out}
@@ -256,7 +256,7 @@ step_muted old new steps busy was =
 -- ---- the front
 
 -- the terminal count came, and no byte is asked for
-abbrev IsSilentAt : Stage → Fdc → Type 0
+abbrev IsSilentAt : FrontStage → Fdc → Type 0
 IsSilentAt (Seeking at counted) fdc = counted ≡ true
 IsSilentAt (Moving moving) fdc = (moving.counted ≡ true) × Muted fdc
 IsSilentAt _ fdc = Unit {0}
@@ -267,7 +267,7 @@ IsSilent front = IsSilentAt front.stage front.adapter.controller
 goes_counted : (moving : MovingSector) (marked : Bool) → moving.counted ≡ true → goes_on moving marked ≡ false
 goes_counted moving marked counted = none_and _ _ (none_and (not moving.counted) _ (ap not counted))
 
-silent_telling : (stage : Stage) (new : Front) → new.stage ≡ stage → IsSilentAt stage new.adapter.controller → IsSilent new
+silent_telling : (stage : FrontStage) (new : Front) → new.stage ≡ stage → IsSilentAt stage new.adapter.controller → IsSilent new
 silent_telling stage new is silent = subst (λ s. IsSilentAt s new.adapter.controller) (sym is) silent
 
 -- after a device step of a sector no further sector begins
@@ -322,12 +322,12 @@ served_busy first history moving new serves is =
 same_silent : (call : Call) (history : History) (old new : Front) → passed_by call ≡ [] → new ≡ old → IsSilent old → StaysSilent call history history new
 same_silent call history old new none is was = record { silent = subst IsSilent (sym is) was; parts = refl; none = none }
 
-stage_silent : (stage : Stage) (new : Front) → new.stage ≡ stage → IsSilentAt stage new.adapter.controller → IsSilent new
+stage_silent : (stage : FrontStage) (new : Front) → new.stage ≡ stage → IsSilentAt stage new.adapter.controller → IsSilent new
 stage_silent stage new is silent = subst (λ s. IsSilentAt s new.adapter.controller) (sym is) silent
 
 module _ (first : Transfer) (served history : History) where
   -- where the next front is served too
-  silent_step : (stage : Stage) (time : WordTime) (old : Front) (between : AdapterState) (new : Front) → old.stage ≡ stage → ServesAt stage first served old.adapter.controller → IsSilentAt stage old.adapter.controller
+  silent_step : (stage : FrontStage) (time : WordTime) (old : Front) (between : AdapterState) (new : Front) → old.stage ≡ stage → ServesAt stage first served old.adapter.controller → IsSilentAt stage old.adapter.controller
       → StepsAdapter old.adapter between → FollowsStep (mark_of old.adapter.controller) stage (record old { adapter = between }) new → (then_served : History) → Serves first then_served new → (new.stage ≡ Through → ⊥)
       → GoesSilent history (history_stepped stage time between.controller history) new
   silent_step Through time old between new is now was steps follows then_served serves stays = absurd now
@@ -350,7 +350,7 @@ module _ (first : Transfer) (served history : History) where
       by_sought false does = record { silent = stage_silent (Seeking at counted) new (ap (λ f. f.stage) does ∙ is) was; parts = refl }
       by_sought true begins = record { silent = by_busy (is_executing begins.between.controller.phase) begins.between _ begins.begun; parts = refl }
 
-  silent_take : (stage : Stage) (byte : Option ℕ) (old new : Front) → ServesAt stage first served old.adapter.controller → IsSilentAt stage old.adapter.controller → IsSilent old → TakesAt stage old byte new
+  silent_take : (stage : FrontStage) (byte : Option ℕ) (old new : Front) → ServesAt stage first served old.adapter.controller → IsSilentAt stage old.adapter.controller → IsSilent old → TakesAt stage old byte new
       → StaysSilent (Takes byte) history (history_taken stage byte history) new
   silent_take Through byte old new now was silent takes = absurd now
   silent_take (Collecting opcode) byte old new now was silent takes = absurd now
@@ -362,7 +362,7 @@ module _ (first : Transfer) (served history : History) where
       let (some, asked) = and_parts (nat_lt 0 moving.left) (asks fdc && to_memory_of fdc) up in
       clash fdc.asking (muted_asks fdc.phase fdc.asking fdc.fifo.bytes carries.busy muted) (and_parts (is_gated fdc) fdc.asking (and_parts (asks fdc) (to_memory_of fdc) asked).0).1
 
-  silent_give : (stage : Stage) (byte : ℕ) (given : Bool) (old new : Front) → ServesAt stage first served old.adapter.controller → IsSilentAt stage old.adapter.controller → IsSilent old → GivesAt stage byte old given new
+  silent_give : (stage : FrontStage) (byte : ℕ) (given : Bool) (old new : Front) → ServesAt stage first served old.adapter.controller → IsSilentAt stage old.adapter.controller → IsSilent old → GivesAt stage byte old given new
       → StaysSilent (Gives byte given) history (history_given stage byte given history) new
   silent_give Through byte given old new now was silent gives = absurd now
   silent_give (Collecting opcode) byte given old new now was silent gives = absurd now
@@ -375,7 +375,7 @@ module _ (first : Transfer) (served history : History) where
       clash fdc.asking (muted_asks fdc.phase fdc.asking fdc.fifo.bytes carries.busy muted) (and_parts (is_gated fdc) fdc.asking (and_parts (asks fdc) (not (to_memory_of fdc)) asked).0).1
 
   -- the terminal count comes again, or for the first time
-  silent_count : (stage : Stage) (old new : Front) → old.stage ≡ stage → ServesAt stage first served old.adapter.controller → new ≡ count_told stage old → StaysSilent Counts history (history_counted stage history) new
+  silent_count : (stage : FrontStage) (old new : Front) → old.stage ≡ stage → ServesAt stage first served old.adapter.controller → new ≡ count_told stage old → StaysSilent Counts history (history_counted stage history) new
   silent_count Through old new here_is now is = absurd now
   silent_count (Collecting opcode) old new here_is now is = absurd now
   silent_count (Telling results read) old new here_is now is =
@@ -392,7 +392,7 @@ module _ (first : Transfer) (served history : History) where
   silent_result true results read port old new stays is = absurd (stays (ap (λ f. f.stage) is))
   silent_result false results read port old new stays is = record { silent = stage_silent (Telling results (read + 1)) new (ap (λ f. f.stage) is) tt; parts = refl; none = refl }
 
-  silent_read : (stage : Stage) (b : Bool) (port : ℕ) (old new : Front) → ServesAt stage first served old.adapter.controller → IsSilent old → (new.stage ≡ Through → ⊥) → new ≡ (if b then byte_given stage old else old)
+  silent_read : (stage : FrontStage) (b : Bool) (port : ℕ) (old new : Front) → ServesAt stage first served old.adapter.controller → IsSilent old → (new.stage ≡ Through → ⊥) → new ≡ (if b then byte_given stage old else old)
       → StaysSilent (Reads port) history history new
   silent_read stage false port old new now was stays is = same_silent (Reads port) history old new refl is was
   silent_read Through true port old new now was stays is = absurd now
@@ -402,7 +402,7 @@ module _ (first : Transfer) (served history : History) where
   silent_read (Telling results read) true port old new now was stays is = silent_result (nat_le 6 read) results read port old new stays is
 
   -- the stage stays, and what the controller executes stays silent
-  silent_kept : (stage : Stage) (call : Call) (old new : Front) → passed_by call ≡ [] → IsSilentAt stage old.adapter.controller → new.stage ≡ stage
+  silent_kept : (stage : FrontStage) (call : Call) (old new : Front) → passed_by call ≡ [] → IsSilentAt stage old.adapter.controller → new.stage ≡ stage
       → (Muted old.adapter.controller → Muted new.adapter.controller) → StaysSilent call history history new
   silent_kept Through call old new none was is same = record { silent = stage_silent Through new is tt; parts = refl; none = none }
   silent_kept (Collecting opcode) call old new none was is same = record { silent = stage_silent (Collecting opcode) new is tt; parts = refl; none = none }
@@ -410,7 +410,7 @@ module _ (first : Transfer) (served history : History) where
   silent_kept (Seeking at counted) call old new none was is same = record { silent = stage_silent (Seeking at counted) new is was; parts = refl; none = none }
   silent_kept (Moving moving) call old new none (counted, muted) is same = record { silent = stage_silent (Moving moving) new is (counted, same muted); parts = refl; none = none }
 
-  silent_ignored : (stage : Stage) (byte : ℕ) (old new : Front) → ServesAt stage first served old.adapter.controller → TakesByte stage byte old new → new ≡ old
+  silent_ignored : (stage : FrontStage) (byte : ℕ) (old new : Front) → ServesAt stage first served old.adapter.controller → TakesByte stage byte old new → new ≡ old
   silent_ignored Through byte old new now takes = absurd now
   silent_ignored (Collecting opcode) byte old new now takes = absurd now
   silent_ignored (Seeking at counted) byte old new now takes = takes

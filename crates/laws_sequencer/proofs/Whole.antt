@@ -5,7 +5,7 @@ use Rattle.fdc_sequencer.specs.Fronts.{Front, WritesFront}
 use Rattle.laws_sequencer.specs.Serving.{BeginsAt, Serves, all_bytes, nothing_moved}
 use Rattle.fdc_sequencer.specs.declared.opcode.Operation.{Operation}
 use Rattle.fdc_sequencer.specs.declared.opcode.Operation.TheVariants.{Read, Write}
-use Rattle.fdc_sequencer.specs.declared.stage.Stage.TheVariants.{Through, Telling}
+use Rattle.fdc_sequencer.specs.declared.stage.FrontStage.TheVariants.{Through, Telling}
 use Rattle.fdc_sequencer.specs.declared.transfer.Transfer.{Transfer}
 use Rattle.fdc_commands.specs.declared.results.Results.{Results}
 use Rattle.laws_sequencer.proofs.Called.{calls_serve}

@@ -14,8 +14,8 @@ use Rattle.fdc_core.specs.declared.controller.Fdc.{Fdc}
 use Rattle.fdc_sequencer.specs.Fronts.{Front}
 use Rattle.fdc_sequencer.specs.Moves.{goes_on, is_unwanted, judged_if}
 use Rattle.fdc_sequencer.specs.declared.stage.Moving.{Moving as MovingSector}
-use Rattle.fdc_sequencer.specs.declared.stage.Stage.{Stage}
-use Rattle.fdc_sequencer.specs.declared.stage.Stage.TheVariants.{Through, Collecting, Seeking, Moving, Telling}
+use Rattle.fdc_sequencer.specs.declared.stage.FrontStage.{FrontStage}
+use Rattle.fdc_sequencer.specs.declared.stage.FrontStage.TheVariants.{Through, Collecting, Seeking, Moving, Telling}
 use Rattle.fdc_sequencer.specs.declared.transfer.Transfer.{Transfer}
 use Rattle.laws_sequencer.specs.Calls.{AreWithin, Call, Changes, Counts, Does, Gather, Gives, Grows, Reads, Steps, Straps, Takes, Writes}
 use Rattle.laws_sequencer.specs.Media.{Place}
@@ -95,7 +95,7 @@ moved_alike (Some NoCount) moving mark past now one other same was = with_past o
 moved_alike (Some Protected) moving mark past now one other same was = with_past one other past now was same
 moved_alike (Some Late) moving mark past now one other same was = with_past one other past now was same
 
-stepped_alike : (stage : Stage) (time again : WordTime) (fdc : Fdc) (one other : History) → IsAlike one other → IsAlike (history_stepped stage time fdc one) (history_stepped stage again fdc other)
+stepped_alike : (stage : FrontStage) (time again : WordTime) (fdc : Fdc) (one other : History) → IsAlike one other → IsAlike (history_stepped stage time fdc one) (history_stepped stage again fdc other)
 stepped_alike Through time again fdc one other was = was
 stepped_alike (Collecting opcode) time again fdc one other was = was
 stepped_alike (Seeking at counted) time again fdc one other was = sought_alike (has_ended_seek fdc.seeks) counted one other was
@@ -103,7 +103,7 @@ stepped_alike (Telling results read) time again fdc one other was = was
 stepped_alike (Moving moving) time again fdc one other was =
     moved_alike (judged_if moving (ending_told fdc)) moving (mark_of fdc) (after_time time one.past) (after_time again other.past) one other (time_same time again one.past other.past was.past) was
 
-taken_alike : (stage : Stage) (byte : Option ℕ) (one other : History) → IsAlike one other → IsAlike (history_taken stage byte one) (history_taken stage byte other)
+taken_alike : (stage : FrontStage) (byte : Option ℕ) (one other : History) → IsAlike one other → IsAlike (history_taken stage byte one) (history_taken stage byte other)
 taken_alike Through byte one other was = was
 taken_alike (Collecting opcode) byte one other was = was
 taken_alike (Seeking at counted) byte one other was = was
@@ -113,7 +113,7 @@ taken_alike (Moving moving) (Some byte) one other was =
     let last = moving.left - 1 == 0 in
     with_past one other (told_in last (gave byte one.past)) (told_in last (gave byte other.past)) was (told_same last (gave byte one.past) (gave byte other.past) was.past)
 
-given_alike : (stage : Stage) (byte : ℕ) (given : Bool) (one other : History) → IsAlike one other → IsAlike (history_given stage byte given one) (history_given stage byte given other)
+given_alike : (stage : FrontStage) (byte : ℕ) (given : Bool) (one other : History) → IsAlike one other → IsAlike (history_given stage byte given one) (history_given stage byte given other)
 given_alike Through byte given one other was = was
 given_alike (Collecting opcode) byte given one other was = was
 given_alike (Seeking at counted) byte given one other was = was
@@ -124,7 +124,7 @@ given_alike (Moving moving) byte true one other was =
     with_past one other (told_in last (took byte one.past)) (told_in last (took byte other.past)) was
     (told_same last (took byte one.past) (took byte other.past) (ap (λ bytes. bytes ++ byte ∷ []) was.past.0, was.past.1))
 
-counted_alike : (stage : Stage) (one other : History) → IsAlike one other → IsAlike (history_counted stage one) (history_counted stage other)
+counted_alike : (stage : FrontStage) (one other : History) → IsAlike one other → IsAlike (history_counted stage one) (history_counted stage other)
 counted_alike Through one other was = was
 counted_alike (Collecting opcode) one other was = was
 counted_alike (Seeking at counted) one other was = record { parts = was.parts; past = was.past }

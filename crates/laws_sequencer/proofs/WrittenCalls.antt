@@ -28,8 +28,8 @@ use Rattle.fdc_sequencer.specs.Fronts.{CollectsAs, Front, GivesAt, SeeksFirst, S
 use Rattle.fdc_sequencer.specs.Transfers.{results_told}
 use Rattle.fdc_sequencer.specs.declared.opcode.Operation.TheVariants.{Write}
 use Rattle.fdc_sequencer.specs.declared.stage.Moving.{Moving as MovingSector}
-use Rattle.fdc_sequencer.specs.declared.stage.Stage.{Stage}
-use Rattle.fdc_sequencer.specs.declared.stage.Stage.TheVariants.{Through, Collecting, Seeking, Moving, Telling}
+use Rattle.fdc_sequencer.specs.declared.stage.FrontStage.{FrontStage}
+use Rattle.fdc_sequencer.specs.declared.stage.FrontStage.TheVariants.{Through, Collecting, Seeking, Moving, Telling}
 use Rattle.fdc_sequencer.specs.declared.transfer.Transfer.{Transfer}
 use Rattle.laws_sequencer.specs.Calls.{AreWithin, Call, Changes, Counts, Does, Gather, Gives, IsLastByte, Reads, Steps, Straps, Takes, Writes}
 use Rattle.laws_sequencer.specs.Media.{Place}
@@ -145,7 +145,7 @@ module _ (place : Place) (deleted : Bool) (first : Transfer) (writes : first.opc
   abbrev IsNow : History → Front → Type 0
   IsNow history front = NowWritten front.stage place deleted first history front.adapter
 
-  same_now : (stage : Stage) (history : History) (old new : Front) → old.stage ≡ stage → new ≡ old → NowWritten stage place deleted first history old.adapter → IsNow history new
+  same_now : (stage : FrontStage) (history : History) (old new : Front) → old.stage ≡ stage → new ≡ old → NowWritten stage place deleted first history old.adapter → IsNow history new
   same_now stage history old new stage_is is now =
       subst (λ front. IsNow history front) (sym is) (subst (λ s. NowWritten s place deleted first history old.adapter) (sym stage_is) now)
 
@@ -164,7 +164,7 @@ module _ (place : Place) (deleted : Bool) (first : Transfer) (writes : first.opc
         },
       )
 
-  take_now : (stage : Stage) (byte : Option ℕ) (history : History) (old new : Front) → old.stage ≡ stage → NowWritten stage place deleted first history old.adapter → TakesAt stage old byte new
+  take_now : (stage : FrontStage) (byte : Option ℕ) (history : History) (old new : Front) → old.stage ≡ stage → NowWritten stage place deleted first history old.adapter → TakesAt stage old byte new
       → IsNow (history_taken stage byte history) new
   take_now Through byte history old new stage_is now takes = absurd now
   take_now (Collecting opcode) byte history old new stage_is now takes = absurd now
@@ -176,7 +176,7 @@ module _ (place : Place) (deleted : Bool) (first : Transfer) (writes : first.opc
       one_now history moving (gave byte past) (taken_out old.adapter.controller) old new under here
       (sector_moves place (here_of first history) under.disk past true (drive_at old.adapter place.bay) (past.given ++ byte ∷ []) past.taken past.counted under.sector) is
 
-  give_now : (stage : Stage) (byte : ℕ) (given : Bool) (history : History) (old new : Front) → old.stage ≡ stage → NowWritten stage place deleted first history old.adapter → GivesAt stage byte old given new
+  give_now : (stage : FrontStage) (byte : ℕ) (given : Bool) (history : History) (old new : Front) → old.stage ≡ stage → NowWritten stage place deleted first history old.adapter → GivesAt stage byte old given new
       → IsNow (history_given stage byte given history) new
   give_now Through byte given history old new stage_is now gives = absurd now
   give_now (Collecting opcode) byte given history old new stage_is now gives = absurd now
@@ -188,7 +188,7 @@ module _ (place : Place) (deleted : Bool) (first : Transfer) (writes : first.opc
       one_now history moving (took byte past) (taken_in byte old.adapter.controller) old new under here
       (sector_moves place (here_of first history) under.disk past true (drive_at old.adapter place.bay) past.given (past.taken ++ byte ∷ []) past.counted under.sector) is
 
-  count_now : (stage : Stage) (history : History) (old new : Front) → old.stage ≡ stage → NowWritten stage place deleted first history old.adapter → new ≡ count_told stage old → IsNow (history_counted stage history) new
+  count_now : (stage : FrontStage) (history : History) (old new : Front) → old.stage ≡ stage → NowWritten stage place deleted first history old.adapter → new ≡ count_told stage old → IsNow (history_counted stage history) new
   count_now Through history old new stage_is now is = absurd now
   count_now (Collecting opcode) history old new stage_is now is = absurd now
   count_now (Seeking at counted) history old new stage_is (here, none, rests) is = subst (λ front. IsNow (record history { counted = true }) front) (sym is) (here, none, rests)
@@ -206,7 +206,7 @@ module _ (place : Place) (deleted : Bool) (first : Transfer) (writes : first.opc
 
   -- ---- ports and media
 
-  read_now : (stage : Stage) (b : Bool) (history : History) (old new : Front) → old.stage ≡ stage → NowWritten stage place deleted first history old.adapter → (new.stage ≡ Through → ⊥)
+  read_now : (stage : FrontStage) (b : Bool) (history : History) (old new : Front) → old.stage ≡ stage → NowWritten stage place deleted first history old.adapter → (new.stage ≡ Through → ⊥)
       → new ≡ (if b then byte_given stage old else old) → IsNow history new
   read_now stage false history old new stage_is now stays is = same_now stage history old new stage_is is now
   read_now Through true history old new stage_is now stays is = absurd now
@@ -220,7 +220,7 @@ module _ (place : Place) (deleted : Bool) (first : Transfer) (writes : first.opc
       by_last false is = subst (λ front. IsNow history front) (sym is) over
 
   -- the stage stays, and the drive stays where it is. It stays at speed while a sector is moved
-  put_now : (stage : Stage) (history : History) (old new : Front) → NowWritten stage place deleted first history old.adapter → new.stage ≡ stage → IsOverCylinderWhile new.stage place new
+  put_now : (stage : FrontStage) (history : History) (old new : Front) → NowWritten stage place deleted first history old.adapter → new.stage ≡ stage → IsOverCylinderWhile new.stage place new
       → StaysPut (drive_at old.adapter place.bay) (drive_at new.adapter place.bay)
       → ((moving : MovingSector) → stage ≡ Moving moving → (drive_at new.adapter place.bay).motor ≡ true → KeepsSpeed (drive_at old.adapter place.bay) (drive_at new.adapter place.bay))
       → (is_executing old.adapter.controller.phase ≡ false → is_executing new.adapter.controller.phase ≡ false) → IsNow history new
@@ -240,7 +240,7 @@ module _ (place : Place) (deleted : Bool) (first : Transfer) (writes : first.opc
         sector = sector_stays place (here_of first history) under.disk history.past (drive_at old.adapter place.bay) new under.like over puts (keeps moving refl over.motor) under.sector;
       })
 
-  ignored : (stage : Stage) (byte : ℕ) (history : History) (old new : Front) → NowWritten stage place deleted first history old.adapter → TakesByte stage byte old new → new ≡ old
+  ignored : (stage : FrontStage) (byte : ℕ) (history : History) (old new : Front) → NowWritten stage place deleted first history old.adapter → TakesByte stage byte old new → new ≡ old
   ignored Through byte history old new now takes = absurd now
   ignored (Collecting opcode) byte history old new now takes = absurd now
   ignored (Seeking at counted) byte history old new now takes = takes

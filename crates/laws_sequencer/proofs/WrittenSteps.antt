@@ -30,8 +30,8 @@ use Rattle.fdc_sequencer.specs.Transfers.{is_other, is_skipping, next_of, size_o
 use Rattle.fdc_sequencer.specs.declared.opcode.Operation.{Operation}
 use Rattle.fdc_sequencer.specs.declared.opcode.Operation.TheVariants.{Write}
 use Rattle.fdc_sequencer.specs.declared.stage.Moving.{Moving as MovingSector}
-use Rattle.fdc_sequencer.specs.declared.stage.Stage.{Stage}
-use Rattle.fdc_sequencer.specs.declared.stage.Stage.TheVariants.{Through, Collecting, Seeking, Moving, Telling}
+use Rattle.fdc_sequencer.specs.declared.stage.FrontStage.{FrontStage}
+use Rattle.fdc_sequencer.specs.declared.stage.FrontStage.TheVariants.{Through, Collecting, Seeking, Moving, Telling}
 use Rattle.fdc_sequencer.specs.declared.transfer.Transfer.{Transfer}
 use Rattle.laws_sequencer.specs.Calls.{Call, Does, Grows, Steps}
 use Rattle.laws_sequencer.specs.Media.{IsClean, Place}
@@ -70,7 +70,7 @@ pub record IsOver (place : Place) (deleted : Bool) (first : Transfer) (history :
   pub left : HasLeft place deleted (here_of first history) history.past disk now
   pub rests : IsResting place now adapter
 
-abbrev pub NowWritten : Stage → Place → Bool → Transfer → History → AdapterState → Type 0
+abbrev pub NowWritten : FrontStage → Place → Bool → Transfer → History → AdapterState → Type 0
 NowWritten (Seeking at counted) place deleted first history adapter = (at ≡ first) × (history.parts ≡ []) × IsResting place place.disk adapter
 NowWritten (Moving moving) place deleted first history adapter = (moving.transfer ≡ here_of first history) × IsUnderway place deleted first history adapter
 NowWritten (Telling results read) place deleted first history adapter = IsOver place deleted first history adapter
@@ -339,7 +339,7 @@ module _ (place : Place) (deleted : Bool) (first : Transfer) (writes : first.opc
   pub over_rests : (history : History) (old new : AdapterState) (over : IsOver place deleted first history old) → IsResting place over.now new → IsOver place deleted first history new
   over_rests history old new over rests = record { disk = over.disk; now = over.now; parts = over.parts; left = over.left; rests = rests }
 
-  pub step_writes : (stage : Stage) (history : History) (old new : Front) (step : StepsFront old new) → old.stage ≡ stage → Serves first history old → NowWritten stage place deleted first history old.adapter
+  pub step_writes : (stage : FrontStage) (history : History) (old new : Front) (step : StepsFront old new) → old.stage ≡ stage → Serves first history old → NowWritten stage place deleted first history old.adapter
       → IsOverCylinderWhile stage place old → (new.stage ≡ Through → ⊥) → IsOverCylinderWhile new.stage place new → OneWritten place deleted first Steps history old new step
   step_writes Through history old new step stage_is serves now placed stays at = absurd now
   step_writes (Collecting opcode) history old new step stage_is serves now placed stays at = absurd now

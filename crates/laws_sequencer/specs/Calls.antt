@@ -13,8 +13,8 @@ use Rattle.laws_sequencer.specs.Outcomes.{PassesOfSector, ResultsSay}
 use Rattle.laws_sequencer.specs.Serving.{AreMoved, History, Passes, Serves, all_bytes, hears_count, history_counted, history_given, history_stepped, history_taken, nothing_moved, passed_in, passed_out}
 use Rattle.fdc_sequencer.specs.Transfers.{transfer_of}
 use Rattle.fdc_sequencer.specs.declared.opcode.Opcode.{Opcode}
-use Rattle.fdc_sequencer.specs.declared.stage.Stage.{Stage}
-use Rattle.fdc_sequencer.specs.declared.stage.Stage.TheVariants.{Through, Collecting}
+use Rattle.fdc_sequencer.specs.declared.stage.FrontStage.{FrontStage}
+use Rattle.fdc_sequencer.specs.declared.stage.FrontStage.TheVariants.{Through, Collecting}
 use Rattle.fdc_sequencer.specs.declared.transfer.Transfer.{Transfer}
 
 -- one call, which does one of these things:
@@ -61,7 +61,7 @@ is_count Counts = true
 is_count _ = false
 
 -- while the bytes of a command come, the controller takes commands, and no command has begun there
-abbrev pub WaitsAt : Stage → Fdc → Type 0
+abbrev pub WaitsAt : FrontStage → Fdc → Type 0
 WaitsAt (Collecting _) fdc = is_idle fdc ≡ true
 WaitsAt _ fdc = Unit {0}
 

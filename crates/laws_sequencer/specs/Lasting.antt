@@ -4,8 +4,8 @@ use Rattle.fdc_commands.specs.declared.results.Results.{Results}
 use Rattle.fdc_sequencer.specs.Fronts.{Front}
 pub use Rattle.fdc_sequencer.specs.Ranges.{HasByteRecords, HasByteNumbers}
 use Rattle.fdc_sequencer.specs.Transfers.{is_last, is_second_head}
-use Rattle.fdc_sequencer.specs.declared.stage.Stage.{Stage}
-use Rattle.fdc_sequencer.specs.declared.stage.Stage.TheVariants.{Seeking, Moving, Telling}
+use Rattle.fdc_sequencer.specs.declared.stage.FrontStage.{FrontStage}
+use Rattle.fdc_sequencer.specs.declared.stage.FrontStage.TheVariants.{Seeking, Moving, Telling}
 use Rattle.fdc_sequencer.specs.declared.transfer.Transfer.{Transfer}
 use Rattle.laws_sequencer.specs.Calls.{Call, Steps}
 
@@ -30,7 +30,7 @@ HasRecords at = is_last at ≡ false → HasByteRecords at
 -- ---- device steps
 
 -- the heads seek, or a sector is moved
-abbrev pub is_under_way : Stage → Bool
+abbrev pub is_under_way : FrontStage → Bool
 is_under_way (Seeking _ _) = true
 is_under_way (Moving _) = true
 is_under_way _ = false

@@ -14,8 +14,8 @@ use Rattle.fdc_adapter.specs.Adapters.{drive_at, selected_at}
 use Rattle.fdc_sequencer.specs.Fronts.{Front}
 use Rattle.fdc_sequencer.specs.Transfers.{is_other, is_skipping}
 use Rattle.fdc_sequencer.specs.declared.opcode.Operation.{Operation}
-use Rattle.fdc_sequencer.specs.declared.stage.Stage.{Stage}
-use Rattle.fdc_sequencer.specs.declared.stage.Stage.TheVariants.{Moving, Telling}
+use Rattle.fdc_sequencer.specs.declared.stage.FrontStage.{FrontStage}
+use Rattle.fdc_sequencer.specs.declared.stage.FrontStage.TheVariants.{Moving, Telling}
 use Rattle.fdc_sequencer.specs.declared.transfer.Transfer.{Transfer}
 use Rattle.laws_sequencer.specs.Calls.{AreWithin, Call, Changes}
 use Rattle.fdc_stages.specs.Findings.{FindsBadCheck, FindsNoField, FindsNoMark, FindsNoSector, FindsSector}
@@ -62,7 +62,7 @@ pub record IsAt (place : Place) (front : Front) : Type 0 where
   pub clean : IsClean place front
 
 -- this holds while a sector is moved. Once results are given, no word of the last sector was lost
-abbrev pub IsAtWhile : Stage → Place → Front → Type 0
+abbrev pub IsAtWhile : FrontStage → Place → Front → Type 0
 IsAtWhile (Moving moving) place front = IsAt place front
 IsAtWhile (Telling results read) place front = IsClean place front
 IsAtWhile _ place front = Unit {0}
@@ -74,7 +74,7 @@ pub record TurnsOn (old new : DriveState) : Type 0 where
   pub keeps_speed : 6250 ≤ old.spin → 6250 ≤ new.spin
 
 -- the medium turns on where another one is put in or taken out while a sector is moved
-abbrev pub TurnsOnIn : Stage → Call → DriveState → DriveState → Type 0
+abbrev pub TurnsOnIn : FrontStage → Call → DriveState → DriveState → Type 0
 TurnsOnIn (Moving moving) Changes old new = TurnsOn old new
 TurnsOnIn _ _ old new = Unit {0}
 

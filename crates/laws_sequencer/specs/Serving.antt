@@ -36,8 +36,8 @@ use Rattle.fdc_sequencer.specs.declared.opcode.Opcode.{Opcode}
 use Rattle.fdc_sequencer.specs.declared.opcode.Operation.{Operation}
 use Rattle.fdc_sequencer.specs.declared.opcode.Operation.TheVariants.{Read, Write}
 use Rattle.fdc_sequencer.specs.declared.stage.Moving.{Moving as MovingSector}
-use Rattle.fdc_sequencer.specs.declared.stage.Stage.{Stage}
-use Rattle.fdc_sequencer.specs.declared.stage.Stage.TheVariants.{Through, Collecting, Seeking, Moving, Telling}
+use Rattle.fdc_sequencer.specs.declared.stage.FrontStage.{FrontStage}
+use Rattle.fdc_sequencer.specs.declared.stage.FrontStage.TheVariants.{Through, Collecting, Seeking, Moving, Telling}
 use Rattle.fdc_sequencer.specs.declared.transfer.Transfer.{Transfer}
 
 -- ---- the controller's own command for a sector
@@ -241,7 +241,7 @@ all_bytes operation history = bytes_of_parts operation history.parts ++ bytes_mo
 
 -- while the heads seek nothing has passed. After that the sectors that are over were moved. The one after them is under
 -- way, or the command ended there
-abbrev pub ServesAt : Stage → Transfer → History → Fdc → Type 0
+abbrev pub ServesAt : FrontStage → Transfer → History → Fdc → Type 0
 ServesAt (Seeking at counted) first history fdc = (at ≡ first) × (history ≡ nothing_moved counted)
 ServesAt (Moving moving) first history fdc =
     (moving.transfer ≡ sector_after (length history.parts) first) × (moving.counted ≡ history.counted)
@@ -285,7 +285,7 @@ IsTimeOf (Read _ _) time = ⊥
 IsTimeOf (Write _) time = Unit {0}
 
 -- while a sector is moved, the word time passes under the sector's head
-abbrev pub Passes : Stage → WordTime → AdapterState → AdapterState → Type 0
+abbrev pub Passes : FrontStage → WordTime → AdapterState → AdapterState → Type 0
 Passes (Moving moving) time old new =
     IsTimeOf moving.transfer.opcode.operation time × PassesAt (selected_at old) (head_of moving.transfer.head_drive) time old new
 Passes _ time old new = Unit {0}
@@ -309,7 +309,7 @@ history_sought true counted old = record old { past = told_in counted new_past }
 history_sought false counted old = old
 
 -- the history after a device step in which this passed, and which left the controller in this state
-abbrev pub history_stepped : Stage → WordTime → Fdc → History → History
+abbrev pub history_stepped : FrontStage → WordTime → Fdc → History → History
 history_stepped (Seeking at counted) time fdc old = history_sought (has_ended_seek fdc.seeks) counted old
 history_stepped (Moving moving) time fdc old =
     history_moved (judged_if moving (ending_told fdc)) moving (mark_of fdc) (after_time time old.past) old
@@ -319,16 +319,16 @@ history_stepped _ time fdc old = old
 abbrev pub history_passed : MovingSector → Past → History → History
 history_passed moving past old = record old { past = told_in (moving.left - 1 == 0) past }
 
-abbrev pub history_taken : Stage → Option ℕ → History → History
+abbrev pub history_taken : FrontStage → Option ℕ → History → History
 history_taken (Moving moving) (Some byte) old = history_passed moving (gave byte old.past) old
 history_taken _ _ old = old
 
-abbrev pub history_given : Stage → ℕ → Bool → History → History
+abbrev pub history_given : FrontStage → ℕ → Bool → History → History
 history_given (Moving moving) byte true old = history_passed moving (took byte old.past) old
 history_given _ _ _ old = old
 
 -- the history after the terminal count, if it is heard
-abbrev pub history_counted : Stage → History → History
+abbrev pub history_counted : FrontStage → History → History
 history_counted (Seeking _ _) old = record old { counted = true }
 history_counted (Moving _) old = record old { past = told_in true old.past; counted = true }
 history_counted _ old = old
@@ -348,7 +348,7 @@ KeepsServing passed grown old new =
     (first : Transfer) (history : History) → Serves first history old → GoesOn passed false first history (grown history) new
 
 -- the terminal count is heard until results are given
-abbrev pub hears_count : Stage → Bool
+abbrev pub hears_count : FrontStage → Bool
 hears_count (Seeking _ _) = true
 hears_count (Moving _) = true
 hears_count _ = false
@@ -365,7 +365,7 @@ pub record IsRefused (front : Front) : Type 0 where
   pub answer_is : front.adapter.controller.phase ≡ Result (Short 0x80 None)
 
 -- the heads seek, before the first sector
-abbrev pub still_seeks : Stage → Bool
+abbrev pub still_seeks : FrontStage → Bool
 still_seeks (Seeking _ _) = true
 still_seeks _ = false
 
@@ -386,7 +386,7 @@ abbrev pub ServesStep : (old new : Front) → StepsFront old new → Type 0
 ServesStep old new step = (first : Transfer) (history : History) → Serves first history old → StepsTo first history old step.between new ⊎ RefusesFirst old new
 
 -- the next result byte is the seventh
-abbrev pub gives_last : Stage → Bool
+abbrev pub gives_last : FrontStage → Bool
 gives_last (Telling _ read) = nat_le 6 read
 gives_last _ = false
 
@@ -415,6 +415,6 @@ BeginsWith opcode byte old new =
     (command : Command) (first : Transfer) → answer (old.bytes ++ byte ∷ []) ≡ Ready command → transfer_of (implies_seeks old) opcode command ≡ Some first
     → Serves first (nothing_moved false) new ⊎ IsLeft old new
 
-abbrev pub BeginsAt : Stage → ℕ → Front → Front → Type 0
+abbrev pub BeginsAt : FrontStage → ℕ → Front → Front → Type 0
 BeginsAt (Collecting opcode) byte old new = BeginsWith opcode byte old new
 BeginsAt _ byte old new = Unit {0}

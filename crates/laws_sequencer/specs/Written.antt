@@ -13,8 +13,8 @@ use Rattle.fdc_phases.specs.Rates.{rate_fits}
 use Rattle.fdc_phases.specs.Written.{IsContent}
 use Rattle.fdc_adapter.specs.Adapters.{drive_at, selected_at}
 use Rattle.fdc_sequencer.specs.Fronts.{Front}
-use Rattle.fdc_sequencer.specs.declared.stage.Stage.{Stage}
-use Rattle.fdc_sequencer.specs.declared.stage.Stage.TheVariants.{Moving, Telling}
+use Rattle.fdc_sequencer.specs.declared.stage.FrontStage.{FrontStage}
+use Rattle.fdc_sequencer.specs.declared.stage.FrontStage.TheVariants.{Moving, Telling}
 use Rattle.fdc_sequencer.specs.declared.transfer.Transfer.{Transfer}
 use Rattle.laws_sequencer.specs.Calls.{AreWithin, Call, Changes}
 use Rattle.laws_sequencer.specs.Media.{IsClean, Place}
@@ -35,7 +35,7 @@ pub record IsOverCylinder (place : Place) (front : Front) : Type 0 where
   pub clean : IsClean place front
 
 -- this holds while a sector is moved. Once results are given, no word of the last sector was lost
-abbrev pub IsOverCylinderWhile : Stage → Place → Front → Type 0
+abbrev pub IsOverCylinderWhile : FrontStage → Place → Front → Type 0
 IsOverCylinderWhile (Moving moving) place front = IsOverCylinder place front
 IsOverCylinderWhile (Telling results read) place front = IsClean place front
 IsOverCylinderWhile _ place front = Unit {0}
@@ -53,12 +53,12 @@ abbrev pub KeepsSpeed : DriveState → DriveState → Type 0
 KeepsSpeed old new = 6250 ≤ old.spin → 6250 ≤ new.spin
 
 -- a drive that was at speed stays at speed while a sector is moved
-abbrev pub KeepsSpeedWhile : Stage → DriveState → DriveState → Type 0
+abbrev pub KeepsSpeedWhile : FrontStage → DriveState → DriveState → Type 0
 KeepsSpeedWhile (Moving moving) old new = KeepsSpeed old new
 KeepsSpeedWhile _ old new = Unit {0}
 
 -- where another medium is put in or taken out, this drive keeps all of this
-abbrev pub LeavesPut : Stage → Call → DriveState → DriveState → Type 0
+abbrev pub LeavesPut : FrontStage → Call → DriveState → DriveState → Type 0
 LeavesPut stage Changes old new = StaysPut old new × KeepsSpeedWhile stage old new
 LeavesPut stage _ old new = Unit {0}
 

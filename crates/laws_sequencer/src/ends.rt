@@ -9,7 +9,7 @@ ghost use Rattle.fdc_core.specs.Ranges.{IsInRange};
 ghost use Rattle.fdc_core.specs.State.{is_gated};
 ghost use Rattle.fdc_sequencer.specs.Fronts.{Front, WritesFront, after_reading, asks_outside, interrupts_outside, seeking_bit, value_outside};
 ghost use Rattle.fdc_sequencer.specs.Transfers.{is_last, next_of};
-ghost use Rattle.fdc_sequencer.specs.declared.stage.Stage.TheVariants.{Through, Telling};
+ghost use Rattle.fdc_sequencer.specs.declared.stage.FrontStage.TheVariants.{Through, Telling};
 ghost use Rattle.fdc_sequencer.specs.declared.transfer.Transfer.{Transfer};
 ghost use Rattle.laws_sequencer.specs.Calls.{AreWithin, Call, IsLastByte, Steps};
 ghost use Rattle.laws_sequencer.specs.Lasting.{HasByteNumbers, HasByteRecords, HasResults, is_under_way, most_steps, sectors_from, steps_in};

@@ -16,7 +16,7 @@ ghost use Rattle.fdc_core.specs.Ports.{resets};
 ghost use Rattle.fdc_sequencer.specs.declared.opcode.Operation.{Operation};
 ghost use Rattle.fdc_sequencer.specs.declared.opcode.Operation.TheVariants.{Read};
 ghost use Rattle.fdc_commands.specs.declared.results.Results.{Results};
-ghost use Rattle.fdc_sequencer.specs.declared.stage.Stage.TheVariants.{Through, Telling};
+ghost use Rattle.fdc_sequencer.specs.declared.stage.FrontStage.TheVariants.{Through, Telling};
 ghost use Rattle.fdc_sequencer.specs.declared.transfer.Transfer.{Transfer};
 
 /// A command that is served goes on through each call. It is over only where the seventh result byte is read or the

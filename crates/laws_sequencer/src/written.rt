@@ -4,7 +4,7 @@ ghost use Rattle.fdc_adapter.specs.Adapters.{drive_at};
 ghost use Rattle.fdc_commands.specs.declared.results.Results.{Results};
 ghost use Rattle.fdc_sequencer.specs.Fronts.{Front, WritesFront};
 ghost use Rattle.fdc_sequencer.specs.declared.opcode.Operation.TheVariants.{Write};
-ghost use Rattle.fdc_sequencer.specs.declared.stage.Stage.TheVariants.{Through, Telling};
+ghost use Rattle.fdc_sequencer.specs.declared.stage.FrontStage.TheVariants.{Through, Telling};
 ghost use Rattle.fdc_sequencer.specs.declared.transfer.Transfer.{Transfer};
 ghost use Rattle.laws_sequencer.specs.Calls.{AreWithin, Call, IsLastByte, Served};
 ghost use Rattle.laws_sequencer.specs.Media.{Place};

@@ -10,6 +10,6 @@ mod unfailing;
 mod words;
 
 pub use memory::{MemShelf, MemSink};
-pub use session::Session;
+pub use session::MachineSession;
 pub use shelf::RunShelf;
 pub use words::{WordsError, split_words};

@@ -8,18 +8,18 @@ use std::alloc::Global;
 
 /// The bytes of lines, and how long each line is.
 #[derive(Drop)]
-pub(crate) struct Lines {
+pub(crate) struct PrintedLines {
     pub(crate) bytes: Vec<u8>,
     pub(crate) lengths: Vec<usize>,
     ghost all: { sum lengths.items ≡ length bytes.items },
 }
 
-impl Lines {
+impl PrintedLines {
     /// No line.
-    pub(crate) fn new(alloc: Global) -> Lines
+    pub(crate) fn new(alloc: Global) -> PrintedLines
         ensures { lines_in result.bytes.items result.lengths.items ≡ [] }
     {
-        Lines {
+        PrintedLines {
             bytes: Vec::new(alloc),
             lengths: Vec::new(alloc),
         }

@@ -5,7 +5,7 @@ ghost use Rattle.flop_base.specs.Counts.{RoseOnce, last_count};
 ghost use Rattle.flop_base.specs.Shelf.{Loads, no_files, file_at, stored};
 ghost use Rattle.flop_base.specs.Sink.{joined, GrowsByPart};
 
-use crate::lines::Lines;
+use crate::lines::PrintedLines;
 use flop_base::{LoadError, NoMemory, PutError, Shelf, Sink, StoreError};
 use std::alloc::Global;
 use std::collections::BTreeMap;
@@ -146,7 +146,7 @@ impl Shelf for MemShelf {
 /// Printed lines in memory. The calls of `put` are numbered from 1.
 #[derive(Drop)]
 pub struct MemSink {
-    lines: Lines,
+    lines: PrintedLines,
     failing: Vec<u64>,
     calls: u64,
     faults: u64,
@@ -162,7 +162,7 @@ impl MemSink {
         ensures calls { calls_of result ≡ 0 }
     {
         MemSink {
-            lines: Lines::new(alloc),
+            lines: PrintedLines::new(alloc),
             failing,
             calls: 0,
             faults: 0,

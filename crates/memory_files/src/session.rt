@@ -14,7 +14,7 @@ use bios_int13::{Int13, Regs, serve};
 use drive_model::Drive;
 use flop_base::Shelf;
 use floppy_jobs::Request;
-use floppy_session::Session as StationSession;
+use floppy_session::Session;
 use floppy_tools::{into_machine, set_up};
 use machine_commands::MachineStation;
 use pc_bus::MachineOf;
@@ -24,11 +24,11 @@ use std::marker::Model;
 
 /// A session over a machine, whose driver runs requests one after the other. Contracts see the session as its state.
 #[derive(Drop)]
-pub struct Session<D: Drive> {
-    over: StationSession<MachineStation<D>>,
+pub struct MachineSession<D: Drive> {
+    over: Session<MachineStation<D>>,
 }
 
-impl<D: Drive> Model for Session<D> {
+impl<D: Drive> Model for MachineSession<D> {
     ghost use Rattle.sector_model.specs.States.{State};
 
     ghost Value = { State };
@@ -36,17 +36,17 @@ impl<D: Drive> Model for Session<D> {
     ghost view = { λ s. s.over };
 }
 
-impl<D: Drive> Session<D> {
+impl<D: Drive> MachineSession<D> {
     ghost use Rattle.floppy_tools.specs.Machines.{IsSetUp};
 
     /// Sets the driver up on a machine that is as it was made. The first of the spare drives is taken first. The
     /// session keeps the allocator for `run`, and allocates no memory here.
-    pub fn new(alloc: Global, machine: MachineOf<D>, spare: Vec<D>) -> Session<D>
+    pub fn new(alloc: Global, machine: MachineOf<D>, spare: Vec<D>) -> MachineSession<D>
         requires machine { IsFreshBoard (board D.state machine) }
         requires spare { All (λ drive. IsEmpty (D.state drive)) spare.items }
         ensures { IsSetUp (board D.state machine) (all_counts D.state spare.items) result }
     {
-        Session {
+        MachineSession {
             over: set_up(alloc, machine, spare),
         }
     }
@@ -91,7 +91,7 @@ impl<D: Drive> Session<D> {
     pub fn into_machine(self) -> MachineOf<D>
         ensures { ShowsStation (board D.state result) self.station }
     {
-        let Session { over } = self;
+        let MachineSession { over } = self;
         into_machine(over)
     }
 }

@@ -7,7 +7,7 @@ use dma_8237::Dma;
 use fdc_core::Fdc;
 use flop_base::NoMemory;
 use irq_events::{Gaps, Holding, IrqLatch, Strays};
-use saved_state::{Saved, SavedWhole, Sink, Source};
+use saved_state::{Saved, SavedBytes, SavedWhole, Source};
 use std::alloc::Global;
 
 /// This byte stands before the bytes of a machine.
@@ -20,7 +20,7 @@ impl SavedWhole for Chips {
 
     ghost Fits = { ChipsFit };
 
-    fn save(&self, alloc: Global, to: &mut Sink) {
+    fn save(&self, alloc: Global, to: &mut SavedBytes) {
         self.controller.save(alloc, to);
         self.channel.save(to);
         self.memory.save(alloc, to);
@@ -48,7 +48,7 @@ impl SavedWhole for Bus {
 
     ghost Fits = { BusFits };
 
-    fn save(&self, alloc: Global, to: &mut Sink) {
+    fn save(&self, alloc: Global, to: &mut SavedBytes) {
         self.chips.save(alloc, to);
         self.latch.save(to);
         self.gaps.save(alloc, to);
@@ -88,7 +88,7 @@ impl<D: SavedWhole + Drop> SavedWhole for MachineOf<D> {
 
     ghost Fits = { MachineFits D.Fits };
 
-    fn save(&self, alloc: Global, to: &mut Sink) {
+    fn save(&self, alloc: Global, to: &mut SavedBytes) {
         to.byte(MACHINE);
         self.bus.save(alloc, to);
         self.first.save(alloc, to);

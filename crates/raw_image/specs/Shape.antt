@@ -1,11 +1,11 @@
 -- The shape of a medium, seen as its header.
 use Rattle.std.specs.Prelude.{◌≡◌, Result, Ok, Err}
 use Rattle.raw_image.specs.declared.error.ImageError.{ImageError}
-use Rattle.raw_image.specs.declared.shape.Shape.{Shape}
+use Rattle.raw_image.specs.declared.shape.ImageShape.{ImageShape}
 use Rattle.raw_image.specs.Header.{Header}
 
 -- the header that tells of this shape
-abbrev pub header_view : Shape → Header
+abbrev pub header_view : ImageShape → Header
 header_view s = record {
   protected = s.protected;
   cylinders = s.cylinders;
@@ -15,6 +15,6 @@ header_view s = record {
 }
 
 -- what was answered is what the header tells
-abbrev pub Tells : Result Header ImageError → Result Shape ImageError → Type 0
+abbrev pub Tells : Result Header ImageError → Result ImageShape ImageError → Type 0
 Tells header (Ok s) = header ≡ Ok (header_view s)
 Tells header (Err e) = header ≡ Err e

@@ -3,8 +3,8 @@ use Rattle.std.specs.Prelude.{◌≡◌, ℕ, ◌+◌, ◌<◌, List, ◌++◌, 
 use Rattle.raw_image.specs.declared.error.ImageError.{ImageError}
 use Rattle.raw_image.specs.declared.error.ImageError.TheVariants.{TooShort, Trailing}
 use Rattle.raw_image.specs.declared.stage.Body.{Body}
-use Rattle.raw_image.specs.declared.stage.Stage.{Stage}
-use Rattle.raw_image.specs.declared.stage.Stage.TheVariants as stage
+use Rattle.raw_image.specs.declared.stage.ReaderStage.{ReaderStage}
+use Rattle.raw_image.specs.declared.stage.ReaderStage.TheVariants as stage
 use Rattle.raw_image.specs.Words.{words_of, bytes_of}
 use Rattle.raw_image.specs.Disk.{Disk}
 use Rattle.raw_image.specs.Header.{Header}
@@ -17,13 +17,13 @@ abbrev pub body_bytes : Body → List ℕ
 body_bytes b = bytes_of b.words.items ++ option_to_list b.high
 
 -- how far a reader in this stage has come
-abbrev pub progress_of : Stage → Progress
+abbrev pub progress_of : ReaderStage → Progress
 progress_of (stage.Begun front) = Begun front.bytes.items
 progress_of (stage.Going body) = Going (header_view body.shape) (body_bytes body)
 progress_of (stage.Failed e) = Failed e
 
 -- how far a reader has come that gave this answer
-abbrev pub after : Result Stage ImageError → Progress
+abbrev pub after : Result ReaderStage ImageError → Progress
 after (Ok s) = progress_of s
 after (Err e) = Failed e
 

@@ -4,7 +4,7 @@ ghost use Rattle.raw_image.specs.Header.{Header, version_of, protection_of, rate
 ghost use Rattle.raw_image.specs.Shape.{Tells, header_view};
 
 use crate::error::ImageError;
-use crate::shape::Shape;
+use crate::shape::ImageShape;
 use flop_base::Rate;
 
 /// How many bytes a header has.
@@ -64,7 +64,7 @@ fn words_per_track_of(words: u16) -> Option<u16>
 
 /// What a header of 14 bytes tells.
 #[tactic(auto, unfolding(crate::specs::Header::header_of))]
-pub(crate) fn header_of(bytes: &[u8]) -> Result<Shape, ImageError>
+pub(crate) fn header_of(bytes: &[u8]) -> Result<ImageShape, ImageError>
     requires { length bytes.now ≡ HEADER }
     ensures { Tells (header_of bytes.now) result }
 {
@@ -75,7 +75,7 @@ pub(crate) fn header_of(bytes: &[u8]) -> Result<Shape, ImageError>
     let rate = rate_of(version, bytes[11]).ok_or(ImageError::BadField { offset: 11 })?;
     let words = u16::from_be_bytes([bytes[12], bytes[13]]);
     let words_per_track = words_per_track_of(words).ok_or(ImageError::BadField { offset: 12 })?;
-    Ok(Shape {
+    Ok(ImageShape {
         protected,
         cylinders,
         heads,

@@ -1,7 +1,7 @@
 // A medium: the words of its tracks, one after the other.
 ghost use Rattle.std.specs.Prelude.{◌≡◌, ◌↔◌, ◌+◌, ◌*◌, ◌<◌, ◌≤◌, ℕ, ◌++◌, length, take, drop, slice_set, IfSome, IsSome, IfOk};
 
-use crate::shape::Shape;
+use crate::shape::ImageShape;
 use flop_base::{NoMemory, Rate};
 use std::alloc::Global;
 use std::marker::Model;
@@ -9,7 +9,7 @@ use std::marker::Model;
 /// A diskette: 1 to 80 cylinders of 1 or 2 heads, and for each a track of 64 to 16,384 words.
 #[derive(Drop)]
 pub struct Medium {
-    shape: Shape,
+    shape: ImageShape,
     words: Vec<u16>,
 }
 
@@ -60,7 +60,7 @@ impl Medium {
         requires most_words { words ≤ 16384 }
         ensures { IfOk result (λ medium. medium ≡ blank_disk cylinders heads words rate) }
     {
-        let shape = Shape {
+        let shape = ImageShape {
             protected: false,
             cylinders,
             heads,
@@ -72,7 +72,7 @@ impl Medium {
     }
 
     /// The medium of this shape with these words.
-    pub(crate) fn from_words(shape: Shape, words: Vec<u16>) -> Medium
+    pub(crate) fn from_words(shape: ImageShape, words: Vec<u16>) -> Medium
         requires { length words.items ≡ shape.cylinders * shape.heads * shape.words_per_track }
         ensures value { result ≡ disk_of (header_view shape) words.items }
         ensures valid { IsDisk result }
@@ -80,7 +80,7 @@ impl Medium {
         Medium { shape, words }
     }
 
-    pub(crate) fn shape(&self) -> Shape
+    pub(crate) fn shape(&self) -> ImageShape
         ensures value { disk_of (header_view result) self.now.words ≡ self.now }
         ensures valid { IsDisk self.now }
     {

@@ -6,7 +6,7 @@ ghost use Rattle.raw_image.specs.Image.{image_of, Reads, Spells};
 
 use crate::error::ImageError;
 use crate::medium::Medium;
-use crate::stage::{HeaderBytes, Stage};
+use crate::stage::{HeaderBytes, ReaderStage};
 use std::alloc::Global;
 use std::marker::Model;
 use std::mem;
@@ -16,7 +16,7 @@ use std::mem;
 #[derive(Drop)]
 pub struct ImageReader {
     alloc: Global,
-    stage: Stage,
+    stage: ReaderStage,
 }
 
 impl Model for ImageReader {
@@ -42,7 +42,7 @@ impl ImageReader {
     {
         ImageReader {
             alloc,
-            stage: Stage::Begun(HeaderBytes {
+            stage: ReaderStage::Begun(HeaderBytes {
                 bytes: Vec::new(alloc),
             }),
         }
@@ -59,14 +59,14 @@ impl ImageReader {
             → Reads (image_of ((bytes ++ piece.now) ++ more)) (Err e)) }
         ensures again { (e : ImageError) → self.old ≡ Failed e → result ≡ Err e }
     {
-        let stage = mem::replace(&mut self.stage, Stage::Failed(ImageError::NoMemory));
+        let stage = mem::replace(&mut self.stage, ReaderStage::Failed(ImageError::NoMemory));
         match stage.fed(self.alloc, piece) {
             Ok(next) => {
                 self.stage = next;
                 Ok(())
             }
             Err(error) => {
-                self.stage = Stage::Failed(error);
+                self.stage = ReaderStage::Failed(error);
                 Err(error)
             }
         }

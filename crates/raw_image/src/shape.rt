@@ -5,7 +5,7 @@ use flop_base::Rate;
 
 /// All of a medium but its words, which is what the header of an image tells.
 #[derive(Clone, Copy)]
-pub(crate) struct Shape {
+pub(crate) struct ImageShape {
     pub protected: bool,
     pub cylinders: u8,
     pub heads: u8,
@@ -19,7 +19,7 @@ pub(crate) struct Shape {
     ghost most_words: { words_per_track ≤ 16384 },
 }
 
-impl Shape {
+impl ImageShape {
     /// How many words all tracks have together.
     pub fn count(self) -> usize
         ensures value { result ≡ self.cylinders * self.heads * self.words_per_track }

@@ -4,12 +4,12 @@ ghost use Rattle.std.specs.Prelude.{◌+◌, ◌*◌, ◌<◌, ◌≤◌, length
 use crate::error::ImageError;
 use crate::header::{HEADER, header_of};
 use crate::medium::Medium;
-use crate::shape::Shape;
+use crate::shape::ImageShape;
 use crate::words::push_piece;
 use std::alloc::Global;
 
 #[derive(Drop)]
-pub(crate) enum Stage {
+pub(crate) enum ReaderStage {
     Begun(HeaderBytes),
     Going(Body),
     /// Something is wrong with the file, and stays so.
@@ -26,7 +26,7 @@ pub(crate) struct HeaderBytes {
 /// A whole header, and at most the words that it tells of.
 #[derive(Drop)]
 pub(crate) struct Body {
-    pub shape: Shape,
+    pub shape: ImageShape,
     pub words: Vec<u16>,
     /// The first half of the word that comes next, if it is there.
     pub high: Option<u8>,
@@ -40,7 +40,7 @@ impl HeaderBytes {
     ghost use Rattle.raw_image.specs.Stage.{progress_of, after};
 
     /// Takes the next bytes of the file.
-    fn fed(self, alloc: Global, piece: &[u8]) -> Result<Stage, ImageError>
+    fn fed(self, alloc: Global, piece: &[u8]) -> Result<ReaderStage, ImageError>
         ensures fed { Feeds piece.now (Begun self.bytes.items) (after result) }
         ensures sound { IfOk result (λ stage. IsSound (progress_of stage)) }
     {
@@ -48,7 +48,7 @@ impl HeaderBytes {
         let missing = HEADER - header.len();
         if piece.len() < missing {
             header.extend_from_slice(piece)?;
-            return Ok(Stage::Begun(HeaderBytes { bytes: header }));
+            return Ok(ReaderStage::Begun(HeaderBytes { bytes: header }));
         }
         let (front, rest) = piece.split_at(missing);
         header.extend_from_slice(front)?;
@@ -59,7 +59,7 @@ impl HeaderBytes {
             words,
             high: None,
         };
-        Ok(Stage::Going(body.fed(rest)?))
+        Ok(ReaderStage::Going(body.fed(rest)?))
     }
 }
 
@@ -110,7 +110,7 @@ impl Body {
     }
 }
 
-impl Stage {
+impl ReaderStage {
     ghost use Rattle.std.specs.Prelude.{◌≡◌, List, ℕ, IfOk, Err};
     ghost use Rattle.raw_image.specs.declared.error.ImageError.{ImageError};
     ghost use Rattle.raw_image.specs.Disk.{IsDisk};
@@ -119,15 +119,15 @@ impl Stage {
     ghost use Rattle.raw_image.specs.Stage.{progress_of, after};
 
     /// Takes the next bytes of the file.
-    pub fn fed(self, alloc: Global, piece: &[u8]) -> Result<Stage, ImageError>
+    pub fn fed(self, alloc: Global, piece: &[u8]) -> Result<ReaderStage, ImageError>
         ensures fed { Feeds piece.now (progress_of self) (after result) }
         ensures sound { IfOk result (λ stage. IsSound (progress_of stage)) }
         ensures again { (e : ImageError) → progress_of self ≡ Failed e → result ≡ Err e }
     {
         match self {
-            Stage::Begun(front) => front.fed(alloc, piece),
-            Stage::Going(body) => Ok(Stage::Going(body.fed(piece)?)),
-            Stage::Failed(error) => Err(error),
+            ReaderStage::Begun(front) => front.fed(alloc, piece),
+            ReaderStage::Going(body) => Ok(ReaderStage::Going(body.fed(piece)?)),
+            ReaderStage::Failed(error) => Err(error),
         }
     }
 
@@ -139,12 +139,12 @@ impl Stage {
         ensures again { (e : ImageError) → progress_of self ≡ Failed e → result ≡ Err e }
     {
         match self {
-            Stage::Begun(front) => Err(ImageError::TooShort {
+            ReaderStage::Begun(front) => Err(ImageError::TooShort {
                 need: HEADER,
                 have: front.bytes.len(),
             }),
-            Stage::Going(body) => body.finish(),
-            Stage::Failed(error) => Err(error),
+            ReaderStage::Going(body) => body.finish(),
+            ReaderStage::Failed(error) => Err(error),
         }
     }
 }

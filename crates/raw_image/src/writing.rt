@@ -6,13 +6,13 @@ ghost use Rattle.raw_image.specs.Shape.{header_view};
 
 use crate::header::HEADER;
 use crate::medium::Medium;
-use crate::shape::Shape;
+use crate::shape::ImageShape;
 use crate::words::push_bytes;
 use flop_base::{NoMemory, Rate};
 use std::alloc::Global;
 
 /// Adds the header of version 2.
-fn push_header(bytes: &mut Vec<u8>, shape: Shape) -> Result<(), NoMemory>
+fn push_header(bytes: &mut Vec<u8>, shape: ImageShape) -> Result<(), NoMemory>
     requires { bytes.old.items ≡ [] }
     ensures { OnOk result (bytes.new.items ≡ header_bytes Second (disk_of (header_view shape) [])) }
 {

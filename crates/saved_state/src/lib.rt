@@ -7,13 +7,13 @@
 mod lists;
 mod numbers;
 mod saved;
-mod sink;
+mod saved_bytes;
 mod source;
 mod values;
 mod whole;
 
 pub use lists::{load_bytes, load_four, load_list, save_bytes, save_four, save_list};
 pub use saved::{Saved, SavedWhole};
-pub use sink::Sink;
+pub use saved_bytes::SavedBytes;
 pub use source::Source;
 pub use whole::{RestoreError, restore_state, save_state};

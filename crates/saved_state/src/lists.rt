@@ -3,14 +3,14 @@ ghost use Rattle.std.specs.Prelude.{◌≡◌, ◌≤◌, IfOk, List, ℕ, lengt
 ghost use Rattle.saved_state.specs.Saved.{Adds, Gives, spelled_bytes, spelled_list, spelled_each, EachFits};
 
 use crate::saved::Saved;
-use crate::sink::Sink;
+use crate::saved_bytes::SavedBytes;
 use crate::source::Source;
 use flop_base::NoMemory;
 use std::alloc::Global;
 
 /// Writes bytes, their number first.
 #[tactic(auto, unfolding(crate::specs::Saved::spelled_bytes))]
-pub fn save_bytes(bytes: &[u8], to: &mut Sink)
+pub fn save_bytes(bytes: &[u8], to: &mut SavedBytes)
     ensures { Adds (spelled_bytes bytes.now) to.old to.new }
 {
     bytes.len().save(to);
@@ -29,7 +29,7 @@ pub fn load_bytes<'a>(from: &mut Source<'a>) -> &'a [u8]
 
 /// Writes a list of values.
 #[tactic(auto, unfolding(crate::specs::Saved::spelled_list))]
-pub fn save_list<T: Saved>(values: &[T], to: &mut Sink)
+pub fn save_list<T: Saved>(values: &[T], to: &mut SavedBytes)
     ensures fits { EachFits T.Fits values.now }
     ensures adds { Adds (spelled_list T.spelled values.now) to.old to.new }
 {
@@ -54,7 +54,7 @@ pub fn load_list<T: Saved + Drop>(alloc: Global, from: &mut Source<'_>) -> Resul
 
 /// Writes four values, one after the other.
 #[tactic(auto, unfolding(crate::specs::Saved::spelled_each))]
-pub fn save_four<T: Saved>(values: &[T; 4], to: &mut Sink)
+pub fn save_four<T: Saved>(values: &[T; 4], to: &mut SavedBytes)
     ensures fits { EachFits T.Fits values.now }
     ensures adds { Adds (spelled_each T.spelled values.now) to.old to.new }
 {

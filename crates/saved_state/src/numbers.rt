@@ -1,6 +1,6 @@
 // Numbers and truth values.
 use crate::saved::Saved;
-use crate::sink::Sink;
+use crate::saved_bytes::SavedBytes;
 use crate::source::Source;
 
 impl Saved for u8 {
@@ -12,7 +12,7 @@ impl Saved for u8 {
     ghost Fits = { λ _. ⊤ };
 
     #[tactic(auto, unfolding(crate::specs::Saved::spelled_byte))]
-    fn save(&self, to: &mut Sink) {
+    fn save(&self, to: &mut SavedBytes) {
         to.byte(*self);
     }
 
@@ -31,7 +31,7 @@ impl Saved for bool {
     ghost Fits = { λ _. ⊤ };
 
     #[tactic(auto, unfolding(crate::specs::Saved::spelled_flag))]
-    fn save(&self, to: &mut Sink) {
+    fn save(&self, to: &mut SavedBytes) {
         to.byte(if *self { 1 } else { 0 });
     }
 
@@ -50,7 +50,7 @@ impl Saved for u16 {
     ghost Fits = { λ _. ⊤ };
 
     #[tactic(auto, unfolding(crate::specs::Saved::spelled_word))]
-    fn save(&self, to: &mut Sink) {
+    fn save(&self, to: &mut SavedBytes) {
         to.byte((*self % 256) as u8);
         to.byte((*self / 256) as u8);
     }
@@ -72,7 +72,7 @@ impl Saved for u32 {
     ghost Fits = { λ _. ⊤ };
 
     #[tactic(auto, unfolding(crate::specs::Saved::spelled_double))]
-    fn save(&self, to: &mut Sink) {
+    fn save(&self, to: &mut SavedBytes) {
         ((*self % 0x1_0000) as u16).save(to);
         ((*self / 0x1_0000) as u16).save(to);
     }
@@ -94,7 +94,7 @@ impl Saved for u64 {
     ghost Fits = { λ _. ⊤ };
 
     #[tactic(auto, unfolding(crate::specs::Saved::spelled_count))]
-    fn save(&self, to: &mut Sink) {
+    fn save(&self, to: &mut SavedBytes) {
         ((*self % 0x1_0000_0000) as u32).save(to);
         ((*self / 0x1_0000_0000) as u32).save(to);
     }
@@ -116,7 +116,7 @@ impl Saved for u128 {
     ghost Fits = { λ _. ⊤ };
 
     #[tactic(auto, unfolding(crate::specs::Saved::spelled_cells))]
-    fn save(&self, to: &mut Sink) {
+    fn save(&self, to: &mut SavedBytes) {
         ((*self % 0x1_0000_0000_0000_0000) as u64).save(to);
         ((*self / 0x1_0000_0000_0000_0000) as u64).save(to);
     }
@@ -137,7 +137,7 @@ impl Saved for usize {
 
     ghost Fits = { λ _. ⊤ };
 
-    fn save(&self, to: &mut Sink) {
+    fn save(&self, to: &mut SavedBytes) {
         (*self as u64).save(to);
     }
 

@@ -2,7 +2,7 @@
 ghost use Rattle.std.specs.Prelude.{◌≡◌, ◌≤◌, ℕ, List, length, IfOk};
 ghost use Rattle.saved_state.specs.Saved.{Adds, Gives};
 
-use crate::sink::Sink;
+use crate::saved_bytes::SavedBytes;
 use crate::source::Source;
 use flop_base::NoMemory;
 use std::alloc::Global;
@@ -16,7 +16,7 @@ pub trait Saved {
     ghost Fits: { Self → Type 0 };
 
     /// Writes the bytes.
-    fn save(&self, to: &mut Sink)
+    fn save(&self, to: &mut SavedBytes)
         ensures fits { Fits self.now }
         ensures adds { Adds (spelled self.now) to.old to.new };
 
@@ -35,7 +35,7 @@ pub trait SavedWhole {
     ghost Fits: { Self → Type 0 };
 
     /// Writes the bytes. Memory that writing needs besides is taken from `alloc`.
-    fn save(&self, alloc: Global, to: &mut Sink)
+    fn save(&self, alloc: Global, to: &mut SavedBytes)
         ensures fits { Fits self.now }
         ensures adds { Adds (spelled self.now) to.old to.new };
 

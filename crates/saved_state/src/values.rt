@@ -1,6 +1,6 @@
 // A value that may be missing, and the key of a sector.
 use crate::saved::Saved;
-use crate::sink::Sink;
+use crate::saved_bytes::SavedBytes;
 use crate::source::Source;
 use flop_base::Chrn;
 
@@ -14,7 +14,7 @@ impl<T: Saved> Saved for Option<T> {
     ghost Fits = { λ value. ForSome value T.Fits };
 
     #[tactic(auto, unfolding(crate::specs::Saved::spelled_option))]
-    fn save(&self, to: &mut Sink) {
+    fn save(&self, to: &mut SavedBytes) {
         match self {
             None => to.byte(0),
             Some(value) => {
@@ -43,7 +43,7 @@ impl Saved for Chrn {
     ghost Fits = { λ _. ⊤ };
 
     #[tactic(auto, unfolding(crate::specs::Saved::spelled_key))]
-    fn save(&self, to: &mut Sink) {
+    fn save(&self, to: &mut SavedBytes) {
         self.c.save(to);
         self.h.save(to);
         self.r.save(to);

@@ -3,7 +3,7 @@ ghost use Rattle.std.specs.Prelude.{◌≡◌, ◌⊎◌, [], IfOk, Ok, Err};
 ghost use Rattle.saved_state.specs.declared.whole.RestoreError.TheVariants as cause;
 
 use crate::saved::SavedWhole;
-use crate::sink::Sink;
+use crate::saved_bytes::SavedBytes;
 use crate::source::Source;
 use flop_base::NoMemory;
 use std::alloc::Global;
@@ -33,9 +33,9 @@ pub fn save_state<T: SavedWhole>(alloc: Global, state: &T) -> Result<Vec<u8>, No
     ensures fits { T.Fits state.now }
     ensures spelled { IfOk result (λ bytes. bytes.items ≡ T.spelled state.now []) }
 {
-    let mut sink = Sink::new(alloc);
-    state.save(alloc, &mut sink);
-    sink.finish()
+    let mut saved = SavedBytes::new(alloc);
+    state.save(alloc, &mut saved);
+    saved.finish()
 }
 
 /// The state that has exactly these bytes.

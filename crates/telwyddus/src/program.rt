@@ -3,4 +3,4 @@ pub use archive_commands::Halt;
 pub use flop_base::{Bytes, LoadError, Name, PutError, Shelf, Sink, Status, StoreError};
 pub use floppy_jobs::{Address, JobError, MemoryByte, Request, parse_job};
 pub use floppy_tools::{Ended, Reason, Reply, Stop, run_plain, run_planned, run_words};
-pub use memory_files::{MemShelf, MemSink, RunShelf, Session, WordsError, split_words};
+pub use memory_files::{MachineSession, MemShelf, MemSink, RunShelf, WordsError, split_words};

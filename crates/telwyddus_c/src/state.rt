@@ -6,7 +6,7 @@ ghost use Rattle.telwyddus_c.specs.States.{WritesState, FindsState, behind, name
 use crate::buffer::write_bytes;
 use crate::code::NO_MEMORY;
 use flop_base::NoMemory;
-use saved_state::{RestoreError, SavedWhole, Sink, Source};
+use saved_state::{RestoreError, SavedBytes, SavedWhole, Source};
 use std::alloc::Global;
 
 /// What each state begins with: a name, and the number of the form of the bytes that follow.
@@ -24,10 +24,10 @@ pub(crate) fn save_behind<T: SavedWhole>(
     ensures fits { T.Fits state.now }
     ensures spelled { IfOk result (λ bytes. bytes.items ≡ behind name.now T.spelled state.now []) }
 {
-    let mut sink = Sink::new(alloc);
-    sink.part(name);
-    state.save(alloc, &mut sink);
-    sink.finish()
+    let mut saved = SavedBytes::new(alloc);
+    saved.part(name);
+    state.save(alloc, &mut saved);
+    saved.finish()
 }
 
 /// The state whose bytes these are, all of them, with this name in front. Bytes with another name are no state.

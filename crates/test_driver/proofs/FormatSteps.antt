@@ -17,8 +17,8 @@ use Rattle.sector_map.proofs.Laid.{format_fits, length-formatted}
 use Rattle.sector_map.proofs.MetTracks.{one_met}
 use Rattle.floppy_driver.specs.Rigs.{Rig}
 use Rattle.floppy_driver.specs.Writing.{SendsWrite, FormatsTrack, LaysMedium, HasTrackUnder, IsFormatMiss}
-use Rattle.test_driver.specs.declared.counts.Counts.{Counts}
-use Rattle.test_driver.specs.declared.drive.Drive.{Drive}
+use Rattle.test_driver.specs.declared.counts.BenchCounts.{BenchCounts}
+use Rattle.test_driver.specs.declared.drive.BenchDrive.{BenchDrive}
 use Rattle.test_driver.specs.Counted.{HasSent}
 use Rattle.test_driver.specs.Drives.{SameDrive}
 use Rattle.test_driver.specs.Laid.{HasTrackOn, CanFormatOn, LaidOn, FormatsOn}
@@ -136,11 +136,11 @@ module _ (old new : Rig) (bay : ℕ) (format : Format) (before : Option Disk) (c
   }
 
 -- the format of the bench
-pub bench_formats : (drives taken done : Two Drive) (memory page : List ℕ) (counts next : Counts) (bay : ℕ) (format : Format) (before after : Drive) (answer : Result (Unit {0}) Code) → bay ≤ 1 → HasSent counts next → before ≡ in_bay drives bay → ((drive : Drive) → with_bay taken bay drive ≡ with_bay drives bay drive) → done ≡ with_bay taken bay after → SameDrive before after → ((laying : Option Laying) × FormatsOn before.cylinder format laying before.medium answer after.medium) → (laying : Option Laying) × FormatsTrack bay format laying (rig_of drives memory page counts) answer (rig_of done memory page next)
+pub bench_formats : (drives taken done : Two BenchDrive) (memory page : List ℕ) (counts next : BenchCounts) (bay : ℕ) (format : Format) (before after : BenchDrive) (answer : Result (Unit {0}) Code) → bay ≤ 1 → HasSent counts next → before ≡ in_bay drives bay → ((drive : BenchDrive) → with_bay taken bay drive ≡ with_bay drives bay drive) → done ≡ with_bay taken bay after → SameDrive before after → ((laying : Option Laying) × FormatsOn before.cylinder format laying before.medium answer after.medium) → (laying : Option Laying) × FormatsTrack bay format laying (rig_of drives memory page counts) answer (rig_of done memory page next)
 bench_formats drives taken done memory page counts next bay format before after answer le sent was left put same (laying, on) =
-    let on_drive = written_on drives memory page counts next after sent bay le (subst (λ (d : Drive). SameDrive d after) was same) in
+    let on_drive = written_on drives memory page counts next after sent bay le (subst (λ (d : BenchDrive). SameDrive d after) was same) in
     let old = rig_of drives memory page counts in
     let new = rig_of (with_bay drives bay after) memory page next in
-    let there = subst (λ (d : Drive). FormatsOn d.cylinder format laying d.medium answer after.medium) was on in
+    let there = subst (λ (d : BenchDrive). FormatsOn d.cylinder format laying d.medium answer after.medium) was on in
     let step = formats old new bay format (in_bay drives bay).medium (in_bay drives bay).cylinder after.medium on_drive.sends on_drive.was on_drive.at on_drive.is on_drive.kept laying answer there in
     (laying, subst (λ all. FormatsTrack bay format laying old answer (rig_of all memory page next)) (sym (put ∙ left after)) step)

@@ -23,8 +23,8 @@ use Rattle.sector_map.specs.Met.{met_in}
 use Rattle.sector_map.proofs.MetTracks.{nothing_from}
 use Rattle.floppy_driver.specs.Rigs.{Rig, track_under}
 use Rattle.floppy_driver.specs.Reading.{SendsRead, FindsField, IsReadCode, IsReadReason, IsReadMiss, ReadsData, ReadsBack, ReadsId}
-use Rattle.test_driver.specs.declared.counts.Counts.{Counts}
-use Rattle.test_driver.specs.declared.drive.Drive.{Drive}
+use Rattle.test_driver.specs.declared.counts.BenchCounts.{BenchCounts}
+use Rattle.test_driver.specs.declared.drive.BenchDrive.{BenchDrive}
 use Rattle.test_driver.specs.Counted.{HasSent}
 use Rattle.test_driver.specs.Found.{FindsOn, RefusedAs, IsMissedOn}
 use Rattle.test_driver.specs.Shown.{rig_of}
@@ -72,13 +72,13 @@ module _ (memory : List ℕ) (a : ℕ) (bytes : List ℕ) (fits : a + length byt
 -- ---- the drive of a bay
 
 -- a fact of the medium and the cylinder of the drive that is in a bay
-drive_at : (is_first : Bool) (first second : Drive) (P : Option Disk → ℕ → Type 0) → P (if is_first then first else second).medium (if is_first then first else second).cylinder → P (if is_first then first.medium else second.medium) (if is_first then first.cylinder else second.cylinder)
+drive_at : (is_first : Bool) (first second : BenchDrive) (P : Option Disk → ℕ → Type 0) → P (if is_first then first else second).medium (if is_first then first else second).cylinder → P (if is_first then first.medium else second.medium) (if is_first then first.cylinder else second.cylinder)
 drive_at true first second P fact = fact
 drive_at false first second P fact = fact
 
 -- a fact of a drive's medium and cylinder is one of the rig's bay
-pub at_bay : (drives : Two Drive) (bay : ℕ) (drive : Drive) (P : Option Disk → ℕ → Type 0) → drive ≡ in_bay drives bay → P drive.medium drive.cylinder → P (if bay == 0 then drives.first.medium else drives.second.medium) (if bay == 0 then drives.first.cylinder else drives.second.cylinder)
-at_bay drives bay drive P is fact = drive_at (bay == 0) drives.first drives.second P (subst (λ (d : Drive). P d.medium d.cylinder) is fact)
+pub at_bay : (drives : Two BenchDrive) (bay : ℕ) (drive : BenchDrive) (P : Option Disk → ℕ → Type 0) → drive ≡ in_bay drives bay → P drive.medium drive.cylinder → P (if bay == 0 then drives.first.medium else drives.second.medium) (if bay == 0 then drives.first.cylinder else drives.second.cylinder)
+at_bay drives bay drive P is fact = drive_at (bay == 0) drives.first drives.second P (subst (λ (d : BenchDrive). P d.medium d.cylinder) is fact)
 
 -- ---- refusals
 
@@ -133,7 +133,7 @@ field_found old bay key rate deleted content new size field =
 
 -- ---- the steps
 
-module _ (drives : Two Drive) (memory page memory_after page_after : List ℕ) (counts next : Counts) (sent : HasSent counts next) where
+module _ (drives : Two BenchDrive) (memory page memory_after page_after : List ℕ) (counts next : BenchCounts) (sent : HasSent counts next) where
   abbrev old : Rig
   old = rig_of drives memory page counts
 
@@ -165,7 +165,7 @@ module _ (drives : Two Drive) (memory page memory_after page_after : List ℕ) (
         command = rose;
       }
 
-  module _ (bay : ℕ) (key : Chrn) (rate : Rate) (drive : Drive) (content : List ℕ) (at : drive ≡ in_bay drives bay) (size : length content ≡ content_size key.n) where
+  module _ (bay : ℕ) (key : Chrn) (rate : Rate) (drive : BenchDrive) (content : List ℕ) (at : drive ≡ in_bay drives bay) (size : length content ≡ content_size key.n) where
     done : (deleted : Bool) → FindsOn drive.medium rate drive.cylinder key deleted content → FindsField bay key rate old deleted content new
     done deleted found =
         field_found old bay key rate deleted content new size (at_bay drives bay drive (λ m c. FindsOn m rate c key deleted content) at found)
@@ -211,7 +211,7 @@ module _ (drives : Two Drive) (memory page memory_after page_after : List ℕ) (
         refused_as (Err code) f = refused code f
 
 -- no address field is found
-pub no_id : (drives : Two Drive) (memory page : List ℕ) (counts next : Counts) (bay head : ℕ) (rate : Rate) (drive : Drive) (first : Option Chrn) (Is : Chrn → Type 0) → HasSent counts next → drive ≡ in_bay drives bay → first ≡ None → MatchOption first ((p : ℕ) (key : Chrn) → IsAddressAt (met_in drive.medium rate drive.cylinder head) p key → ⊥) Is → ReadsId bay head rate (rig_of drives memory page counts) (Err NoMark) (rig_of drives memory page next)
+pub no_id : (drives : Two BenchDrive) (memory page : List ℕ) (counts next : BenchCounts) (bay head : ℕ) (rate : Rate) (drive : BenchDrive) (first : Option Chrn) (Is : Chrn → Type 0) → HasSent counts next → drive ≡ in_bay drives bay → first ≡ None → MatchOption first ((p : ℕ) (key : Chrn) → IsAddressAt (met_in drive.medium rate drive.cylinder head) p key → ⊥) Is → ReadsId bay head rate (rig_of drives memory page counts) (Err NoMark) (rig_of drives memory page next)
 no_id drives memory page counts next bay head rate drive first Is sent at is found =
     let None_at : Type 0 = (p : ℕ) (key : Chrn) → IsAddressAt (met_in drive.medium rate drive.cylinder head) p key → ⊥ in
     let none : None_at = subst (λ o. MatchOption o None_at Is) is found in

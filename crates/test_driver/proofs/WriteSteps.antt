@@ -24,8 +24,8 @@ use Rattle.sector_map.proofs.RegularTracks.{length-track_of}
 use Rattle.sector_map.proofs.Changed.{length-window_of, change_keeps_tracks, change_keeps_address}
 use Rattle.floppy_driver.specs.Rigs.{Rig, track_under}
 use Rattle.floppy_driver.specs.Writing.{SendsWrite, WritesData, ChangesMedium, IsWriteMiss, HasWindowOut}
-use Rattle.test_driver.specs.declared.counts.Counts.{Counts}
-use Rattle.test_driver.specs.declared.drive.Drive.{Drive}
+use Rattle.test_driver.specs.declared.counts.BenchCounts.{BenchCounts}
+use Rattle.test_driver.specs.declared.drive.BenchDrive.{BenchDrive}
 use Rattle.test_driver.specs.Counted.{HasSent}
 use Rattle.test_driver.specs.Drives.{SameDrive}
 use Rattle.test_driver.specs.Put.{IsCutTo, PutsWindow, HasFieldOn, IsAbsent, ChangesOn, IsWriteRefusal, WritesOn}
@@ -148,7 +148,7 @@ by_bay P first second zero le = first
 by_bay P first second (suc zero) le = second
 by_bay P first second (suc (suc bay)) le = absurd (omega (arith, le))
 
-module _ (drives : Two Drive) (memory page : List ℕ) (counts next : Counts) (after : Drive) (sent : HasSent counts next) where
+module _ (drives : Two BenchDrive) (memory page : List ℕ) (counts next : BenchCounts) (after : BenchDrive) (sent : HasSent counts next) where
   abbrev old : Rig
   old = rig_of drives memory page counts
 
@@ -275,12 +275,12 @@ module _ (old new : Rig) (bay : ℕ) (rate : Rate) (written : Written) (before :
   }
 
 -- the write of the bench
-pub bench_writes : (drives taken done : Two Drive) (memory page : List ℕ) (counts next : Counts) (bay : ℕ) (rate : Rate) (written target : Written) (before after : Drive) (answer : Result (Unit {0}) Code) → bay ≤ 1 → HasSent counts next → before ≡ in_bay drives bay → ((drive : Drive) → with_bay taken bay drive ≡ with_bay drives bay drive) → done ≡ with_bay taken bay after → SameDrive before after → written ≡ target → ((change : Option Change) × WritesOn rate before.cylinder written change before.medium answer after.medium) → (change : Option Change) × WritesData bay rate target change (rig_of drives memory page counts) answer (rig_of done memory page next)
+pub bench_writes : (drives taken done : Two BenchDrive) (memory page : List ℕ) (counts next : BenchCounts) (bay : ℕ) (rate : Rate) (written target : Written) (before after : BenchDrive) (answer : Result (Unit {0}) Code) → bay ≤ 1 → HasSent counts next → before ≡ in_bay drives bay → ((drive : BenchDrive) → with_bay taken bay drive ≡ with_bay drives bay drive) → done ≡ with_bay taken bay after → SameDrive before after → written ≡ target → ((change : Option Change) × WritesOn rate before.cylinder written change before.medium answer after.medium) → (change : Option Change) × WritesData bay rate target change (rig_of drives memory page counts) answer (rig_of done memory page next)
 bench_writes drives taken done memory page counts next bay rate written target before after answer le sent was left put same is (change, on) =
-    let on_drive = written_on drives memory page counts next after sent bay le (subst (λ (d : Drive). SameDrive d after) was same) in
+    let on_drive = written_on drives memory page counts next after sent bay le (subst (λ (d : BenchDrive). SameDrive d after) was same) in
     let old = rig_of drives memory page counts in
     let new = rig_of (with_bay drives bay after) memory page next in
-    let there = subst (λ (d : Drive). WritesOn rate d.cylinder written change d.medium answer after.medium) was on in
+    let there = subst (λ (d : BenchDrive). WritesOn rate d.cylinder written change d.medium answer after.medium) was on in
     let step = writes old new bay rate written (in_bay drives bay).medium (in_bay drives bay).cylinder after.medium on_drive.sends refl on_drive.was on_drive.at on_drive.is on_drive.kept change answer there in
     (change, subst (λ all. WritesData bay rate target change old answer (rig_of all memory page next)) (sym (put ∙ left after)) (subst (λ w. WritesData bay rate w change old answer new) is step))
 

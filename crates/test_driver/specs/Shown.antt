@@ -4,16 +4,16 @@ use Rattle.flop_base.specs.Bays.{Two}
 use Rattle.flop_base.specs.Counts.{last_count}
 use Rattle.flop_base.specs.Counters.{DriveCounts, Counters}
 use Rattle.floppy_driver.specs.Rigs.{Rig}
-use Rattle.test_driver.specs.declared.counts.Counts.{Counts}
-use Rattle.test_driver.specs.declared.drive.Drive.{Drive}
+use Rattle.test_driver.specs.declared.counts.BenchCounts.{BenchCounts}
+use Rattle.test_driver.specs.declared.drive.BenchDrive.{BenchDrive}
 use Rattle.test_driver.specs.declared.bench.Bench.{Bench}
 
 -- the faults of a drive, as it shows them; it doesn't say how many are left
-abbrev pub faults_shown : Drive → DriveCounts
+abbrev pub faults_shown : BenchDrive → DriveCounts
 faults_shown drive = record { faults = drive.faults; left = None }
 
 -- no spare drives, nothing past the driver, no device steps, and no gaps
-abbrev pub counters_of : Two Drive → Counts → Counters
+abbrev pub counters_of : Two BenchDrive → BenchCounts → Counters
 counters_of drives counts = record {
   drives = record { first = faults_shown drives.first; second = faults_shown drives.second };
   spares = [];
@@ -26,7 +26,7 @@ counters_of drives counts = record {
   gaps = 0;
 }
 
-abbrev pub rig_of : Two Drive → List ℕ → List ℕ → Counts → Rig
+abbrev pub rig_of : Two BenchDrive → List ℕ → List ℕ → BenchCounts → Rig
 rig_of drives memory page counts = record {
   media = record { first = drives.first.medium; second = drives.second.medium };
   cylinders = record { first = drives.first.cylinder; second = drives.second.cylinder };

@@ -9,10 +9,10 @@ ghost use Rattle.floppy_driver.specs.declared.driver.Driver.{Driver};
 ghost use Rattle.floppy_driver.specs.Attached.{IsAttached, CanSetUp};
 ghost use Rattle.test_driver.specs.Sent.{HasFault, IsDisturbed};
 
-use crate::counts::Counts;
-use crate::drive::Drive;
+use crate::counts::BenchCounts;
+use crate::drive::BenchDrive;
 use crate::drives::take;
-use crate::script::{Call, Script, Trouble};
+use crate::script::{Call, CommandTrouble, Script};
 use flop_base::{Code, NoMemory, Two, USER_BYTES};
 use floppy_driver::Driver;
 use raw_image::Medium;
@@ -29,10 +29,10 @@ const TRACK_WORDS: usize = 16_384;
 #[derive(Drop)]
 pub(crate) struct Bench {
     pub(crate) alloc: Global,
-    pub(crate) drives: Two<Drive>,
+    pub(crate) drives: Two<BenchDrive>,
     pub(crate) memory: Vec<u8>,
     pub(crate) page: Vec<u8>,
-    pub(crate) counts: Counts,
+    pub(crate) counts: BenchCounts,
     pub(crate) script: Script,
     // the words of a field or of a track that is written
     pub(crate) words: Vec<u16>,
@@ -58,10 +58,10 @@ impl Bench {
         let words = vec![in alloc; 0; TRACK_WORDS]?;
         Ok(Bench {
             alloc,
-            drives: Two::new(Drive::empty(), Drive::empty()),
+            drives: Two::new(BenchDrive::empty(), BenchDrive::empty()),
             memory,
             page,
-            counts: Counts {
+            counts: BenchCounts {
                 commands: 0,
                 taken: 0,
                 stalls: 0,
@@ -82,7 +82,7 @@ impl Bench {
     }
 
     /// Plans the troubles of the next data commands.
-    pub fn plan(&mut self, troubles: &[Trouble]) -> Result<(), AllocError>
+    pub fn plan(&mut self, troubles: &[CommandTrouble]) -> Result<(), AllocError>
         ensures { (driver : Driver) → IsAttached driver (rig_shown self.old) → IsAttached driver (rig_shown self.new) }
     {
         self.script.plan(troubles)
@@ -142,13 +142,13 @@ impl Bench {
     }
 
     /// Does a write or a format that fails by this trouble, and gives its refusal.
-    pub(crate) fn refuse_write(&mut self, bay: u8, trouble: Trouble) -> Code
+    pub(crate) fn refuse_write(&mut self, bay: u8, trouble: CommandTrouble) -> Code
         requires { bay ≤ 1 }
         ensures write { IsDisturbed IsWriteCode bay (rig_shown self.old) result (rig_shown self.new) }
         ensures format { IsDisturbed IsFormatCode bay (rig_shown self.old) result (rig_shown self.new) }
     {
         match trouble {
-            Trouble::Stalled => {
+            CommandTrouble::Stalled => {
                 self.counts.send();
                 self.counts.stall();
                 Code::Overrun
@@ -161,17 +161,17 @@ impl Bench {
     }
 
     /// Does a read that fails by this trouble, and gives its refusal.
-    pub(crate) fn refuse_read(&mut self, bay: u8, trouble: Trouble) -> Code
+    pub(crate) fn refuse_read(&mut self, bay: u8, trouble: CommandTrouble) -> Code
         requires { bay ≤ 1 }
         ensures { IsDisturbed IsReadCode bay (rig_shown self.old) result (rig_shown self.new) }
     {
         match trouble {
-            Trouble::Stalled => {
+            CommandTrouble::Stalled => {
                 self.counts.send();
                 self.counts.stall();
                 Code::Overrun
             }
-            Trouble::Damaged => {
+            CommandTrouble::Damaged => {
                 self.fault(bay);
                 Code::BadCrc
             }

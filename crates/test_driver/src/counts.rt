@@ -3,23 +3,23 @@ ghost use Rattle.test_driver.specs.Counted.{HasSent, HasStalled};
 
 /// Data commands, interrupts taken, and late DMAs. Each count stays at its last value.
 #[derive(Clone, Copy)]
-pub(crate) struct Counts {
+pub(crate) struct BenchCounts {
     pub commands: u64,
     pub taken: u64,
     pub stalls: u64,
 }
 
-impl Counts {
+impl BenchCounts {
     /// A data command began, and its interrupt was taken.
     pub fn send(&mut self)
         ensures { HasSent self.old self.new }
     {
-        let Counts {
+        let BenchCounts {
             commands,
             taken,
             stalls,
         } = *self;
-        *self = Counts {
+        *self = BenchCounts {
             commands: commands.saturating_add(1),
             taken: taken.saturating_add(1),
             stalls,

@@ -18,7 +18,7 @@ const LAST_CYLINDER: u8 = 79;
 
 /// A drive and the medium in it.
 #[derive(Drop)]
-pub(crate) struct Drive {
+pub(crate) struct BenchDrive {
     pub medium: Option<Medium>,
     pub cylinder: u8,
     /// The controller's number of the cylinder.
@@ -49,16 +49,16 @@ fn copy_content(track: &[u16], place: usize, n: u8, content: &mut [u8])
     }
 }
 
-impl Drive {
+impl BenchDrive {
     ghost use Rattle.test_driver.specs.Drives.{Moved, RecalibratesDrive, SeeksDrive, Spins, Exchanged, Faulted};
     ghost use Rattle.test_driver.specs.Found.{IsUnderHead, FindsOn, IsMissedOn};
 
     /// An empty drive.
-    pub fn empty() -> Drive
+    pub fn empty() -> BenchDrive
         ensures medium { result.medium ≡ None }
         ensures changed { result.changed ≡ true }
     {
-        Drive {
+        BenchDrive {
             medium: None,
             cylinder: LAST_CYLINDER,
             number: 0,

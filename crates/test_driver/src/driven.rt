@@ -5,7 +5,7 @@ ghost use Rattle.floppy_driver.specs.Attached.{IsAttached};
 ghost use Rattle.test_driver.specs.Shown.{rig_shown};
 
 use crate::bench::Bench;
-use crate::script::{Call, Trouble};
+use crate::script::{Call, CommandTrouble};
 use flop_base::{Chrn, Code, NoMemory, Rate};
 use floppy_driver::{Commands, Driver};
 use raw_image::Medium;
@@ -34,7 +34,7 @@ impl DrivenBench {
     }
 
     /// Plans the troubles of the next data commands.
-    pub fn plan(&mut self, troubles: &[Trouble]) -> Result<(), AllocError> {
+    pub fn plan(&mut self, troubles: &[CommandTrouble]) -> Result<(), AllocError> {
         self.bench.plan(troubles)
     }
 

@@ -2,13 +2,13 @@
 ghost use Rattle.std.specs.Prelude.{◌≡◌};
 ghost use Rattle.flop_base.specs.Bays.{in_bay, with_bay};
 
-use crate::drive::Drive;
+use crate::drive::BenchDrive;
 use flop_base::Two;
 
 /// Takes the drive of a bay out; another drive is to take its place.
-pub(crate) fn take(drives: &mut Two<Drive>, bay: u8) -> Drive
+pub(crate) fn take(drives: &mut Two<BenchDrive>, bay: u8) -> BenchDrive
     ensures taken { result ≡ in_bay drives.old bay }
-    ensures left { (drive : Drive) → with_bay drives.new bay drive ≡ with_bay drives.old bay drive }
+    ensures left { (drive : BenchDrive) → with_bay drives.new bay drive ≡ with_bay drives.old bay drive }
 {
-    drives.replace(bay, Drive::empty())
+    drives.replace(bay, BenchDrive::empty())
 }

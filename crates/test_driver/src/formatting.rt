@@ -7,9 +7,9 @@ ghost use Rattle.floppy_driver.specs.Writing.{FormatsTrack};
 ghost use Rattle.test_driver.specs.Laid.{HasTrackOn, FormatsOn};
 
 use crate::bench::Bench;
-use crate::drive::{Drive, same_rate};
+use crate::drive::{BenchDrive, same_rate};
 use crate::drives::take;
-use crate::script::Trouble;
+use crate::script::CommandTrouble;
 use flop_base::standard::SIZE_CODE;
 use flop_base::{Code, Rate};
 use sector_map::keys_of_track;
@@ -36,7 +36,7 @@ fn fill_track(words: &mut [u16], sectors: u8, c: u8, h: u8, gap3: u8, fill: u8)
     fill_layout(words, &keys[..usize::from(sectors)], SIZE_CODE, gap3, fill);
 }
 
-impl Drive {
+impl BenchDrive {
     ghost use Rattle.test_driver.specs.Drives.{SameDrive};
 
     /// Whether the medium has the track under a head, at this rate.
@@ -102,7 +102,7 @@ impl Bench {
             laying (rig_shown self.old) result (rig_shown self.new) }
     {
         let trouble = self.script.trouble();
-        if trouble != Trouble::Calm {
+        if trouble != CommandTrouble::Calm {
             return Err(self.refuse_write(bay, trouble));
         }
         self.counts.send();

@@ -14,4 +14,4 @@ mod script;
 mod writing;
 
 pub use driven::DrivenBench;
-pub use script::{Call, Trouble};
+pub use script::{Call, CommandTrouble};

@@ -5,7 +5,7 @@ ghost use Rattle.track_model.specs.Fields.{IsSizeCode, content_size};
 ghost use Rattle.floppy_driver.specs.Reading.{ReadsId, ReadsData, ReadsBack};
 
 use crate::bench::Bench;
-use crate::script::Trouble;
+use crate::script::CommandTrouble;
 use flop_base::{Chrn, Code, Rate, sector_size};
 
 impl Bench {
@@ -16,7 +16,7 @@ impl Bench {
         requires { bay ≤ 1 }
         ensures { ReadsId bay head rate (rig_shown self.old) result (rig_shown self.new) }
     {
-        if self.script.trouble() != Trouble::Calm {
+        if self.script.trouble() != CommandTrouble::Calm {
             self.fault(bay);
             return Err(Code::NoMark);
         }
@@ -50,7 +50,7 @@ impl Bench {
         ensures { ReadsData bay key rate address (rig_shown self.old) result (rig_shown self.new) }
     {
         let trouble = self.script.trouble();
-        if trouble != Trouble::Calm {
+        if trouble != CommandTrouble::Calm {
             return Err(self.refuse_read(bay, trouble));
         }
         self.counts.send();
@@ -66,7 +66,7 @@ impl Bench {
         ensures { ReadsBack bay key rate (rig_shown self.old) result (rig_shown self.new) }
     {
         let trouble = self.script.trouble();
-        if trouble != Trouble::Calm {
+        if trouble != CommandTrouble::Calm {
             return Err(self.refuse_read(bay, trouble));
         }
         self.counts.send();

@@ -4,7 +4,7 @@ use std::alloc::{AllocError, Global};
 
 /// A trouble of a data command.
 #[derive(Clone, Copy)]
-pub enum Trouble {
+pub enum CommandTrouble {
     /// No trouble: the command runs as it should.
     Calm,
     /// No address mark is read: a fault of the drive.
@@ -31,7 +31,7 @@ pub enum Call {
 /// of heads takes the next number of pulses that it loses. After the last one, commands and movements have no trouble.
 #[derive(Drop)]
 pub(crate) struct Script {
-    troubles: Vec<Trouble>,
+    troubles: Vec<CommandTrouble>,
     lost: Vec<u8>,
     next_trouble: usize,
     next_lost: usize,
@@ -51,7 +51,7 @@ impl Script {
     }
 
     /// Plans the troubles of the next data commands.
-    pub fn plan(&mut self, troubles: &[Trouble]) -> Result<(), AllocError> {
+    pub fn plan(&mut self, troubles: &[CommandTrouble]) -> Result<(), AllocError> {
         self.troubles.clear();
         self.next_trouble = 0;
         self.troubles.extend_from_slice(troubles)
@@ -65,13 +65,13 @@ impl Script {
     }
 
     /// The trouble of the next data command.
-    pub fn trouble(&mut self) -> Trouble {
+    pub fn trouble(&mut self) -> CommandTrouble {
         let at = self.next_trouble;
         self.next_trouble = at.saturating_add(1);
         if at < self.troubles.len() {
             self.troubles[at]
         } else {
-            Trouble::Calm
+            CommandTrouble::Calm
         }
     }
 

@@ -9,9 +9,9 @@ ghost use Rattle.floppy_driver.specs.Writing.{WritesData};
 ghost use Rattle.test_driver.specs.Put.{PutsWindow, HasFieldOn, IsAbsent, WritesOn};
 
 use crate::bench::Bench;
-use crate::drive::Drive;
+use crate::drive::BenchDrive;
 use crate::drives::take;
-use crate::script::Trouble;
+use crate::script::CommandTrouble;
 use flop_base::{Chrn, Code, Rate, sector_size};
 use raw_image::Medium;
 use sector_map::{Absent, fill_field_words, find_address, window_word};
@@ -38,7 +38,7 @@ fn put_window(medium: &mut Medium, c: u8, key: Chrn, place: usize, words: &[u16]
     cut == words.len()
 }
 
-impl Drive {
+impl BenchDrive {
     ghost use Rattle.test_driver.specs.Drives.{SameDrive};
 
     /// The first address field of a key on the track under its head, or the refusal of a write to it.
@@ -110,7 +110,7 @@ impl Bench {
             (rig_shown self.old) result (rig_shown self.new) }
     {
         let trouble = self.script.trouble();
-        if trouble != Trouble::Calm {
+        if trouble != CommandTrouble::Calm {
             return Err(self.refuse_write(bay, trouble));
         }
         self.counts.send();

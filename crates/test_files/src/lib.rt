@@ -9,7 +9,7 @@ mod told;
 mod wrong;
 
 pub use draft::Draft;
-pub use line::{Line, words_in};
+pub use line::{LineWords, words_in};
 pub use recipes::{follow, hex_bytes};
 pub use told::put_file;
 pub use wrong::Wrong;

@@ -16,16 +16,16 @@ pub fn words_in(alloc: Global, text: &str) -> Result<Vec<&str>, Wrong> {
 /// The words of a line, taken one by one. `end` alone reports a word that isn't there, or isn't what was asked for.
 /// Until then, 0 or a word without letters stands for it.
 #[derive(Clone, Copy)]
-pub struct Line<'a> {
+pub struct LineWords<'a> {
     words: &'a [&'a str],
     /// How many of the words were taken.
     taken: usize,
     is_wrong: bool,
 }
 
-impl<'a> Line<'a> {
-    pub fn of(words: &'a [&'a str]) -> Line<'a> {
-        Line {
+impl<'a> LineWords<'a> {
+    pub fn of(words: &'a [&'a str]) -> LineWords<'a> {
+        LineWords {
             words,
             taken: 0,
             is_wrong: false,

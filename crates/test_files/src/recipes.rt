@@ -1,6 +1,6 @@
 // Recipes of files: each line adds bytes or changes those that are there.
 use crate::draft::Draft;
-use crate::line::Line;
+use crate::line::LineWords;
 use crate::wrong::Wrong;
 use flop_base::Chrn;
 use floppy_jobs::is_verb;
@@ -25,7 +25,7 @@ pub fn hex_bytes(bytes: &mut Draft, digits: &str) -> bool {
 }
 
 /// `hex DIGITS`
-fn hex(bytes: &mut Draft, line: &mut Line) {
+fn hex(bytes: &mut Draft, line: &mut LineWords) {
     if !hex_bytes(bytes, line.word()) {
         line.refuse();
     }
@@ -44,7 +44,7 @@ fn put_head(bytes: &mut Draft, fields: [u8; 4], words: u16) {
 }
 
 /// `head FLAGS CYLS HEADS RATE WORDS`
-fn head(bytes: &mut Draft, line: &mut Line) {
+fn head(bytes: &mut Draft, line: &mut LineWords) {
     let fields = [line.byte(), line.byte(), line.byte(), line.byte()];
     let words = line.short();
     put_head(bytes, fields, words);
@@ -52,7 +52,7 @@ fn head(bytes: &mut Draft, line: &mut Line) {
 
 /// How tracks are laid out.
 #[derive(Clone, Copy)]
-struct Form {
+struct TrackLayout {
     sectors: u8,
     gap3: u8,
     fill: u8,
@@ -60,7 +60,7 @@ struct Form {
 }
 
 /// Adds a track that is laid out with these keys; its sectors have size code `n`.
-fn push_laid(bytes: &mut Draft, keys: &[Chrn], n: u8, form: Form) -> Result<(), Wrong> {
+fn push_laid(bytes: &mut Draft, keys: &[Chrn], n: u8, form: TrackLayout) -> Result<(), Wrong> {
     if n < 1 || n > 6 {
         return Err(Wrong::Line);
     }
@@ -81,15 +81,15 @@ fn keys_of(alloc: Global, c: u8, h: u8, sectors: u8) -> Result<Vec<Chrn>, Wrong>
     Ok(keys)
 }
 
-fn push_track(bytes: &mut Draft, c: u8, h: u8, form: Form) -> Result<(), Wrong> {
+fn push_track(bytes: &mut Draft, c: u8, h: u8, form: TrackLayout) -> Result<(), Wrong> {
     let keys = keys_of(bytes.alloc(), c, h, form.sectors)?;
     push_laid(bytes, &keys, 2, form)
 }
 
 /// `track C H SECTORS GAP3 FILL WORDS`
-fn track(bytes: &mut Draft, line: &mut Line) -> Result<(), Wrong> {
+fn track(bytes: &mut Draft, line: &mut LineWords) -> Result<(), Wrong> {
     let (c, h) = (line.byte(), line.byte());
-    let form = Form {
+    let form = TrackLayout {
         sectors: line.byte(),
         gap3: line.byte(),
         fill: line.byte(),
@@ -101,7 +101,7 @@ fn track(bytes: &mut Draft, line: &mut Line) -> Result<(), Wrong> {
 /// The key that eight hexadecimal digits spell.
 fn key_of(digits: &str) -> Chrn {
     let words = [digits];
-    let [c, h, r, n] = Line::of(&words).hex(8, 8).to_be_bytes();
+    let [c, h, r, n] = LineWords::of(&words).hex(8, 8).to_be_bytes();
     Chrn { c, h, r, n }
 }
 
@@ -114,9 +114,9 @@ fn keys_in(alloc: Global, words: &[&str]) -> Result<Vec<Chrn>, Wrong> {
 }
 
 /// `lay N GAP3 FILL WORDS KEY..`, each key eight hexadecimal digits
-fn lay(bytes: &mut Draft, line: &mut Line) -> Result<(), Wrong> {
+fn lay(bytes: &mut Draft, line: &mut LineWords) -> Result<(), Wrong> {
     let n = line.byte();
-    let form = Form {
+    let form = TrackLayout {
         sectors: 0,
         gap3: line.byte(),
         fill: line.byte(),
@@ -127,16 +127,16 @@ fn lay(bytes: &mut Draft, line: &mut Line) -> Result<(), Wrong> {
 }
 
 /// The form of the tracks of a disk, by its rate.
-fn form_of(rate: &str) -> Form {
+fn form_of(rate: &str) -> TrackLayout {
     if is_verb(rate.as_bytes(), "500") {
-        Form {
+        TrackLayout {
             sectors: 18,
             gap3: 0x6C,
             fill: 0xF6,
             words: 12_500,
         }
     } else {
-        Form {
+        TrackLayout {
             sectors: 9,
             gap3: 0x50,
             fill: 0xF6,
@@ -146,7 +146,7 @@ fn form_of(rate: &str) -> Form {
 }
 
 /// `disk CYLS 500` or `disk CYLS 250`
-fn disk(bytes: &mut Draft, line: &mut Line) -> Result<(), Wrong> {
+fn disk(bytes: &mut Draft, line: &mut LineWords) -> Result<(), Wrong> {
     let cylinders = line.byte();
     let form = form_of(line.word());
     if form.sectors == 18 {
@@ -162,7 +162,7 @@ fn disk(bytes: &mut Draft, line: &mut Line) -> Result<(), Wrong> {
 }
 
 /// `words PLACE WORD..`
-fn words(bytes: &mut Draft, line: &mut Line) {
+fn words(bytes: &mut Draft, line: &mut LineWords) {
     let place = line.count();
     let mut new = Draft::new(bytes.alloc());
     for word in line.words() {
@@ -184,7 +184,7 @@ fn filled(first: &Draft) -> Draft {
 }
 
 /// `field PLACE data|deleted CONTENT`: the window of 512 bytes, which are the given ones over and over
-fn field(bytes: &mut Draft, line: &mut Line) -> Result<(), Wrong> {
+fn field(bytes: &mut Draft, line: &mut LineWords) -> Result<(), Wrong> {
     let place = line.count();
     let deleted = line.is("deleted");
     let mut first = Draft::new(bytes.alloc());
@@ -217,7 +217,7 @@ fn bits_from(first: u8, next: u8, bit: u32) -> u8 {
 
 /// Moves the cells of the first track forward, so many places. Behind them stand cells 0, or the first cells if
 /// `around` is true.
-fn shift(bytes: &mut Draft, line: &mut Line, around: bool) {
+fn shift(bytes: &mut Draft, line: &mut LineWords, around: bool) {
     let cells = line.byte();
     if cells > 15 {
         line.refuse();
@@ -248,7 +248,7 @@ fn moved_by(ahead: &Draft, cells: u8) -> Draft {
 }
 
 /// `fillwords COUNT WORD`
-fn fill_words(bytes: &mut Draft, line: &mut Line) {
+fn fill_words(bytes: &mut Draft, line: &mut LineWords) {
     let copies = line.count();
     let word = line.hex_word();
     for _ in 0..copies {
@@ -257,7 +257,7 @@ fn fill_words(bytes: &mut Draft, line: &mut Line) {
 }
 
 /// `ramp COUNT`: bytes that differ from their neighbours, also from sector to sector
-fn ramp(bytes: &mut Draft, line: &mut Line) {
+fn ramp(bytes: &mut Draft, line: &mut LineWords) {
     for i in 0..line.count() {
         let value = i.wrapping_mul(7).wrapping_add(i / 512) & 0xFF;
         bytes.put(&[value as u8]);
@@ -265,7 +265,7 @@ fn ramp(bytes: &mut Draft, line: &mut Line) {
 }
 
 /// `bytes PLACE DIGITS`
-fn put_bytes(bytes: &mut Draft, line: &mut Line) {
+fn put_bytes(bytes: &mut Draft, line: &mut LineWords) {
     let place = line.count();
     let mut new = Draft::new(bytes.alloc());
     hex(&mut new, line);
@@ -273,7 +273,7 @@ fn put_bytes(bytes: &mut Draft, line: &mut Line) {
 }
 
 /// Follows a line of a recipe.
-pub fn follow(bytes: &mut Draft, verb: &str, line: Line) -> Result<(), Wrong> {
+pub fn follow(bytes: &mut Draft, verb: &str, line: LineWords) -> Result<(), Wrong> {
     let mut line = line;
     follow_tracks(bytes, verb.as_bytes(), &mut line)?;
     line.end()?;
@@ -281,7 +281,7 @@ pub fn follow(bytes: &mut Draft, verb: &str, line: Line) -> Result<(), Wrong> {
 }
 
 /// Follows a line that lays out tracks, or another line.
-fn follow_tracks(bytes: &mut Draft, verb: &[u8], line: &mut Line) -> Result<(), Wrong> {
+fn follow_tracks(bytes: &mut Draft, verb: &[u8], line: &mut LineWords) -> Result<(), Wrong> {
     if is_verb(verb, "track") {
         track(bytes, line)
     } else if is_verb(verb, "lay") {
@@ -297,7 +297,7 @@ fn follow_tracks(bytes: &mut Draft, verb: &[u8], line: &mut Line) -> Result<(), 
 }
 
 /// Follows a line that adds or changes bytes.
-fn follow_bytes(bytes: &mut Draft, verb: &[u8], line: &mut Line) {
+fn follow_bytes(bytes: &mut Draft, verb: &[u8], line: &mut LineWords) {
     if is_verb(verb, "head") {
         head(bytes, line);
     } else if is_verb(verb, "words") {

@@ -12,7 +12,7 @@ use std::test::Fail;
 
 /// What is seen of a machine while media and a drive of bay 1 are exchanged.
 #[derive(Clone, Copy)]
-struct Seen {
+struct SeenExchange {
     /// Whether the machine is fresh, before and after an access to a port.
     fresh: [bool; 2],
     inserted: bool,
@@ -26,12 +26,12 @@ struct Seen {
 }
 
 /// Uses a new machine, bay 1 of which gets this medium and then this drive.
-fn see<D: Drive>(machine: &mut MachineOf<D>, medium: Medium, next: D) -> Seen
+fn see<D: Drive>(machine: &mut MachineOf<D>, medium: Medium, next: D) -> SeenExchange
     requires { IsEmpty (D.state next) }
 {
     let fresh = machine.is_fresh();
     machine.outb(0x3F2, 0x24);
-    Seen {
+    SeenExchange {
         fresh: [fresh, machine.is_fresh()],
         inserted: machine.insert(1, medium).is_ok(),
         rate: machine.rate(1),
@@ -49,7 +49,7 @@ fn see_new<D: Drive>(
     second: D,
     next: D,
     medium: Medium,
-) -> Result<Seen, Fail>
+) -> Result<SeenExchange, Fail>
     requires first { IsEmpty (D.state first) }
     requires second { IsEmpty (D.state second) }
     requires next { IsEmpty (D.state next) }

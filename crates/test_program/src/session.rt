@@ -7,7 +7,7 @@ use bios_int13::{Int13, Regs};
 use drive_model::PlainDrive;
 use flop_base::{Chrn, Code, Name};
 use floppy_jobs::Request;
-use memory_files::{MemShelf, Session};
+use memory_files::{MachineSession, MemShelf};
 use pc_bus::MachineOf;
 use sector_model::{Reason, Reply, Stop};
 use std::alloc::Global;
@@ -23,15 +23,15 @@ fn answer(reply: Result<Reply, Stop>) -> Option<Result<(), Code>> {
 }
 
 /// A session with two empty bays.
-fn new_session(alloc: Global) -> Result<Session<PlainDrive>, Fail> {
+fn new_session(alloc: Global) -> Result<MachineSession<PlainDrive>, Fail> {
     let machine = machine(alloc)?;
     let spare = spare(alloc)?;
-    Ok(Session::new(alloc, machine, spare))
+    Ok(MachineSession::new(alloc, machine, spare))
 }
 
 /// Runs a request.
 fn ask(
-    session: &mut Session<PlainDrive>,
+    session: &mut MachineSession<PlainDrive>,
     shelf: &mut MemShelf,
     request: &Request,
 ) -> Option<Result<(), Code>>
@@ -41,27 +41,30 @@ fn ask(
 }
 
 /// Serves a call of INT 13h.
-fn serve(session: &mut Session<PlainDrive>, front: &mut Int13, regs: Regs) -> Regs {
+fn serve(session: &mut MachineSession<PlainDrive>, front: &mut Int13, regs: Regs) -> Regs {
     session.int13(front, regs)
 }
 
 /// Ends a session.
-fn end(session: &mut Session<PlainDrive>, shelf: &mut MemShelf) -> bool {
+fn end(session: &mut MachineSession<PlainDrive>, shelf: &mut MemShelf) -> bool {
     session.end(shelf).is_ok()
 }
 
 /// Puts the disk of the shelf, which has this name, into bay 0.
-fn insert(session: &mut Session<PlainDrive>, shelf: &mut MemShelf, name: Name) -> bool {
+fn insert(session: &mut MachineSession<PlainDrive>, shelf: &mut MemShelf, name: Name) -> bool {
     ask(session, shelf, &Request::Insert { bay: 0, name }) == Some(Ok(()))
 }
 
 /// Acknowledges the medium in bay 0.
-fn acknowledge(session: &mut Session<PlainDrive>, shelf: &mut MemShelf) -> bool {
+fn acknowledge(session: &mut MachineSession<PlainDrive>, shelf: &mut MemShelf) -> bool {
     ask(session, shelf, &Request::Ack { bay: 0 }) == Some(Ok(()))
 }
 
 /// Reads the first sector.
-fn read(session: &mut Session<PlainDrive>, shelf: &mut MemShelf) -> Option<Result<(), Code>> {
+fn read(
+    session: &mut MachineSession<PlainDrive>,
+    shelf: &mut MemShelf,
+) -> Option<Result<(), Code>> {
     let key = Chrn {
         c: 0,
         h: 0,
@@ -82,7 +85,7 @@ fn last_and_next(machine: &MachineOf<PlainDrive>) -> (u8, u8) {
 }
 
 /// A read is refused until the medium is acknowledged.
-fn acknowledges_and_reads(session: &mut Session<PlainDrive>, shelf: &mut MemShelf) -> bool {
+fn acknowledges_and_reads(session: &mut MachineSession<PlainDrive>, shelf: &mut MemShelf) -> bool {
     let is_refused = read(session, shelf) == Some(Err(Code::Changed));
     let is_acknowledged = acknowledge(session, shelf);
     let is_read = read(session, shelf) == Some(Ok(()));
@@ -91,7 +94,7 @@ fn acknowledges_and_reads(session: &mut Session<PlainDrive>, shelf: &mut MemShel
 
 /// The results of a session of requests. A session is large, so it is used in functions where nothing can fail.
 #[derive(Clone, Copy)]
-struct Ended {
+struct SessionResults {
     inserted: bool,
     read: bool,
     data_commands: u64,
@@ -100,13 +103,13 @@ struct Ended {
 }
 
 /// Runs the requests and ends the session.
-fn run(session: Session<PlainDrive>, shelf: &mut MemShelf, name: Name) -> Ended {
+fn run(session: MachineSession<PlainDrive>, shelf: &mut MemShelf, name: Name) -> SessionResults {
     let mut session = session;
     let inserted = insert(&mut session, shelf, name);
     let read = acknowledges_and_reads(&mut session, shelf);
     let data_commands = session.machine().data_commands();
     let ended = end(&mut session, shelf);
-    Ended {
+    SessionResults {
         inserted,
         read,
         data_commands,
@@ -148,7 +151,7 @@ struct Served {
 }
 
 /// Serves both calls and ends the session.
-fn serve_twice(session: Session<PlainDrive>, shelf: &mut MemShelf, name: Name) -> Served {
+fn serve_twice(session: MachineSession<PlainDrive>, shelf: &mut MemShelf, name: Name) -> Served {
     let mut session = session;
     let inserted = insert(&mut session, shelf, name);
     let mut front = Int13::new();

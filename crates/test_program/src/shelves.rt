@@ -2,7 +2,7 @@
 use memory_files::MemShelf;
 use std::alloc::{AllocError, Global};
 use std::test::Fail;
-use test_files::{Draft, Line, follow};
+use test_files::{Draft, LineWords, follow};
 
 /// The words of a text.
 pub(crate) fn words(alloc: Global, text: &str) -> Result<Vec<String>, AllocError> {
@@ -17,7 +17,7 @@ pub(crate) fn words(alloc: Global, text: &str) -> Result<Vec<String>, AllocError
 fn disk(alloc: Global) -> Option<Draft> {
     let mut disk = Draft::new(alloc);
     let cylinders_and_rate = ["1", "250"];
-    follow(&mut disk, "disk", Line::of(&cylinders_and_rate)).ok()?;
+    follow(&mut disk, "disk", LineWords::of(&cylinders_and_rate)).ok()?;
     Some(disk)
 }
 

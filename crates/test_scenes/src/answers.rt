@@ -17,23 +17,23 @@ use flop_base::{Chrn, Rate};
 use floppy_jobs::is_verb;
 use raw_image::{ImageError, Medium, read_image};
 use std::alloc::Global;
-use test_files::{Draft, Line, Wrong};
+use test_files::{Draft, LineWords, Wrong};
 
 /// The bytes of a file.
 #[derive(Clone, Copy)]
-pub(crate) struct Asked<'a> {
+pub(crate) struct FileBytes<'a> {
     pub alloc: Global,
     pub bytes: &'a [u8],
 }
 
 /// Prints what a function gives for these bytes. Each module passes a verb that it doesn't know on to the next module.
-pub(crate) fn answer(asked: Asked, line: &mut Line, out: &mut Draft) -> Result<(), Wrong> {
+pub(crate) fn answer(asked: FileBytes, line: &mut LineWords, out: &mut Draft) -> Result<(), Wrong> {
     let verb = line.word().as_bytes();
     cells::answer(verb, asked, line, out)
 }
 
 /// The key that the words `C H R N` spell.
-fn key(line: &mut Line) -> Chrn {
+fn key(line: &mut LineWords) -> Chrn {
     Chrn {
         c: line.byte(),
         h: line.byte(),
@@ -43,7 +43,7 @@ fn key(line: &mut Line) -> Chrn {
 }
 
 /// The data rate that a word gives in kbit/s.
-fn rate(line: &mut Line) -> Rate {
+fn rate(line: &mut LineWords) -> Rate {
     let word = line.word().as_bytes();
     if is_verb(word, "500") {
         return Rate::R500;
@@ -67,7 +67,7 @@ fn words_of(alloc: Global, bytes: &[u8]) -> Result<Vec<u16>, Wrong> {
 }
 
 /// The medium of an image.
-fn medium_of(asked: Asked) -> Result<Medium, Wrong> {
+fn medium_of(asked: FileBytes) -> Result<Medium, Wrong> {
     match read_image(asked.alloc, asked.bytes) {
         Ok(medium) => Ok(medium),
         Err(ImageError::NoMemory) => Err(Wrong::NoMemory),

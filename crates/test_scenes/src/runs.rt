@@ -9,7 +9,7 @@ use test_files::Wrong;
 
 /// What a machine counted.
 #[derive(Clone, Copy)]
-pub(crate) struct Counts {
+pub(crate) struct MachineCounts {
     pub steps: u64,
     pub commands: u64,
     pub taken: u64,
@@ -18,7 +18,7 @@ pub(crate) struct Counts {
     pub faults: [u64; 2],
 }
 
-pub(crate) const NO_COUNTS: Counts = Counts {
+pub(crate) const NO_COUNTS: MachineCounts = MachineCounts {
     steps: 0,
     commands: 0,
     taken: 0,
@@ -29,9 +29,9 @@ pub(crate) const NO_COUNTS: Counts = Counts {
 
 /// What is seen after a run: its status and, if a machine was made, its counts and a part of its memory.
 #[derive(Drop)]
-pub(crate) struct Seen {
+pub(crate) struct SeenRun {
     pub status: u8,
-    pub counts: Option<Counts>,
+    pub counts: Option<MachineCounts>,
     pub memory: Vec<u8>,
 }
 
@@ -55,8 +55,8 @@ impl Range {
     }
 }
 
-fn counts_of<D: Drive>(machine: &MachineOf<D>) -> Counts {
-    Counts {
+fn counts_of<D: Drive>(machine: &MachineOf<D>) -> MachineCounts {
+    MachineCounts {
         steps: machine.steps(),
         commands: machine.data_commands(),
         taken: machine.taken(),
@@ -66,16 +66,16 @@ fn counts_of<D: Drive>(machine: &MachineOf<D>) -> Counts {
     }
 }
 
-fn look_over<D: Drive>(alloc: Global, ended: Ended<D>, range: Range) -> Result<Seen, Wrong> {
+fn look_over<D: Drive>(alloc: Global, ended: Ended<D>, range: Range) -> Result<SeenRun, Wrong> {
     let Ended { status, machine } = ended;
     let status = status.number();
     match machine {
-        Some(machine) => Ok(Seen {
+        Some(machine) => Ok(SeenRun {
             status,
             counts: Some(counts_of(&machine)),
             memory: range.bytes(alloc, &machine)?,
         }),
-        None => Ok(Seen {
+        None => Ok(SeenRun {
             status,
             counts: None,
             memory: Vec::new(alloc),
@@ -91,7 +91,7 @@ pub(crate) fn run(
     shelf: &mut MemShelf,
     sink: &mut MemSink,
     range: Range,
-) -> Result<Seen, Wrong> {
+) -> Result<SeenRun, Wrong> {
     match run_program(alloc, plan, words, shelf, sink) {
         ProgramEnded::Planned(ended) => look_over(alloc, ended, range),
         ProgramEnded::Unplanned(ended) => look_over(alloc, ended, range),

@@ -1,12 +1,12 @@
 // Scenes: files, a plan, calls that fail, and runs.
-use crate::answers::{Asked, answer};
+use crate::answers::{FileBytes, answer};
 use crate::runs::{NO_COUNTS, Range, run};
 use crate::shown::{number_of, put_seen};
 use floppy_jobs::is_verb;
 use memory_files::{MemShelf, MemSink};
 use std::alloc::Global;
 use std::env::VarError;
-use test_files::{Draft, Line, Wrong, follow, put_file, words_in};
+use test_files::{Draft, LineWords, Wrong, follow, put_file, words_in};
 
 /// A name that is watched, and the file that has it, if one does.
 #[derive(Drop)]
@@ -85,13 +85,19 @@ impl Scene {
     fn words(&mut self, line: &str, out: &mut Draft) -> Result<(), Wrong> {
         let words = words_in(self.alloc, line)?;
         match words.as_slice().split_first() {
-            Some((verb, fields)) => self.verb(line, verb, Line::of(fields), out),
+            Some((verb, fields)) => self.verb(line, verb, LineWords::of(fields), out),
             None => Ok(()),
         }
     }
 
     /// Does a line that prints.
-    fn verb(&mut self, line: &str, verb: &str, fields: Line, out: &mut Draft) -> Result<(), Wrong> {
+    fn verb(
+        &mut self,
+        line: &str,
+        verb: &str,
+        fields: LineWords,
+        out: &mut Draft,
+    ) -> Result<(), Wrong> {
         let word = verb.as_bytes();
         if is_verb(word, "scene") {
             *self = Scene::new(self.alloc);
@@ -113,7 +119,7 @@ impl Scene {
     }
 
     /// Does a line that prints nothing.
-    fn setting(&mut self, verb: &str, fields: &mut Line) -> Result<(), Wrong> {
+    fn setting(&mut self, verb: &str, fields: &mut LineWords) -> Result<(), Wrong> {
         let word = verb.as_bytes();
         if is_verb(word, "file") {
             self.file(fields.word(), Some(Draft::new(self.alloc)))
@@ -144,9 +150,9 @@ impl Scene {
     }
 
     /// Does a line of a recipe.
-    fn recipe(&mut self, verb: &str, fields: &mut Line) -> Result<(), Wrong> {
+    fn recipe(&mut self, verb: &str, fields: &mut LineWords) -> Result<(), Wrong> {
         let words = fields.words();
-        follow(self.last_made()?, verb, Line::of(words))
+        follow(self.last_made()?, verb, LineWords::of(words))
     }
 
     /// Watches a name, with a file of these bytes or with none.
@@ -158,7 +164,7 @@ impl Scene {
     }
 
     /// `plan NAME`: the runs after this line have the plan of this name. `plan`: they have none.
-    fn plan(&mut self, fields: &mut Line) -> Result<(), Wrong> {
+    fn plan(&mut self, fields: &mut LineWords) -> Result<(), Wrong> {
         self.plan = match fields.words() {
             [] => Err(VarError::NotPresent),
             [name] => Ok(String::from_str(self.alloc, name)?),
@@ -168,7 +174,7 @@ impl Scene {
     }
 
     /// `counts NAME..`: the runs after this line print these counts.
-    fn count(&mut self, fields: &mut Line) -> Result<(), Wrong> {
+    fn count(&mut self, fields: &mut LineWords) -> Result<(), Wrong> {
         let mut counts = Vec::new(self.alloc);
         for name in fields.words() {
             if number_of(NO_COUNTS, name).is_none() {
@@ -203,11 +209,11 @@ impl Scene {
     }
 
     /// Asks a function about the bytes of the last file.
-    fn ask(&mut self, fields: Line, out: &mut Draft) -> Result<(), Wrong> {
+    fn ask(&mut self, fields: LineWords, out: &mut Draft) -> Result<(), Wrong> {
         let alloc = self.alloc;
         let made = self.last_made()?;
         made.whole()?;
-        let asked = Asked {
+        let asked = FileBytes {
             alloc,
             bytes: made.bytes(),
         };
@@ -245,7 +251,7 @@ impl Scene {
     }
 
     /// The words of a run, each of which is watched.
-    fn words_of(&mut self, fields: Line) -> Result<Vec<String>, Wrong> {
+    fn words_of(&mut self, fields: LineWords) -> Result<Vec<String>, Wrong> {
         let mut fields = fields;
         let mut words = Vec::new(self.alloc);
         for word in fields.words() {
@@ -256,7 +262,7 @@ impl Scene {
     }
 
     /// Runs the program, and prints its report, what is seen after it, and each watched file that changed.
-    fn run(&mut self, fields: Line, out: &mut Draft) -> Result<(), Wrong> {
+    fn run(&mut self, fields: LineWords, out: &mut Draft) -> Result<(), Wrong> {
         let words = self.words_of(fields)?;
         let mut shelf = self.shelf()?;
         let mut sink = MemSink::new(self.alloc, self.sink_fails.to_vec(self.alloc)?);
@@ -299,7 +305,7 @@ impl Kept {
 }
 
 /// `ram ADDRESS LENGTH`: the part of memory that the later runs print
-fn range(fields: &mut Line) -> Range {
+fn range(fields: &mut LineWords) -> Range {
     Range {
         start: fields.hex(1, 5),
         length: fields.long(),

@@ -1,10 +1,10 @@
 // What is printed of a run.
-use crate::runs::{Counts, Seen};
+use crate::runs::{MachineCounts, SeenRun};
 use floppy_jobs::is_verb;
 use test_files::Draft;
 
 /// Prints the status of a run, the counts that are asked for, and the part of memory.
-pub(crate) fn put_seen(seen: &Seen, asked: &[String], out: &mut Draft) {
+pub(crate) fn put_seen(seen: &SeenRun, asked: &[String], out: &mut Draft) {
     out.text("status");
     out.numbers(&[u64::from(seen.status)]);
     out.line("");
@@ -19,7 +19,7 @@ pub(crate) fn put_seen(seen: &Seen, asked: &[String], out: &mut Draft) {
 }
 
 /// Prints counts by their names.
-fn put_counts(asked: &[String], counts: Counts, out: &mut Draft) {
+fn put_counts(asked: &[String], counts: MachineCounts, out: &mut Draft) {
     out.text("counts");
     for name in asked {
         let name = name.as_str();
@@ -31,9 +31,9 @@ fn put_counts(asked: &[String], counts: Counts, out: &mut Draft) {
 }
 
 /// The count of this name, if there is one.
-pub(crate) fn number_of(counts: Counts, name: &str) -> Option<u64> {
+pub(crate) fn number_of(counts: MachineCounts, name: &str) -> Option<u64> {
     let name = name.as_bytes();
-    let Counts {
+    let MachineCounts {
         steps,
         commands,
         taken,

@@ -13,8 +13,8 @@ use Rattle.laws_machine.proofs.OnSteps.SeekEnds.{seek_ends_in_time}
 use Rattle.pc_bus.specs.Boards.{Board, IsInRange}
 use Rattle.pc_bus.specs.Handling.{Touches, irq_taken}
 use Rattle.sector_model.specs.declared.reply.Reason.{Reason}
-use Rattle.text_commands.specs.declared.ports.answer.Answer.{Answer}
-use Rattle.text_commands.specs.declared.ports.answer.Answer.TheVariants as answer
+use Rattle.text_commands.specs.declared.ports.answer.LineAnswer.{LineAnswer}
+use Rattle.text_commands.specs.declared.ports.answer.LineAnswer.TheVariants as answer
 use Rattle.text_commands.specs.Benches.{Bench}
 use Rattle.text_commands.specs.PortCourses.{Taken, PortRun, waits_of}
 use Rattle.text_commands.specs.PortFinishes.{FinishesIn, EndInTime}
@@ -42,15 +42,15 @@ passes_on n m all a b c few one two =
     let first = one.least_is in let second = two.least_is in
     record { steps = one.steps + two.steps; least_is = omega arith; goes = goes_on a b c one.steps two.steps one.goes two.goes }
 
-inserts : (old new : Bench) (bay : ℕ) (name : List ℕ) (said : Answer) (refusal : Option Reason) → MatchOption refusal ((said ≡ answer.Done) × LoadsMedium bay name old new) (λ cause. IsRefused cause old said new) → Passes 0 old.board new.board
+inserts : (old new : Bench) (bay : ℕ) (name : List ℕ) (said : LineAnswer) (refusal : Option Reason) → MatchOption refusal ((said ≡ answer.Done) × LoadsMedium bay name old new) (λ cause. IsRefused cause old said new) → Passes 0 old.board new.board
 inserts old new bay name said None (done, loads) = handles bay old.board new.board loads.touches
 inserts old new bay name said (Some cause) refused = stays old new refused.same
 
-ejects : (old new : Bench) (bay : ℕ) (said : Answer) (refusal : Option Reason) → MatchOption refusal ((said ≡ answer.Done) × StoresMedium bay old new) (λ cause. IsRefused cause old said new) → Passes 0 old.board new.board
+ejects : (old new : Bench) (bay : ℕ) (said : LineAnswer) (refusal : Option Reason) → MatchOption refusal ((said ≡ answer.Done) × StoresMedium bay old new) (λ cause. IsRefused cause old said new) → Passes 0 old.board new.board
 ejects old new bay said None (done, stores) = handles bay old.board new.board stores.takes.touches
 ejects old new bay said (Some cause) refused = stays old new refused.same
 
-line_passes : (old new : Bench) (asked : PortLine) (said : Answer) → DoesLine asked old said new → Passes (waits_in asked) old.board new.board
+line_passes : (old new : Bench) (asked : PortLine) (said : LineAnswer) → DoesLine asked old said new → Passes (waits_in asked) old.board new.board
 line_passes old new (line.In port) said (reads, keeps) = record { steps = next_entry old.board.bus.gaps; least_is = omega arith; goes = input_goes port reads.value old.board new.board reads.inputs }
 line_passes old new (line.Out port value) said (nothing, writes, keeps) = record { steps = next_entry old.board.bus.gaps; least_is = omega arith; goes = output_goes port value old.board new.board writes }
 line_passes old new (line.Wait steps) said (nothing, runs, keeps) = record { steps = steps; least_is = omega arith; goes = wait_goes steps old.board new.board runs }

@@ -19,8 +19,8 @@ use Rattle.pc_bus.specs.Ports.{Inputs, Outputs}
 use Rattle.pc_bus.specs.Steps.{Runs, stirred}
 use Rattle.sector_model.specs.declared.reply.Reason.{Reason}
 use Rattle.sector_model.specs.declared.reply.Stop.{Stop}
-use Rattle.text_commands.specs.declared.ports.answer.Answer.{Answer}
-use Rattle.text_commands.specs.declared.ports.answer.Answer.TheVariants as answer
+use Rattle.text_commands.specs.declared.ports.answer.LineAnswer.{LineAnswer}
+use Rattle.text_commands.specs.declared.ports.answer.LineAnswer.TheVariants as answer
 use Rattle.text_commands.specs.Benches.{Bench, Names, no_names}
 use Rattle.text_commands.specs.PortCourses.{Taken, PortRun, waits_of, EndsBay, Stored, Left, EndStopsAt, AtFirst, AtSecond}
 use Rattle.text_commands.specs.PortGuards.{SameMedia, GuardsBay, GuardsLine, GuardsCourse, RunsPorts}
@@ -77,21 +77,21 @@ touched_guards : (touched : ℕ) (old new : Board) → nat_le touched 1 ≡ true
 touched_guards touched old new low touches bay within differs covered =
     ap (λ (s : DriveState). s.medium) (other_same touched bay old new (bay_low touched low) within differs touches.other)
 
-insert_guards : (old new : Bench) (touched : ℕ) (name : List ℕ) (said : Answer) → DoesLine (line.Insert touched name) old said new → GuardsLine (line.Insert touched name) old new
+insert_guards : (old new : Bench) (touched : ℕ) (name : List ℕ) (said : LineAnswer) → DoesLine (line.Insert touched name) old said new → GuardsLine (line.Insert touched name) old new
 insert_guards old new touched name said does = by_refusal (insert_refusal old.names touched) refl does
   where
     by_refusal : (refusal : Option Reason) → insert_refusal old.names touched ≡ refusal → MatchOption refusal ((said ≡ answer.Done) × LoadsMedium touched name old new) (λ cause. IsRefused cause old said new) → GuardsLine (line.Insert touched name) old new
     by_refusal None free (done, loads) = λ bay within leaves covered. touched_guards touched old.board new.board (free_low (nat_le touched 1) _ _ free) loads.touches bay within leaves covered
     by_refusal (Some cause) taken refused = λ bay within leaves covered. ap (λ (bench : Bench). (drive_in bench.board bay).medium) refused.same
 
-eject_guards : (old new : Bench) (touched : ℕ) (said : Answer) → DoesLine (line.Eject touched) old said new → GuardsLine (line.Eject touched) old new
+eject_guards : (old new : Bench) (touched : ℕ) (said : LineAnswer) → DoesLine (line.Eject touched) old said new → GuardsLine (line.Eject touched) old new
 eject_guards old new touched said does = by_refusal (eject_refusal old.names touched) refl does
   where
     by_refusal : (refusal : Option Reason) → eject_refusal old.names touched ≡ refusal → MatchOption refusal ((said ≡ answer.Done) × StoresMedium touched old new) (λ cause. IsRefused cause old said new) → GuardsLine (line.Eject touched) old new
     by_refusal None free (done, stores) = λ bay within leaves covered. touched_guards touched old.board new.board (free_low (nat_le touched 1) _ _ free) stores.takes.touches bay within leaves covered
     by_refusal (Some cause) taken refused = λ bay within leaves covered. ap (λ (bench : Bench). (drive_in bench.board bay).medium) refused.same
 
-line_guards : (old new : Bench) (asked : PortLine) (said : Answer) → DoesLine asked old said new → GuardsLine asked old new
+line_guards : (old new : Bench) (asked : PortLine) (said : LineAnswer) → DoesLine asked old said new → GuardsLine asked old new
 line_guards old new (line.In port) said (reads, keeps) = λ bay within leaves. read_guards port reads.value old.board new.board reads.inputs bay
 line_guards old new (line.Out port value) said (nothing, writes, keeps) = λ bay within leaves. write_guards port value old.board new.board writes bay
 line_guards old new (line.Wait steps) said (nothing, runs, keeps) = λ bay within leaves. wait_guards steps old.board new.board runs bay

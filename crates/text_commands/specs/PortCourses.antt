@@ -4,7 +4,7 @@ use Rattle.floppy_jobs.specs.declared.ports.PortLine.{PortLine}
 use Rattle.pc_bus.specs.Boards.{IsInRange}
 use Rattle.sector_model.specs.declared.reply.Stop.{Stop}
 use Rattle.sector_model.specs.Runs.{IsEndStop}
-use Rattle.text_commands.specs.declared.ports.answer.Answer.{Answer}
+use Rattle.text_commands.specs.declared.ports.answer.LineAnswer.{LineAnswer}
 use Rattle.text_commands.specs.Benches.{Bench, is_loaded}
 use Rattle.text_commands.specs.PortLines.{DoesLine, StoresMedium, DropsMedium, is_refusal, waits_in}
 use Rattle.text_commands.specs.PortTexts.{answer_lines}
@@ -12,7 +12,7 @@ use Rattle.text_commands.specs.PortTexts.{answer_lines}
 -- a line that was done: the line, its answer, and the bench that it leads to, whose board is in range
 pub record Taken : Type 0 where
   pub asked : PortLine
-  pub answer : Answer
+  pub answer : LineAnswer
   pub after : Bench
   pub range : IsInRange after.board
 

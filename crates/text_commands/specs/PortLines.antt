@@ -20,8 +20,8 @@ use Rattle.pc_bus.specs.Boards.{Board, drive_in, latch_of}
 use Rattle.pc_bus.specs.Handling.{Touches, irq_taken}
 use Rattle.pc_bus.specs.Ports.{Inputs, Outputs}
 use Rattle.pc_bus.specs.Steps.{Runs, stirred}
-use Rattle.text_commands.specs.declared.ports.answer.Answer.{Answer}
-use Rattle.text_commands.specs.declared.ports.answer.Answer.TheVariants as answer
+use Rattle.text_commands.specs.declared.ports.answer.LineAnswer.{LineAnswer}
+use Rattle.text_commands.specs.declared.ports.answer.LineAnswer.TheVariants as answer
 use Rattle.text_commands.specs.Benches.{Bench, Names, is_loaded}
 
 -- names and files are as they were
@@ -70,18 +70,18 @@ pub record DropsMedium (bay : ℕ) (old new : Bench) : Type 0 where
   pub files : new.files ≡ old.files
 
 -- a line that puts a medium in or takes one out was refused
-pub record IsRefused (cause : Reason) (old : Bench) (said : Answer) (new : Bench) : Type 0 where
+pub record IsRefused (cause : Reason) (old : Bench) (said : LineAnswer) (new : Bench) : Type 0 where
   pub answered : said ≡ answer.Refused cause
   pub same : new ≡ old
 
 -- a port gave a byte
-pub record ReadsPort (port : ℕ) (old : Board) (said : Answer) (new : Board) : Type 0 where
+pub record ReadsPort (port : ℕ) (old : Board) (said : LineAnswer) (new : Board) : Type 0 where
   pub value : ℕ
   pub answered : said ≡ answer.Byte port value
   pub inputs : Inputs port old value new
 
 -- what a line does that doesn't stop the run
-abbrev pub DoesLine : PortLine → Bench → Answer → Bench → Type 0
+abbrev pub DoesLine : PortLine → Bench → LineAnswer → Bench → Type 0
 DoesLine (line.In port) old said new = ReadsPort port old.board said new.board × KeepsMedia old new
 DoesLine (line.Out port value) old said new =
     (said ≡ answer.Nothing) × Outputs port value old.board new.board × KeepsMedia old new
@@ -106,7 +106,7 @@ StopsAt (line.Eject bay) old cause new =
 StopsAt _ old cause new = ⊥
 
 -- a line is done, or stops the run
-abbrev pub LineGoes : PortLine → Bench → Result Answer Stop → Bench → Type 0
+abbrev pub LineGoes : PortLine → Bench → Result LineAnswer Stop → Bench → Type 0
 LineGoes asked old (Ok said) new = DoesLine asked old said new
 LineGoes asked old (Err cause) new = StopsAt asked old cause new
 
@@ -116,7 +116,7 @@ StoresOrDrops bay old (Ok done) new = StoresMedium bay old new
 StoresOrDrops bay old (Err cause) new = IsEndStop cause × DropsMedium bay old new
 
 -- the answer is a refusal
-abbrev pub is_refusal : Answer → Bool
+abbrev pub is_refusal : LineAnswer → Bool
 is_refusal answer.Nothing = false
 is_refusal (answer.Byte port value) = false
 is_refusal (answer.Latch set) = false

@@ -15,8 +15,8 @@ use Rattle.sector_model.specs.Steps.{IsAbsent, IsLonger}
 use Rattle.sector_model.specs.Texts.{stop_lines, stop_status, bad_line_text, absent_text}
 use Rattle.sector_model.specs.Runs.{IsEndStop}
 use Rattle.sector_model.specs.Plays.{Prints, IsPutFault, IsText, most_job_bytes, whole_status}
-use Rattle.text_commands.specs.declared.ports.answer.Answer.{Answer}
-use Rattle.text_commands.specs.declared.ports.answer.Answer.TheVariants as answer
+use Rattle.text_commands.specs.declared.ports.answer.LineAnswer.{LineAnswer}
+use Rattle.text_commands.specs.declared.ports.answer.LineAnswer.TheVariants as answer
 use Rattle.text_commands.specs.Benches.{Bench, Names, bench_of}
 use Rattle.text_commands.specs.PortCourses.{Taken, PortRun, lines_of, course_lines, has_refusal, Ends, EndStopsAt}
 use Rattle.text_commands.specs.PortLines.{DoesLine, StopsAt, is_refusal}
@@ -35,7 +35,7 @@ world_of state files report machine names shelf out =
 
 -- a line was done and its answer printed whole; `refused` says whether the answer is a refusal
 pub record IsRound (asked : PortLine) (old : World) (refused : Bool) (new : World) : Type 0 where
-  pub answer : Answer
+  pub answer : LineAnswer
   pub does : DoesLine asked old.bench answer new.bench
   pub range : IsInRange new.bench.board
   pub report : new.report ≡ grown old.report (answer_lines asked answer)
@@ -45,7 +45,7 @@ pub record IsRound (asked : PortLine) (old : World) (refused : Bool) (new : Worl
 pub data Breaks (asked : PortLine) (old new : World) (ended : Status) : Type 0 where
   AtStop : (cause : Stop) → StopsAt asked old.bench cause new.bench
       → Prints (stop_lines cause) (stop_status cause) old.report new.report ended → Breaks asked old new ended
-  AtPut : (said : Answer) → said ≢ answer.Nothing → DoesLine asked old.bench said new.bench → IsInRange new.bench.board
+  AtPut : (said : LineAnswer) → said ≢ answer.Nothing → DoesLine asked old.bench said new.bench → IsInRange new.bench.board
       → GrowsByPart old.report (answer_lines asked said) new.report → IsPutFault ended → Breaks asked old new ended
 
 -- a line was done and its answer printed whole, or it broke off

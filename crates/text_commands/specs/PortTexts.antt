@@ -4,8 +4,8 @@ use Rattle.floppy_jobs.specs.Spelling.{hex_digit, hex2}
 use Rattle.floppy_jobs.specs.declared.ports.PortLine.{PortLine}
 use Rattle.floppy_jobs.specs.declared.ports.PortLine.TheVariants as line
 use Rattle.sector_model.specs.Texts.{reason_text, line_end}
-use Rattle.text_commands.specs.declared.ports.answer.Answer.{Answer}
-use Rattle.text_commands.specs.declared.ports.answer.Answer.TheVariants as answer
+use Rattle.text_commands.specs.declared.ports.answer.LineAnswer.{LineAnswer}
+use Rattle.text_commands.specs.declared.ports.answer.LineAnswer.TheVariants as answer
 
 -- a port in three hexadecimal digits, from 1000 on in four
 abbrev pub port_text : ℕ → List ℕ
@@ -29,7 +29,7 @@ latch_text false = codes "irq 0\n"
 
 -- the line for a line's answer, if it has one; where a medium was put in or taken out, or was not, it is that of a
 -- batch job
-unfoldable pub answer_lines : PortLine → Answer → List (List ℕ)
+unfoldable pub answer_lines : PortLine → LineAnswer → List (List ℕ)
 answer_lines asked answer.Nothing = []
 answer_lines asked (answer.Byte port value) = (codes "in " ++ (port_text port ++ (codes " " ++ (hex2 value ++ line_end)))) ∷ []
 answer_lines asked (answer.Latch set) = latch_text set ∷ []

@@ -9,4 +9,4 @@ mod ports;
 
 pub use calls::{calls_count, serve_calls};
 pub use jobs::play;
-pub use ports::{Answer, run_ports};
+pub use ports::{LineAnswer, run_ports};

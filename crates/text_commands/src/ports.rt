@@ -5,5 +5,5 @@ mod media;
 mod running;
 mod telling;
 
-pub use answer::Answer;
+pub use answer::LineAnswer;
 pub use running::run_ports;

@@ -7,8 +7,8 @@ use Rattle.flop_base.specs.declared.key.Chrn.{Chrn}
 use Rattle.track_model.specs.declared.symbol.Symbol.{Symbol}
 use Rattle.track_model.specs.declared.symbol.Symbol.TheVariants.{Byte, Key, Mark}
 use Rattle.track_model.specs.Layouts.{gap, sync, marks, check_symbols, field_symbols, before_sectors, address_content, data_content, sector_symbols, sectors_symbols, next_symbol}
-use Rattle.track_format.specs.declared.stream.Part.{Part}
-use Rattle.track_format.specs.declared.stream.Part.TheVariants.{Start, Address, Data, End}
+use Rattle.track_format.specs.declared.stream.TrackPart.{TrackPart}
+use Rattle.track_format.specs.declared.stream.TrackPart.TheVariants.{Start, Address, Data, End}
 use Rattle.track_format.specs.Streams.{GoesOn, AsksKey, KeyIs, IsInAddress, IsInData, HasSectors, IsInPart, words_of_part}
 use Rattle.track_format.proofs.Parts.{filler, check_of, length-field, in_sync, in_marks, in_symbols, in_high, in_low, in_gap}
 
@@ -192,7 +192,7 @@ address_not_asked key more left place short left_is outside =
 
 -- ---- the parts together
 
-pub left_some : (part : Part) (sectors size gap3 fill place check : ℕ) (left : List Symbol) → place < words_of_part part size gap3 → IsInPart part sectors size gap3 fill place check left → (part ≡ End → ⊥) → left ≡ [] → ⊥
+pub left_some : (part : TrackPart) (sectors size gap3 fill place check : ℕ) (left : List Symbol) → place < words_of_part part size gap3 → IsInPart part sectors size gap3 fill place check left → (part ≡ End → ⊥) → left ≡ [] → ⊥
 left_some Start sectors size gap3 fill place check left within h other =
     let short : place < length before_sectors = omega (arith, length-start) in
     not_empty before_sectors _ left place short h.left_is
@@ -204,13 +204,13 @@ left_some Data sectors size gap3 fill place check left within h other =
     not_empty (field_symbols (data_content size fill) gap3) _ left place short h.left_is
 left_some End sectors size gap3 fill place check left within h other = absurd (other refl)
 
-pub asked : (part : Part) (sectors size gap3 fill place check : ℕ) (left : List Symbol) → part ≡ Address → 15 < place → place < 20 → IsInPart part sectors size gap3 fill place check left → AsksKey left
+pub asked : (part : TrackPart) (sectors size gap3 fill place check : ℕ) (left : List Symbol) → part ≡ Address → 15 < place → place < 20 → IsInPart part sectors size gap3 fill place check left → AsksKey left
 asked Start sectors size gap3 fill place check left is low high h = absurd (cc is)
 asked Address sectors size gap3 fill place check left is low high h = address_asked h.key _ left place h.left_is low high
 asked Data sectors size gap3 fill place check left is low high h = absurd (cc is)
 asked End sectors size gap3 fill place check left is low high h = absurd (cc is)
 
-pub only_asked : (part : Part) (sectors size gap3 fill place check : ℕ) (left : List Symbol) → (part ≡ Address → 15 < place → place < 20 → ⊥) → place < words_of_part part size gap3 → IsInPart part sectors size gap3 fill place check left → AsksKey left → ⊥
+pub only_asked : (part : TrackPart) (sectors size gap3 fill place check : ℕ) (left : List Symbol) → (part ≡ Address → 15 < place → place < 20 → ⊥) → place < words_of_part part size gap3 → IsInPart part sectors size gap3 fill place check left → AsksKey left → ⊥
 only_asked Start sectors size gap3 fill place check left other within h =
     let short : place < length before_sectors = omega (arith, length-start) in
     not_asked before_sectors _ left place short h.left_is (no_keys-start place)
@@ -236,7 +236,7 @@ pub no_sector : (size gap3 fill : ℕ) (keys : List Chrn) (left : List Symbol) �
 no_sector size gap3 fill [] left count e = e ∙ sectors_nil size gap3 fill
 no_sector size gap3 fill (key ∷ keys) left count e = absurd (omega arith)
 
-pub behind_sector : (part : Part) (sectors size gap3 fill place check : ℕ) (left : List Symbol) → (part ≡ Address → ⊥) → (part ≡ End → ⊥) → words_of_part part size gap3 ≤ place + 1 → IsInPart part sectors size gap3 fill (place + 1) check left → HasSectors sectors size gap3 fill left
+pub behind_sector : (part : TrackPart) (sectors size gap3 fill place check : ℕ) (left : List Symbol) → (part ≡ Address → ⊥) → (part ≡ End → ⊥) → words_of_part part size gap3 ≤ place + 1 → IsInPart part sectors size gap3 fill (place + 1) check left → HasSectors sectors size gap3 fill left
 behind_sector Start sectors size gap3 fill place check left a b all h =
     let past : length before_sectors ≤ place + 1 = omega (arith, length-start) in
     (h.keys, h.count, behind_is before_sectors _ left (place + 1) past h.left_is)
@@ -246,7 +246,7 @@ behind_sector Data sectors size gap3 fill place check left a b all h =
     (h.keys, h.count, behind_is (field_symbols (data_content size fill) gap3) _ left (place + 1) past h.left_is)
 behind_sector End sectors size gap3 fill place check left a b all h = absurd (b refl)
 
-pub behind_address : (part : Part) (sectors size gap3 fill place check : ℕ) (left : List Symbol) → part ≡ Address → words_of_part part size gap3 ≤ place + 1 → IsInPart part sectors size gap3 fill (place + 1) check left → IsInData sectors size gap3 fill 0 check left
+pub behind_address : (part : TrackPart) (sectors size gap3 fill place check : ℕ) (left : List Symbol) → part ≡ Address → words_of_part part size gap3 ≤ place + 1 → IsInPart part sectors size gap3 fill (place + 1) check left → IsInData sectors size gap3 fill 0 check left
 behind_address Start sectors size gap3 fill place check left is all h = absurd (cc is)
 behind_address Address sectors size gap3 fill place check left is all h =
     let past : length (field_symbols (address_content h.key) 22) ≤ place + 1 = omega (arith, length-address h.key) in
@@ -259,7 +259,7 @@ behind_address Address sectors size gap3 fill place check left is all h =
 behind_address Data sectors size gap3 fill place check left is all h = absurd (cc is)
 behind_address End sectors size gap3 fill place check left is all h = absurd (cc is)
 
-pub at_end : (part : Part) (sectors size gap3 fill place check : ℕ) (left : List Symbol) → part ≡ End → IsInPart part sectors size gap3 fill place check left → left ≡ []
+pub at_end : (part : TrackPart) (sectors size gap3 fill place check : ℕ) (left : List Symbol) → part ≡ End → IsInPart part sectors size gap3 fill place check left → left ≡ []
 at_end Start sectors size gap3 fill place check left is h = absurd (cc is)
 at_end Address sectors size gap3 fill place check left is h = absurd (cc is)
 at_end Data sectors size gap3 fill place check left is h = absurd (cc is)
@@ -282,7 +282,7 @@ IsCheckBehind result place count symbol check =
     → symbol ≡ get_or (field_symbols symbols behind) place filler
     → GoesOn place check symbols → GoesOn (place + 1) result symbols
 
-pub symbol_in_start : (part : Part) (sectors size gap3 fill place check : ℕ) (left : List Symbol) (result : Symbol) → part ≡ Start → place < words_of_part part size gap3 → IsInPart part sectors size gap3 fill place check left → result ≡ get_or before_sectors place filler → result ≡ next_symbol left
+pub symbol_in_start : (part : TrackPart) (sectors size gap3 fill place check : ℕ) (left : List Symbol) (result : Symbol) → part ≡ Start → place < words_of_part part size gap3 → IsInPart part sectors size gap3 fill place check left → result ≡ get_or before_sectors place filler → result ≡ next_symbol left
 symbol_in_start Start sectors size gap3 fill place check left result is within h e =
     let short : place < length before_sectors = omega (arith, length-start) in
     e ∙ sym (first_is before_sectors _ left place short h.left_is)
@@ -290,7 +290,7 @@ symbol_in_start Address sectors size gap3 fill place check left result is within
 symbol_in_start Data sectors size gap3 fill place check left result is within h e = absurd (cc is)
 symbol_in_start End sectors size gap3 fill place check left result is within h e = absurd (cc is)
 
-pub symbol_in_address : (part : Part) (sectors size gap3 fill place check byte : ℕ) (left : List Symbol) (inner result : Symbol) → part ≡ Address → place < words_of_part part size gap3 → IsInPart part sectors size gap3 fill place check left → KeyIs left byte → ((place ≡ 15) × (inner ≡ Byte 0xFE)) ⊎ ((place ≡ 15 → ⊥) × (inner ≡ Key byte)) → IsFieldSymbol result place 5 inner check → result ≡ next_symbol left
+pub symbol_in_address : (part : TrackPart) (sectors size gap3 fill place check byte : ℕ) (left : List Symbol) (inner result : Symbol) → part ≡ Address → place < words_of_part part size gap3 → IsInPart part sectors size gap3 fill place check left → KeyIs left byte → ((place ≡ 15) × (inner ≡ Byte 0xFE)) ⊎ ((place ≡ 15 → ⊥) × (inner ≡ Key byte)) → IsFieldSymbol result place 5 inner check → result ≡ next_symbol left
 symbol_in_address Start sectors size gap3 fill place check byte left inner result is within h key cases e = absurd (cc is)
 symbol_in_address Address sectors size gap3 fill place check byte left inner result is within h key cases e =
     let field = field_symbols (address_content h.key) 22 in
@@ -306,7 +306,7 @@ symbol_in_address Address sectors size gap3 fill place check byte left inner res
 symbol_in_address Data sectors size gap3 fill place check byte left inner result is within h key cases e = absurd (cc is)
 symbol_in_address End sectors size gap3 fill place check byte left inner result is within h key cases e = absurd (cc is)
 
-pub symbol_in_data : (part : Part) (sectors size gap3 fill place check count inner : ℕ) (left : List Symbol) (result : Symbol) → part ≡ Data → count ≡ size + 1 → place < words_of_part part size gap3 → IsInPart part sectors size gap3 fill place check left → ((place ≡ 15) × (inner ≡ 0xFB)) ⊎ ((place ≡ 15 → ⊥) × (inner ≡ fill)) → IsFieldSymbol result place count (Byte inner) check → result ≡ next_symbol left
+pub symbol_in_data : (part : TrackPart) (sectors size gap3 fill place check count inner : ℕ) (left : List Symbol) (result : Symbol) → part ≡ Data → count ≡ size + 1 → place < words_of_part part size gap3 → IsInPart part sectors size gap3 fill place check left → ((place ≡ 15) × (inner ≡ 0xFB)) ⊎ ((place ≡ 15 → ⊥) × (inner ≡ fill)) → IsFieldSymbol result place count (Byte inner) check → result ≡ next_symbol left
 symbol_in_data Start sectors size gap3 fill place check count inner left result is counted within h cases e = absurd (cc is)
 symbol_in_data Address sectors size gap3 fill place check count inner left result is counted within h cases e = absurd (cc is)
 symbol_in_data Data sectors size gap3 fill place check count inner left result is counted within h cases e =
@@ -322,7 +322,7 @@ symbol_in_data Data sectors size gap3 fill place check count inner left result i
     ∙ sym (first_is field _ left place short h.left_is)
 symbol_in_data End sectors size gap3 fill place check count inner left result is counted within h cases e = absurd (cc is)
 
-pub check_in_address : (part : Part) (sectors size gap3 fill place check : ℕ) (left : List Symbol) (symbol : Symbol) (result : ℕ) → part ≡ Address → place < words_of_part part size gap3 → IsInPart part sectors size gap3 fill place check left → symbol ≡ next_symbol left → IsCheckBehind result place 5 symbol check → IsInPart part sectors size gap3 fill (place + 1) result (drop 1 left)
+pub check_in_address : (part : TrackPart) (sectors size gap3 fill place check : ℕ) (left : List Symbol) (symbol : Symbol) (result : ℕ) → part ≡ Address → place < words_of_part part size gap3 → IsInPart part sectors size gap3 fill place check left → symbol ≡ next_symbol left → IsCheckBehind result place 5 symbol check → IsInPart part sectors size gap3 fill (place + 1) result (drop 1 left)
 check_in_address Start sectors size gap3 fill place check left symbol result is within h next e = absurd (cc is)
 check_in_address Address sectors size gap3 fill place check left symbol result is within h next e =
     let field = field_symbols (address_content h.key) 22 in
@@ -337,7 +337,7 @@ check_in_address Address sectors size gap3 fill place check left symbol result i
 check_in_address Data sectors size gap3 fill place check left symbol result is within h next e = absurd (cc is)
 check_in_address End sectors size gap3 fill place check left symbol result is within h next e = absurd (cc is)
 
-pub check_in_data : (part : Part) (sectors size gap3 fill place check count : ℕ) (left : List Symbol) (symbol : Symbol) (result : ℕ) → part ≡ Data → count ≡ size + 1 → place < words_of_part part size gap3 → IsInPart part sectors size gap3 fill place check left → symbol ≡ next_symbol left → IsCheckBehind result place count symbol check → IsInPart part sectors size gap3 fill (place + 1) result (drop 1 left)
+pub check_in_data : (part : TrackPart) (sectors size gap3 fill place check count : ℕ) (left : List Symbol) (symbol : Symbol) (result : ℕ) → part ≡ Data → count ≡ size + 1 → place < words_of_part part size gap3 → IsInPart part sectors size gap3 fill place check left → symbol ≡ next_symbol left → IsCheckBehind result place count symbol check → IsInPart part sectors size gap3 fill (place + 1) result (drop 1 left)
 check_in_data Start sectors size gap3 fill place check count left symbol result is counted within h next e = absurd (cc is)
 check_in_data Address sectors size gap3 fill place check count left symbol result is counted within h next e = absurd (cc is)
 check_in_data Data sectors size gap3 fill place check count left symbol result is counted within h next e =
@@ -351,7 +351,7 @@ check_in_data Data sectors size gap3 fill place check count left symbol result i
     }
 check_in_data End sectors size gap3 fill place check count left symbol result is counted within h next e = absurd (cc is)
 
-pub check_in_others : (part : Part) (sectors size gap3 fill place check : ℕ) (left : List Symbol) → (part ≡ Start) ⊎ (part ≡ End) → place < words_of_part part size gap3 → IsInPart part sectors size gap3 fill place check left → IsInPart part sectors size gap3 fill (place + 1) check (drop 1 left)
+pub check_in_others : (part : TrackPart) (sectors size gap3 fill place check : ℕ) (left : List Symbol) → (part ≡ Start) ⊎ (part ≡ End) → place < words_of_part part size gap3 → IsInPart part sectors size gap3 fill place check left → IsInPart part sectors size gap3 fill (place + 1) check (drop 1 left)
 check_in_others Start sectors size gap3 fill place check left is within h =
     let short : place < length before_sectors = omega (arith, length-start) in
     record { keys = h.keys; count = h.count; left_is = rest_is before_sectors _ left place short h.left_is }
@@ -359,14 +359,14 @@ check_in_others Address sectors size gap3 fill place check left is within h = ab
 check_in_others Data sectors size gap3 fill place check left is within h = absurd (elim is [ inl e ↦ cc e | inr e ↦ cc e ])
 check_in_others End sectors size gap3 fill place check left is within h = ap (drop 1) h
 
-pub behind_start_or_data : (part : Part) (sectors size gap3 fill place check : ℕ) (left : List Symbol) → (part ≡ Start) ⊎ (part ≡ Data) → words_of_part part size gap3 ≤ place + 1 → IsInPart part sectors size gap3 fill (place + 1) check left → HasSectors sectors size gap3 fill left
+pub behind_start_or_data : (part : TrackPart) (sectors size gap3 fill place check : ℕ) (left : List Symbol) → (part ≡ Start) ⊎ (part ≡ Data) → words_of_part part size gap3 ≤ place + 1 → IsInPart part sectors size gap3 fill (place + 1) check left → HasSectors sectors size gap3 fill left
 behind_start_or_data part sectors size gap3 fill place check left is all h =
     behind_sector part sectors size gap3 fill place check left
     (λ e. elim is [ inl f ↦ let g = sym f ∙ e in cc g | inr f ↦ let g = sym f ∙ e in cc g ])
     (λ e. elim is [ inl f ↦ let g = sym f ∙ e in cc g | inr f ↦ let g = sym f ∙ e in cc g ])
     all h
 
-pub needs_in_address : (test : Bool) (part : Part) (sectors size gap3 fill place check : ℕ) (left : List Symbol) → part ≡ Address → (IsTrue test ↔ (15 < place) × (place < 20)) → place < words_of_part part size gap3 → IsInPart part sectors size gap3 fill place check left → IsTrue test ↔ AsksKey left
+pub needs_in_address : (test : Bool) (part : TrackPart) (sectors size gap3 fill place check : ℕ) (left : List Symbol) → part ≡ Address → (IsTrue test ↔ (15 < place) × (place < 20)) → place < words_of_part part size gap3 → IsInPart part sectors size gap3 fill place check left → IsTrue test ↔ AsksKey left
 needs_in_address test part sectors size gap3 fill place check left is says within h = (
   λ e. asked part sectors size gap3 fill place check left is (says.0 e).0 (says.0 e).1 h,
   λ asks.
@@ -380,7 +380,7 @@ needs_in_address test part sectors size gap3 fill place check left is says withi
       ],
 )
 
-pub needs_not : (part : Part) (sectors size gap3 fill place check : ℕ) (left : List Symbol) → (part ≡ Address → ⊥) → place < words_of_part part size gap3 → IsInPart part sectors size gap3 fill place check left → IsTrue false ↔ AsksKey left
+pub needs_not : (part : TrackPart) (sectors size gap3 fill place check : ℕ) (left : List Symbol) → (part ≡ Address → ⊥) → place < words_of_part part size gap3 → IsInPart part sectors size gap3 fill place check left → IsTrue false ↔ AsksKey left
 needs_not part sectors size gap3 fill place check left other within h = (
   λ e. absurd (false≢true e),
   λ asks. absurd (only_asked part sectors size gap3 fill place check left (λ address above below. other address) within h asks),

@@ -1,12 +1,12 @@
 -- The bytes of a layout that is saved.
 use Rattle.std.specs.Prelude.{ℕ, List, ◌∷◌}
 use Rattle.saved_state.specs.Saved.{spelled_byte, spelled_count, spelled_flag, spelled_word}
-use Rattle.track_format.specs.declared.stream.Part.{Part}
-use Rattle.track_format.specs.declared.stream.Part.TheVariants.{Start, Address, Data, End}
+use Rattle.track_format.specs.declared.stream.TrackPart.{TrackPart}
+use Rattle.track_format.specs.declared.stream.TrackPart.TheVariants.{Start, Address, Data, End}
 use Rattle.track_format.specs.declared.stream.FormatStream.{FormatStream}
 
 -- a part of a track
-unfoldable pub spelled_part : Part → List ℕ → List ℕ
+unfoldable pub spelled_part : TrackPart → List ℕ → List ℕ
 spelled_part Start rest = 0 ∷ rest
 spelled_part Address rest = 1 ∷ rest
 spelled_part Data rest = 2 ∷ rest

@@ -6,8 +6,8 @@ use Rattle.track_model.specs.declared.symbol.Symbol.TheVariants.{Key}
 use Rattle.track_model.specs.Crc.{crc, crc_from}
 use Rattle.track_model.specs.Fields.{after_marks}
 use Rattle.track_model.specs.Layouts.{gap, symbol_byte, before_sectors, field_symbols, address_content, data_content, sectors_symbols, next_symbol}
-use Rattle.track_format.specs.declared.stream.Part.{Part}
-use Rattle.track_format.specs.declared.stream.Part.TheVariants.{Start, Address, Data, End}
+use Rattle.track_format.specs.declared.stream.TrackPart.{TrackPart}
+use Rattle.track_format.specs.declared.stream.TrackPart.TheVariants.{Start, Address, Data, End}
 use Rattle.track_format.specs.declared.stream.FormatStream.{FormatStream}
 
 -- from the first byte of a field on, the CRC so far goes on over the bytes that are left, and comes to the field's CRC
@@ -44,14 +44,14 @@ pub record IsInData (sectors size gap3 fill given check : ℕ) (left : List Symb
   pub left_is : left ≡ drop given (field_symbols (data_content size fill) gap3) ++ sectors_symbols size gap3 fill keys
 
 -- so many words of a part of the track were given, and these symbols are left
-abbrev pub IsInPart : Part → ℕ → ℕ → ℕ → ℕ → ℕ → ℕ → List Symbol → Type 0
+abbrev pub IsInPart : TrackPart → ℕ → ℕ → ℕ → ℕ → ℕ → ℕ → List Symbol → Type 0
 IsInPart Start sectors size gap3 fill given check left = IsInStart sectors size gap3 fill given left
 IsInPart Address sectors size gap3 fill given check left = IsInAddress sectors size gap3 fill given check left
 IsInPart Data sectors size gap3 fill given check left = IsInData sectors size gap3 fill given check left
 IsInPart End sectors size gap3 fill given check left = left ≡ []
 
 -- how many words a part has; gap 4b is given one word at a time, so it counts as one word
-abbrev pub words_of_part : Part → ℕ → ℕ → ℕ
+abbrev pub words_of_part : TrackPart → ℕ → ℕ → ℕ
 words_of_part Start size gap3 = 146
 words_of_part Address size gap3 = 44
 words_of_part Data size gap3 = 18 + size + gap3

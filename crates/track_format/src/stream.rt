@@ -26,7 +26,7 @@ const ADDRESS_BYTES: usize = 5;
 
 /// The parts of a track.
 #[derive(Clone, Copy)]
-enum Part {
+enum TrackPart {
     /// Before the first sector.
     Start,
     /// An address field and gap 2.
@@ -47,7 +47,7 @@ pub struct FormatStream {
     fill: u8,
     // the sectors that haven't begun
     sectors: usize,
-    part: Part,
+    part: TrackPart,
     // how many words of the part were given
     place: usize,
     // the CRC of the field so far
@@ -79,7 +79,7 @@ impl FormatStream {
             gap3,
             fill,
             sectors,
-            part: Part::Start,
+            part: TrackPart::Start,
             place: 0,
             check: 0,
             last: false,
@@ -92,7 +92,7 @@ impl FormatStream {
             → IsTrue result ↔ AsksKey left }
     {
         match self.part {
-            Part::Address => is_key_place(self.place),
+            TrackPart::Address => is_key_place(self.place),
             _ => false,
         }
     }
@@ -102,7 +102,7 @@ impl FormatStream {
         ensures { (last : Bool) (left : List Symbol) → Gives self.now last left
             → IsTrue result ↔ left ≡ [] }
     {
-        matches!(self.part, Part::End)
+        matches!(self.part, TrackPart::End)
     }
 
     /// The next word. If `needs_byte` says that a byte is needed, the word records `byte`; otherwise `byte` isn't used.
@@ -126,8 +126,8 @@ impl FormatStream {
     {
         let is_first = self.place == FIELD_START;
         match self.part {
-            Part::Start => start_symbol(self.place),
-            Part::Address => {
+            TrackPart::Start => start_symbol(self.place),
+            TrackPart::Address => {
                 let inner = if is_first {
                     Symbol::Byte(0xFE)
                 } else {
@@ -135,11 +135,11 @@ impl FormatStream {
                 };
                 field_symbol(self.place, ADDRESS_BYTES, inner, self.check)
             }
-            Part::Data => {
+            TrackPart::Data => {
                 let inner = Symbol::Byte(if is_first { 0xFB } else { self.fill });
                 field_symbol(self.place, usize::from(self.size) + 1, inner, self.check)
             }
-            Part::End => GAP,
+            TrackPart::End => GAP,
         }
     }
 
@@ -151,9 +151,14 @@ impl FormatStream {
             (self.now.place + 1) result (drop 1 left) }
     {
         match self.part {
-            Part::Address => check_behind(self.place, ADDRESS_BYTES, symbol, self.check),
-            Part::Data => check_behind(self.place, usize::from(self.size) + 1, symbol, self.check),
-            Part::Start | Part::End => self.check,
+            TrackPart::Address => check_behind(self.place, ADDRESS_BYTES, symbol, self.check),
+            TrackPart::Data => check_behind(
+                self.place,
+                usize::from(self.size) + 1,
+                symbol,
+                self.check,
+            ),
+            TrackPart::Start | TrackPart::End => self.check,
         }
     }
 
@@ -163,10 +168,10 @@ impl FormatStream {
         ensures some { 1 ≤ result }
     {
         match self.part {
-            Part::Start => START_WORDS,
-            Part::Address => ADDRESS_WORDS,
-            Part::Data => DATA_WORDS + usize::from(self.size) + usize::from(self.gap3),
-            Part::End => 1,
+            TrackPart::Start => START_WORDS,
+            TrackPart::Address => ADDRESS_WORDS,
+            TrackPart::Data => DATA_WORDS + usize::from(self.size) + usize::from(self.gap3),
+            TrackPart::End => 1,
         }
     }
 
@@ -184,9 +189,9 @@ impl FormatStream {
         }
         self.place = 0;
         match self.part {
-            Part::Address => self.part = Part::Data,
-            Part::Start | Part::Data => self.begin_sector(),
-            Part::End => {}
+            TrackPart::Address => self.part = TrackPart::Data,
+            TrackPart::Start | TrackPart::Data => self.begin_sector(),
+            TrackPart::End => {}
         }
     }
 
@@ -197,10 +202,10 @@ impl FormatStream {
             → Gives self.new self.old.last left }
     {
         if self.sectors == 0 {
-            self.part = Part::End;
+            self.part = TrackPart::End;
         } else {
             self.sectors -= 1;
-            self.part = Part::Address;
+            self.part = TrackPart::Address;
         }
     }
 }

@@ -3,7 +3,7 @@ ghost use Rattle.std.specs.Prelude.{◌≡◌, ◌≤◌, ◌<◌};
 ghost use Rattle.track_separator.specs.Stages.{size_in, since_in};
 
 use crate::state::{Separator, Stage};
-use saved_state::{Saved, Sink, Source};
+use saved_state::{Saved, SavedBytes, Source};
 
 impl Saved for Stage {
     ghost use Rattle.std.specs.Prelude.{⊤};
@@ -14,7 +14,7 @@ impl Saved for Stage {
     ghost Fits = { λ _. ⊤ };
 
     #[tactic(auto, unfolding(crate::specs::Saving::spelled_stage))]
-    fn save(&self, to: &mut Sink) {
+    fn save(&self, to: &mut SavedBytes) {
         match *self {
             Stage::Hunting => to.byte(0),
             Stage::Reading { bytes } => {
@@ -113,7 +113,7 @@ impl Saved for Separator {
     ghost Fits = { λ _. ⊤ };
 
     #[tactic(auto, unfolding(crate::specs::Saving::spelled_separator))]
-    fn save(&self, to: &mut Sink) {
+    fn save(&self, to: &mut SavedBytes) {
         self.cells.save(to);
         self.back.save(to);
         self.stage.save(to);

@@ -4,7 +4,7 @@ use crate::cable::load_cable;
 use crate::map::TrackMap;
 use drive_model::ScriptDrive;
 use flop_base::NoMemory;
-use saved_state::{Saved, SavedWhole, Sink, Source};
+use saved_state::{Saved, SavedBytes, SavedWhole, Source};
 use std::alloc::Global;
 
 impl SavedWhole for BayDrive {
@@ -14,7 +14,7 @@ impl SavedWhole for BayDrive {
 
     ghost Fits = { BayFits };
 
-    fn save(&self, alloc: Global, to: &mut Sink) {
+    fn save(&self, alloc: Global, to: &mut SavedBytes) {
         self.is_attached().save(to);
         self.inside.save(alloc, to);
         self.replaced.save(to);

@@ -2,7 +2,7 @@
 ghost use Rattle.c_bay_drive.specs.Saving.{GivesCable};
 
 use super::Pulled;
-use saved_state::{Saved, Sink, Source};
+use saved_state::{Saved, SavedBytes, Source};
 
 impl Saved for Pulled {
     ghost use Rattle.std.specs.Prelude.{⊤};
@@ -12,7 +12,7 @@ impl Saved for Pulled {
 
     ghost Fits = { λ _. ⊤ };
 
-    fn save(&self, to: &mut Sink) {
+    fn save(&self, to: &mut SavedBytes) {
         self.change.save(to);
         self.lost.save(to);
     }

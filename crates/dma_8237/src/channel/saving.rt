@@ -1,6 +1,6 @@
 // A channel as bytes.
 use super::Dma;
-use saved_state::{Saved, Sink, Source};
+use saved_state::{Saved, SavedBytes, Source};
 
 impl Saved for Dma {
     ghost use Rattle.std.specs.Prelude.{⊤};
@@ -10,7 +10,7 @@ impl Saved for Dma {
 
     ghost Fits = { λ _. ⊤ };
 
-    fn save(&self, to: &mut Sink) {
+    fn save(&self, to: &mut SavedBytes) {
         self.base_address.save(to);
         self.address.save(to);
         self.base_count.save(to);

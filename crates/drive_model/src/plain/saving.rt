@@ -2,7 +2,7 @@
 use super::PlainDrive;
 use crate::mechanics::Mechanics;
 use flop_base::NoMemory;
-use saved_state::{SavedWhole, Sink, Source};
+use saved_state::{SavedBytes, SavedWhole, Source};
 use std::alloc::Global;
 
 impl SavedWhole for PlainDrive {
@@ -13,7 +13,7 @@ impl SavedWhole for PlainDrive {
 
     ghost Fits = { λ _. ⊤ };
 
-    fn save(&self, alloc: Global, to: &mut Sink) {
+    fn save(&self, alloc: Global, to: &mut SavedBytes) {
         self.mechanics.save(alloc, to);
     }
 

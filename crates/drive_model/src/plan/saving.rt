@@ -2,7 +2,7 @@
 use super::Plan;
 use crate::Fault;
 use flop_base::NoMemory;
-use saved_state::{SavedWhole, Sink, Source, load_list, save_list};
+use saved_state::{SavedBytes, SavedWhole, Source, load_list, save_list};
 use std::alloc::Global;
 
 impl SavedWhole for Plan {
@@ -13,7 +13,7 @@ impl SavedWhole for Plan {
 
     ghost Fits = { λ _. ⊤ };
 
-    fn save(&self, alloc: Global, to: &mut Sink) {
+    fn save(&self, alloc: Global, to: &mut SavedBytes) {
         save_list(&self.faults, to);
     }
 

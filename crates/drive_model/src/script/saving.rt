@@ -3,7 +3,7 @@ use super::ScriptDrive;
 use crate::mechanics::Mechanics;
 use crate::plan::Plan;
 use flop_base::NoMemory;
-use saved_state::{Saved, SavedWhole, Sink, Source};
+use saved_state::{Saved, SavedBytes, SavedWhole, Source};
 use std::alloc::Global;
 
 impl SavedWhole for ScriptDrive {
@@ -14,7 +14,7 @@ impl SavedWhole for ScriptDrive {
 
     ghost Fits = { λ _. ⊤ };
 
-    fn save(&self, alloc: Global, to: &mut Sink) {
+    fn save(&self, alloc: Global, to: &mut SavedBytes) {
         self.mechanics.save(alloc, to);
         self.plan.save(alloc, to);
         self.faults.save(to);

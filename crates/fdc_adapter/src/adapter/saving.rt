@@ -3,7 +3,7 @@ use super::DisketteAdapter;
 use crate::rates::word_time_of;
 use fdc_core::Fdc;
 use flop_base::NoMemory;
-use saved_state::{SavedWhole, Sink, Source};
+use saved_state::{SavedBytes, SavedWhole, Source};
 use std::alloc::Global;
 
 impl<D: SavedWhole + Drop> SavedWhole for DisketteAdapter<D> {
@@ -14,7 +14,7 @@ impl<D: SavedWhole + Drop> SavedWhole for DisketteAdapter<D> {
     ghost Fits = { AdapterFits D.Fits };
 
     #[tactic(auto, unfolding(crate::specs::Saving::spelled_adapter))]
-    fn save(&self, alloc: Global, to: &mut Sink) {
+    fn save(&self, alloc: Global, to: &mut SavedBytes) {
         self.controller.save(alloc, to);
         self.first.save(alloc, to);
         self.second.save(alloc, to);

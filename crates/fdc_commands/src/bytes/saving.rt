@@ -1,7 +1,7 @@
 // The bytes of a command that has begun, as they are saved.
 use super::CommandBytes;
 use crate::command::LONGEST;
-use saved_state::{Saved, Sink, Source, load_bytes, save_bytes};
+use saved_state::{Saved, SavedBytes, Source, load_bytes, save_bytes};
 
 impl Saved for CommandBytes {
     ghost use Rattle.saved_state.specs.Saved.{spelled_bytes};
@@ -11,7 +11,7 @@ impl Saved for CommandBytes {
 
     ghost Fits = { IsPart };
 
-    fn save(&self, to: &mut Sink) {
+    fn save(&self, to: &mut SavedBytes) {
         save_bytes(&self.bytes[..self.count], to);
     }
 

@@ -1,6 +1,6 @@
 // Seeks as bytes.
 use crate::{Motion, Seek};
-use saved_state::{Saved, Sink, Source};
+use saved_state::{Saved, SavedBytes, Source};
 
 impl Saved for Motion {
     ghost use Rattle.std.specs.Prelude.{⊤};
@@ -11,7 +11,7 @@ impl Saved for Motion {
     ghost Fits = { λ _. ⊤ };
 
     #[tactic(auto, unfolding(crate::specs::Saving::spelled_motion))]
-    fn save(&self, to: &mut Sink) {
+    fn save(&self, to: &mut SavedBytes) {
         match *self {
             Motion::Outward { pulses } => {
                 to.byte(0);
@@ -52,7 +52,7 @@ impl Saved for Seek {
     ghost Fits = { λ _. ⊤ };
 
     #[tactic(auto, unfolding(crate::specs::Saving::spelled_seek))]
-    fn save(&self, to: &mut Sink) {
+    fn save(&self, to: &mut SavedBytes) {
         self.drive.save(to);
         self.motion.save(to);
     }

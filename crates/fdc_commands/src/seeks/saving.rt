@@ -5,7 +5,7 @@ ghost use Rattle.fdc_commands.specs.Seeking.{IsMotion};
 
 use super::Seeks;
 use crate::Seek;
-use saved_state::{Saved, Sink, Source, load_four, save_four};
+use saved_state::{Saved, SavedBytes, Source, load_four, save_four};
 
 /// The seek, if its drive is one of four and its number of pulses is one that a seek may give; or else none.
 fn limited(seek: Option<Seek>) -> Option<Seek>
@@ -29,7 +29,7 @@ impl Saved for Seeks {
     ghost Fits = { InRange };
 
     #[tactic(auto, unfolding(crate::specs::Saving::spelled_seeking))]
-    fn save(&self, to: &mut Sink) {
+    fn save(&self, to: &mut SavedBytes) {
         save_four(&self.cylinders, to);
         self.seek.save(to);
         save_four(&self.pending, to);

@@ -5,7 +5,7 @@ ghost use Rattle.fdc_registers.specs.Fifo.{room_of};
 
 use super::{DEPTH, Fifo};
 use flop_base::NoMemory;
-use saved_state::{Saved, SavedWhole, Sink, Source, load_bytes};
+use saved_state::{Saved, SavedBytes, SavedWhole, Source, load_bytes};
 use std::alloc::Global;
 
 /// The threshold, if it is from 1 to 16, or else 1.
@@ -24,7 +24,7 @@ fn limited(threshold: u8) -> u8
 impl Fifo {
     /// Writes the bytes that the FIFO holds: first their number, then the bytes.
     #[tactic(auto, unfolding(saved_state::specs::Saved::spelled_bytes))]
-    fn save_content(&self, to: &mut Sink)
+    fn save_content(&self, to: &mut SavedBytes)
         ensures { Adds (spelled_bytes self.now.bytes) to.old to.new }
     {
         self.bytes.len().save(to);
@@ -51,7 +51,7 @@ impl SavedWhole for Fifo {
     ghost Fits = { IsFifo };
 
     #[tactic(auto, unfolding(crate::specs::Saving::spelled_fifo))]
-    fn save(&self, _alloc: Global, to: &mut Sink) {
+    fn save(&self, _alloc: Global, to: &mut SavedBytes) {
         self.on.save(to);
         self.threshold.save(to);
         self.save_content(to);

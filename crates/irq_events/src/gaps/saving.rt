@@ -2,7 +2,7 @@
 use super::Gaps;
 use crate::queues::save_bytes_left;
 use flop_base::NoMemory;
-use saved_state::{SavedWhole, Sink, Source, load_bytes};
+use saved_state::{SavedBytes, SavedWhole, Source, load_bytes};
 use std::alloc::Global;
 
 impl SavedWhole for Gaps {
@@ -13,7 +13,7 @@ impl SavedWhole for Gaps {
 
     ghost Fits = { λ _. ⊤ };
 
-    fn save(&self, _alloc: Global, to: &mut Sink) {
+    fn save(&self, _alloc: Global, to: &mut SavedBytes) {
         save_bytes_left(&self.entries, to);
     }
 

@@ -2,7 +2,7 @@
 use super::{DmaRequest, Holding};
 use crate::queues::save_bytes_left;
 use flop_base::NoMemory;
-use saved_state::{Saved, SavedWhole, Sink, Source, load_bytes};
+use saved_state::{Saved, SavedBytes, SavedWhole, Source, load_bytes};
 use std::alloc::Global;
 use std::collections::VecDeque;
 
@@ -14,7 +14,7 @@ impl Saved for DmaRequest {
 
     ghost Fits = { λ _. ⊤ };
 
-    fn save(&self, to: &mut Sink) {
+    fn save(&self, to: &mut SavedBytes) {
         match *self {
             DmaRequest::Low => to.byte(0),
             DmaRequest::High { left } => {
@@ -43,7 +43,7 @@ impl SavedWhole for Holding {
 
     ghost Fits = { λ _. ⊤ };
 
-    fn save(&self, _alloc: Global, to: &mut Sink) {
+    fn save(&self, _alloc: Global, to: &mut SavedBytes) {
         save_bytes_left(&self.entries, to);
         self.request.save(to);
         self.stalls.save(to);

@@ -1,6 +1,6 @@
 // A latch as bytes.
 use super::IrqLatch;
-use saved_state::{Saved, Sink, Source};
+use saved_state::{Saved, SavedBytes, Source};
 
 impl Saved for IrqLatch {
     ghost use Rattle.std.specs.Prelude.{⊤};
@@ -10,7 +10,7 @@ impl Saved for IrqLatch {
 
     ghost Fits = { λ _. ⊤ };
 
-    fn save(&self, to: &mut Sink) {
+    fn save(&self, to: &mut SavedBytes) {
         self.set.save(to);
         self.level.save(to);
     }

@@ -2,7 +2,7 @@
 use super::Strays;
 use crate::queues::save_words_left;
 use flop_base::NoMemory;
-use saved_state::{Saved, SavedWhole, Sink, Source, load_list};
+use saved_state::{Saved, SavedBytes, SavedWhole, Source, load_list};
 use std::alloc::Global;
 
 impl SavedWhole for Strays {
@@ -14,7 +14,7 @@ impl SavedWhole for Strays {
     ghost Fits = { λ _. ⊤ };
 
     #[tactic(auto, unfolding(saved_state::specs::Saved::spelled_list))]
-    fn save(&self, _alloc: Global, to: &mut Sink) {
+    fn save(&self, _alloc: Global, to: &mut SavedBytes) {
         match self.next {
             None => to.byte(0),
             Some(steps) => {

@@ -2,7 +2,7 @@
 use super::Memory;
 use dma_8237::MEMORY_SIZE;
 use flop_base::NoMemory;
-use saved_state::{SavedWhole, Sink, Source, load_bytes, save_bytes};
+use saved_state::{SavedBytes, SavedWhole, Source, load_bytes, save_bytes};
 use std::alloc::Global;
 
 impl SavedWhole for Memory {
@@ -12,7 +12,7 @@ impl SavedWhole for Memory {
 
     ghost Fits = { MemoryFits };
 
-    fn save(&self, _alloc: Global, to: &mut Sink) {
+    fn save(&self, _alloc: Global, to: &mut SavedBytes) {
         save_bytes(&self.bytes, to);
     }
 

@@ -5,15 +5,15 @@ use Rattle.fdc_adapter.specs.declared.adapter.DisketteAdapter.{DisketteAdapter}
 use Rattle.fdc_chip.specs.Interrupts.{AreFour, Interrupting}
 use Rattle.fdc_chip.specs.Saving as chips
 use Rattle.fdc_chip.specs.Saving.{ChipFits, spelled_answer, spelled_chip, spelled_interrupts, spelled_order, spelled_pace, spelled_place, spelled_registers, spelled_settings, spelled_task, spelled_track}
-use Rattle.fdc_chip.specs.declared.answer.Answer.TheVariants as answers
+use Rattle.fdc_chip.specs.declared.answer.ChipAnswer.TheVariants as answers
 use Rattle.fdc_chip.specs.declared.chip.Chip.{Chip}
 use Rattle.fdc_chip.specs.declared.stage.Place.TheVariants as places
-use Rattle.fdc_chip.specs.declared.stage.Stage.TheVariants as stages
-use Rattle.fdc_chip.specs.declared.stage.Task.TheVariants as tasks
+use Rattle.fdc_chip.specs.declared.stage.ChipStage.TheVariants as stages
+use Rattle.fdc_chip.specs.declared.stage.ChipTask.TheVariants as tasks
 use Rattle.fdc_sequencer.specs.Saving.{SequencerFits, spelled_moving, spelled_opcode, spelled_operation, spelled_sequencer, spelled_stage, spelled_transfer}
 use Rattle.fdc_sequencer.specs.declared.opcode.Operation.TheVariants.{Read, Write}
 use Rattle.fdc_sequencer.specs.declared.sequencer.Sequencer.{Sequencer}
-use Rattle.fdc_sequencer.specs.declared.stage.Stage.TheVariants.{Through, Collecting, Seeking, Moving, Telling}
+use Rattle.fdc_sequencer.specs.declared.stage.FrontStage.TheVariants.{Through, Collecting, Seeking, Moving, Telling}
 use Rattle.saved_state.specs.Saved.{spelled_bytes, spelled_byte, spelled_each, spelled_flag, spelled_option, spelled_word}
 use Rattle.telwyddus_c.proofs.Lengths.Bytes.{HasMost, length-byte, length-bytes, length-double, length-each, length-flag, length-key, length-word, most-byte, most-each, most-option}
 use Rattle.telwyddus_c.proofs.Lengths.Fdcs.{most-fdc, most-results}

@@ -4,8 +4,8 @@ use Rattle.track_separator.specs.Saving.{spelled_stage, spelled_separator}
 use Rattle.track_separator.specs.declared.state.Stage.TheVariants.{Hunting, Reading, Addressed, TurnEnded, Waiting, Content}
 use Rattle.track_format.specs.Saving as layout
 use Rattle.track_format.specs.Saving.{spelled_stream}
-use Rattle.track_format.specs.declared.stream.Part.{Part}
-use Rattle.track_format.specs.declared.stream.Part.TheVariants as layouts
+use Rattle.track_format.specs.declared.stream.TrackPart.{TrackPart}
+use Rattle.track_format.specs.declared.stream.TrackPart.TheVariants as layouts
 use Rattle.fdc_stages.specs.Saving.{spelled_ending, spelled_search, spelled_read}
 use Rattle.fdc_stages.specs.WritingSaving.{spelled_part, spelled_window, spelled_write, spelled_format_part, spelled_format}
 use Rattle.fdc_stages.specs.declared.ending.Ending.TheVariants as endings
@@ -71,7 +71,7 @@ most-write (writes.Gap left) rest = omega (arith, length-byte)
 most-write (writes.Window window) rest = omega (arith, most-window)
 
 -- a layout
-length-part : (at : Part) (rest : List ℕ) → length (layout.spelled_part at rest) ≡ 1 + length rest
+length-part : (at : TrackPart) (rest : List ℕ) → length (layout.spelled_part at rest) ≡ 1 + length rest
 unfolding layout.spelled_part
 length-part layouts.Start rest = omega arith
 length-part layouts.Address rest = omega arith

@@ -1,17 +1,17 @@
 // A driver on its bench, call by call.
-use super::{Asked, key, parts, rate};
+use super::{FileBytes, key, parts, rate};
 use flop_base::{Chrn, Code, Rate};
 use floppy_jobs::is_verb;
 use raw_image::Medium;
 use std::alloc::Global;
-use test_driver::{Call, DrivenBench, Trouble};
-use test_files::{Draft, Line, Wrong, words_in};
+use test_driver::{Call, CommandTrouble, DrivenBench};
+use test_files::{Draft, LineWords, Wrong, words_in};
 use track_format::layout;
 
 pub(crate) fn answer(
     verb: &[u8],
-    asked: Asked,
-    line: &mut Line,
+    asked: FileBytes,
+    line: &mut LineWords,
     out: &mut Draft,
 ) -> Result<(), Wrong> {
     if is_verb(verb, "bench") {
@@ -23,7 +23,7 @@ pub(crate) fn answer(
 
 /// `bench`: what the lines of the file do to a driver that was set up on a bench. Each line is printed, and then what
 /// came of it.
-fn calls(asked: Asked, out: &mut Draft) -> Result<(), Wrong> {
+fn calls(asked: FileBytes, out: &mut Draft) -> Result<(), Wrong> {
     let Ok(text) = std::str::from_utf8(asked.bytes) else {
         return Err(Wrong::Line);
     };
@@ -45,7 +45,7 @@ fn serve_all(
 
 fn serve(alloc: Global, bench: &mut DrivenBench, call: &str, out: &mut Draft) -> Result<(), Wrong> {
     let words = words_in(alloc, call)?;
-    let mut line = Line::of(&words);
+    let mut line = LineWords::of(&words);
     out.text(call);
     plan(alloc, bench, &mut line, out)?;
     line.end()
@@ -57,7 +57,7 @@ fn serve(alloc: Global, bench: &mut DrivenBench, call: &str, out: &mut Draft) ->
 fn plan(
     alloc: Global,
     bench: &mut DrivenBench,
-    line: &mut Line,
+    line: &mut LineWords,
     out: &mut Draft,
 ) -> Result<(), Wrong> {
     let verb = line.word().as_bytes();
@@ -109,7 +109,7 @@ fn put_track(medium: &mut Medium, c: u8, h: u8, track: &[u16]) {
     }
 }
 
-fn troubles_of(alloc: Global, line: &mut Line) -> Result<Vec<Trouble>, Wrong> {
+fn troubles_of(alloc: Global, line: &mut LineWords) -> Result<Vec<CommandTrouble>, Wrong> {
     let mut troubles = Vec::new(alloc);
     for word in line.words() {
         troubles.push(trouble_of(word.as_bytes()))?;
@@ -117,28 +117,28 @@ fn troubles_of(alloc: Global, line: &mut Line) -> Result<Vec<Trouble>, Wrong> {
     Ok(troubles)
 }
 
-fn trouble_of(word: &[u8]) -> Trouble {
+fn trouble_of(word: &[u8]) -> CommandTrouble {
     if is_verb(word, "unmarked") {
-        Trouble::Unmarked
+        CommandTrouble::Unmarked
     } else if is_verb(word, "damaged") {
-        Trouble::Damaged
+        CommandTrouble::Damaged
     } else if is_verb(word, "stalled") {
-        Trouble::Stalled
+        CommandTrouble::Stalled
     } else {
-        Trouble::Calm
+        CommandTrouble::Calm
     }
 }
 
-fn counts_of(alloc: Global, line: &mut Line) -> Result<Vec<u8>, Wrong> {
+fn counts_of(alloc: Global, line: &mut LineWords) -> Result<Vec<u8>, Wrong> {
     let mut counts = Vec::new(alloc);
     for word in line.words() {
         let words = [*word];
-        counts.push(Line::of(&words).byte())?;
+        counts.push(LineWords::of(&words).byte())?;
     }
     Ok(counts)
 }
 
-fn set_tries(bench: &mut DrivenBench, tries: u8, line: &mut Line) {
+fn set_tries(bench: &mut DrivenBench, tries: u8, line: &mut LineWords) {
     if tries < 1 || tries > 10 {
         line.refuse();
     } else {
@@ -148,7 +148,7 @@ fn set_tries(bench: &mut DrivenBench, tries: u8, line: &mut Line) {
 
 /// `ack BAY`, `set-rate BAY RATE`, `read BAY C H R N ADDRESS`, `write BAY C H R N ADDRESS data|deleted` and
 /// `format BAY C H GAP3 FILL`
-fn ask(bench: &mut DrivenBench, verb: &[u8], line: &mut Line, out: &mut Draft) {
+fn ask(bench: &mut DrivenBench, verb: &[u8], line: &mut LineWords, out: &mut Draft) {
     if is_verb(verb, "ack") {
         put_done(out, bench.ack(line.byte()));
     } else if is_verb(verb, "set-rate") {
@@ -188,7 +188,7 @@ fn put_read(out: &mut Draft, read: Result<bool, Code>) {
 
 /// `attempts`: how many attempts are made. `commands`: how many data commands came. `faults BAY`. `rate BAY`. `byte
 /// ADDRESS`. `forget` forgets the calls. `calls` prints the calls since they were last forgotten or printed.
-fn look(bench: &mut DrivenBench, verb: &[u8], line: &mut Line, out: &mut Draft) {
+fn look(bench: &mut DrivenBench, verb: &[u8], line: &mut LineWords, out: &mut Draft) {
     if is_verb(verb, "attempts") {
         out.numbers(&[u64::from(bench.tries())]);
     } else if is_verb(verb, "commands") {
@@ -209,7 +209,7 @@ fn look(bench: &mut DrivenBench, verb: &[u8], line: &mut Line, out: &mut Draft) 
     }
 }
 
-fn put_faults(out: &mut Draft, bench: &DrivenBench, line: &mut Line) {
+fn put_faults(out: &mut Draft, bench: &DrivenBench, line: &mut LineWords) {
     let bay = line.byte();
     if bay > 1 {
         line.refuse();
@@ -218,7 +218,7 @@ fn put_faults(out: &mut Draft, bench: &DrivenBench, line: &mut Line) {
     }
 }
 
-fn put_rate(out: &mut Draft, bench: &DrivenBench, line: &mut Line) {
+fn put_rate(out: &mut Draft, bench: &DrivenBench, line: &mut LineWords) {
     let bay = line.byte();
     if bay > 1 {
         line.refuse();
@@ -234,7 +234,7 @@ fn rate_told(rate: Rate) -> &'static str {
     }
 }
 
-fn put_memory(out: &mut Draft, bench: &DrivenBench, line: &mut Line) {
+fn put_memory(out: &mut Draft, bench: &DrivenBench, line: &mut LineWords) {
     let address = line.long();
     if address < 0xF_0000 {
         out.text(" ");

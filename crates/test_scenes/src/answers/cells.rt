@@ -1,15 +1,15 @@
 // Cells and CRCs of bytes, and the words of fields.
 use super::print::{Runs, put_words};
-use super::{Asked, key, tracks, words_of};
+use super::{FileBytes, key, tracks, words_of};
 use floppy_jobs::is_verb;
 use sector_map::{address_words, field_crc, field_words};
-use test_files::{Draft, Line, Wrong};
+use test_files::{Draft, LineWords, Wrong};
 use track_model::{cells16, decode_word, encode_byte};
 
 pub(crate) fn answer(
     verb: &[u8],
-    asked: Asked,
-    line: &mut Line,
+    asked: FileBytes,
+    line: &mut LineWords,
     out: &mut Draft,
 ) -> Result<(), Wrong> {
     if is_verb(verb, "check") {
@@ -30,7 +30,7 @@ pub(crate) fn answer(
 }
 
 /// `check`: the CRC of two bytes or more
-fn check(asked: Asked, out: &mut Draft) -> Result<(), Wrong> {
+fn check(asked: FileBytes, out: &mut Draft) -> Result<(), Wrong> {
     if asked.bytes.len() < 2 {
         return Err(Wrong::Line);
     }
@@ -41,7 +41,7 @@ fn check(asked: Asked, out: &mut Draft) -> Result<(), Wrong> {
 }
 
 /// `cells`: the cells of the bytes, after a bit 0
-fn cells(asked: Asked, out: &mut Draft) -> Result<(), Wrong> {
+fn cells(asked: FileBytes, out: &mut Draft) -> Result<(), Wrong> {
     let mut last = false;
     let mut runs = Runs::of_words();
     out.text("words");
@@ -54,7 +54,7 @@ fn cells(asked: Asked, out: &mut Draft) -> Result<(), Wrong> {
 }
 
 /// `decoded`: the byte of each word
-fn decoded(asked: Asked, out: &mut Draft) -> Result<(), Wrong> {
+fn decoded(asked: FileBytes, out: &mut Draft) -> Result<(), Wrong> {
     let mut runs = Runs::of_bytes();
     out.text("bytes");
     for word in &words_of(asked.alloc, asked.bytes)? {
@@ -65,7 +65,7 @@ fn decoded(asked: Asked, out: &mut Draft) -> Result<(), Wrong> {
 }
 
 /// `sixteen CELL`: the sixteen cells of the words from a cell on
-fn sixteen(asked: Asked, line: &mut Line, out: &mut Draft) -> Result<(), Wrong> {
+fn sixteen(asked: FileBytes, line: &mut LineWords, out: &mut Draft) -> Result<(), Wrong> {
     let cell = line.count();
     let words = words_of(asked.alloc, asked.bytes)?;
     if words.len() > 16_384 || cell > 262_144 || cell + 16 > 16 * words.len() {
@@ -76,13 +76,13 @@ fn sixteen(asked: Asked, line: &mut Line, out: &mut Draft) -> Result<(), Wrong> 
 }
 
 /// `address C H R N`: the words of an address field
-fn address(asked: Asked, line: &mut Line, out: &mut Draft) -> Result<(), Wrong> {
+fn address(asked: FileBytes, line: &mut LineWords, out: &mut Draft) -> Result<(), Wrong> {
     put_words(out, &address_words(asked.alloc, key(line))?);
     Ok(())
 }
 
 /// `field data` and `field deleted`: the words that a write of these bytes records
-fn field(asked: Asked, line: &mut Line, out: &mut Draft) -> Result<(), Wrong> {
+fn field(asked: FileBytes, line: &mut LineWords, out: &mut Draft) -> Result<(), Wrong> {
     let deleted = line.is("deleted");
     put_words(out, &field_words(asked.alloc, deleted, asked.bytes)?);
     Ok(())

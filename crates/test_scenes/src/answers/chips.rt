@@ -1,14 +1,14 @@
 // The bytes of commands, and a DMA channel with a memory of its own.
-use super::{Asked, bench};
+use super::{FileBytes, bench};
 use dma_8237::{Dma, MEMORY_SIZE};
 use fdc_commands::{Accepted, CommandBytes};
 use floppy_jobs::is_verb;
-use test_files::{Draft, Line, Wrong, words_in};
+use test_files::{Draft, LineWords, Wrong, words_in};
 
 pub(crate) fn answer(
     verb: &[u8],
-    asked: Asked,
-    line: &mut Line,
+    asked: FileBytes,
+    line: &mut LineWords,
     out: &mut Draft,
 ) -> Result<(), Wrong> {
     if is_verb(verb, "command") {
@@ -21,7 +21,7 @@ pub(crate) fn answer(
 }
 
 /// `command`: what each byte comes to, when they are sent to a controller that waits for a command
-fn command(asked: Asked, out: &mut Draft) -> Result<(), Wrong> {
+fn command(asked: FileBytes, out: &mut Draft) -> Result<(), Wrong> {
     let mut command = CommandBytes::new();
     for byte in asked.bytes {
         put_accepted(asked, command.accept(*byte), out)?;
@@ -29,7 +29,7 @@ fn command(asked: Asked, out: &mut Draft) -> Result<(), Wrong> {
     Ok(())
 }
 
-fn put_accepted(asked: Asked, accepted: Accepted, out: &mut Draft) -> Result<(), Wrong> {
+fn put_accepted(asked: FileBytes, accepted: Accepted, out: &mut Draft) -> Result<(), Wrong> {
     match accepted {
         Accepted::More => out.line("more"),
         Accepted::Invalid => out.line("invalid"),
@@ -49,7 +49,7 @@ struct Channel {
 }
 
 /// `channel`: what the lines of the file do to a channel at power-up, whose memory is 00
-fn accesses(asked: Asked, out: &mut Draft) -> Result<(), Wrong> {
+fn accesses(asked: FileBytes, out: &mut Draft) -> Result<(), Wrong> {
     let Ok(text) = std::str::from_utf8(asked.bytes) else {
         return Err(Wrong::Line);
     };
@@ -60,7 +60,7 @@ fn accesses(asked: Asked, out: &mut Draft) -> Result<(), Wrong> {
     for access in text.lines() {
         out.line(access);
         let words = words_in(asked.alloc, access)?;
-        let mut line = Line::of(&words);
+        let mut line = LineWords::of(&words);
         channel.access(&mut line, out);
         line.end()?;
     }
@@ -70,7 +70,7 @@ fn accesses(asked: Asked, out: &mut Draft) -> Result<(), Wrong> {
 impl Channel {
     /// Does a line: `out PORT BYTE`, `in PORT`, `poke ADDRESS BYTE`, `peek ADDRESS`, `take BYTE` from the device and
     /// `give` to it.
-    fn access(&mut self, line: &mut Line, out: &mut Draft) {
+    fn access(&mut self, line: &mut LineWords, out: &mut Draft) {
         let verb = line.word().as_bytes();
         if is_verb(verb, "out") {
             self.dma.port_write(port(line), line.hex_byte());
@@ -90,7 +90,7 @@ impl Channel {
         }
     }
 
-    fn poke(&mut self, line: &mut Line) {
+    fn poke(&mut self, line: &mut LineWords) {
         let (place, value) = (address(line), line.hex_byte());
         match self.ram.as_mut_slice().get_mut(place) {
             Some(byte) => *byte = value,
@@ -98,7 +98,7 @@ impl Channel {
         }
     }
 
-    fn peek(&self, line: &mut Line, out: &mut Draft) {
+    fn peek(&self, line: &mut LineWords, out: &mut Draft) {
         match self.ram.as_slice().get(address(line)) {
             Some(value) => {
                 out.hex_byte(*value);
@@ -134,12 +134,12 @@ impl Channel {
 }
 
 /// A port: one to four hexadecimal digits.
-fn port(line: &mut Line) -> u16 {
+fn port(line: &mut LineWords) -> u16 {
     let [_, _, high, low] = line.hex(1, 4).to_be_bytes();
     u16::from_be_bytes([high, low])
 }
 
 /// An address: one to five hexadecimal digits.
-fn address(line: &mut Line) -> usize {
+fn address(line: &mut LineWords) -> usize {
     line.hex(1, 5) as usize
 }

@@ -1,6 +1,6 @@
 // Files of media: images, ImageDisk files and flat files.
 use super::print::put_bytes;
-use super::{Asked, media, medium_of};
+use super::{FileBytes, media, medium_of};
 use flat_files::blank_flat;
 use flop_base::Rate;
 use floppy_jobs::is_verb;
@@ -8,12 +8,12 @@ use imagedisk::read_imd;
 use raw_image::{ImageError, ImageReader, Medium, read_image, write_image};
 use sector_map::flat::{check, place};
 use std::alloc::Global;
-use test_files::{Draft, Line, Wrong};
+use test_files::{Draft, LineWords, Wrong};
 
 pub(crate) fn answer(
     verb: &[u8],
-    asked: Asked,
-    line: &mut Line,
+    asked: FileBytes,
+    line: &mut LineWords,
     out: &mut Draft,
 ) -> Result<(), Wrong> {
     if is_verb(verb, "image") {
@@ -36,7 +36,7 @@ pub(crate) fn answer(
 }
 
 /// `image`: what an image says of its medium
-fn image(asked: Asked, out: &mut Draft) -> Result<(), Wrong> {
+fn image(asked: FileBytes, out: &mut Draft) -> Result<(), Wrong> {
     match read_image(asked.alloc, asked.bytes) {
         Ok(medium) => put_medium(&medium, out),
         Err(error) => out.show_line(&error),
@@ -65,14 +65,14 @@ fn put_medium(medium: &Medium, out: &mut Draft) {
 }
 
 /// `stored`: the file of the medium
-fn stored(asked: Asked, out: &mut Draft) -> Result<(), Wrong> {
+fn stored(asked: FileBytes, out: &mut Draft) -> Result<(), Wrong> {
     let medium = medium_of(asked)?;
     put_bytes(out, &write_image(asked.alloc, &medium)?);
     Ok(())
 }
 
 /// `stored-with C H PLACE WORD`: the file of the medium with one word changed
-fn stored_with(asked: Asked, line: &mut Line, out: &mut Draft) -> Result<(), Wrong> {
+fn stored_with(asked: FileBytes, line: &mut LineWords, out: &mut Draft) -> Result<(), Wrong> {
     let (c, h, place, word) = (line.byte(), line.byte(), line.short(), line.hex_word());
     let mut medium = medium_of(asked)?;
     if c >= medium.cylinders() || h >= medium.heads() || place >= medium.words() {
@@ -94,38 +94,38 @@ fn fed(alloc: Global, bytes: &[u8]) -> Option<ImageError> {
 
 /// How a file is read.
 #[derive(Clone, Copy)]
-enum Kind {
+enum FileKind {
     Image,
     /// An image, byte by byte.
     Bytes,
     Imd,
 }
 
-fn kind_asked(line: &mut Line) -> Kind {
+fn kind_asked(line: &mut LineWords) -> FileKind {
     let word = line.word().as_bytes();
     if is_verb(word, "image") {
-        return Kind::Image;
+        return FileKind::Image;
     }
     if is_verb(word, "bytes") {
-        return Kind::Bytes;
+        return FileKind::Bytes;
     }
     if !is_verb(word, "imd") {
         line.refuse();
     }
-    Kind::Imd
+    FileKind::Imd
 }
 
 /// What is wrong with a file.
-fn fault(alloc: Global, kind: Kind, bytes: &[u8]) -> Option<ImageError> {
+fn fault(alloc: Global, kind: FileKind, bytes: &[u8]) -> Option<ImageError> {
     match kind {
-        Kind::Image => read_image(alloc, bytes).err(),
-        Kind::Bytes => fed(alloc, bytes),
-        Kind::Imd => read_imd(alloc, bytes).err(),
+        FileKind::Image => read_image(alloc, bytes).err(),
+        FileKind::Bytes => fed(alloc, bytes),
+        FileKind::Imd => read_imd(alloc, bytes).err(),
     }
 }
 
 /// What is wrong with the first `have` bytes. If the fault tells their number, 0 stands for it.
-fn fault_of(asked: Asked, kind: Kind, have: usize) -> Option<ImageError> {
+fn fault_of(asked: FileBytes, kind: FileKind, have: usize) -> Option<ImageError> {
     let prefix = asked.bytes.get(..have).unwrap_or(&[]);
     match fault(asked.alloc, kind, prefix) {
         Some(ImageError::TooShort { need, have: told }) => {
@@ -138,7 +138,7 @@ fn fault_of(asked: Asked, kind: Kind, have: usize) -> Option<ImageError> {
 
 /// `prefixes image`, `prefixes bytes` (fed one by one) and `prefixes imd`: what is wrong with the first 0, 1 and so on
 /// bytes. It is printed once for prefixes that differ only in the length that is there.
-fn prefixes(asked: Asked, line: &mut Line, out: &mut Draft) -> Result<(), Wrong> {
+fn prefixes(asked: FileBytes, line: &mut LineWords, out: &mut Draft) -> Result<(), Wrong> {
     let kind = kind_asked(line);
     let mut last = Some(ImageError::NoMemory);
     for have in 0..=asked.bytes.len() {
@@ -167,7 +167,7 @@ fn put_fault(out: &mut Draft, have: usize, error: Option<ImageError>) {
 }
 
 /// `flat`: the sectors on a track of a flat file
-fn flat(asked: Asked, out: &mut Draft) -> Result<(), Wrong> {
+fn flat(asked: FileBytes, out: &mut Draft) -> Result<(), Wrong> {
     match check(asked.bytes) {
         Ok(sectors) => out.show_line(&sectors),
         Err(error) => out.show_line(&error),
@@ -176,7 +176,7 @@ fn flat(asked: Asked, out: &mut Draft) -> Result<(), Wrong> {
 }
 
 /// `blank-flat 9` and `blank-flat 18`: the bytes of an empty flat file
-fn blank(asked: Asked, line: &mut Line, out: &mut Draft) -> Result<(), Wrong> {
+fn blank(asked: FileBytes, line: &mut LineWords, out: &mut Draft) -> Result<(), Wrong> {
     let sectors = line.byte();
     if sectors != 9 && sectors != 18 {
         return Err(Wrong::Line);
@@ -186,7 +186,7 @@ fn blank(asked: Asked, line: &mut Line, out: &mut Draft) -> Result<(), Wrong> {
 }
 
 /// `flat-place SECTORS C H R`: where a sector of a flat file begins
-fn flat_place(line: &mut Line, out: &mut Draft) -> Result<(), Wrong> {
+fn flat_place(line: &mut LineWords, out: &mut Draft) -> Result<(), Wrong> {
     let (sectors, c, h, r) = (line.byte(), line.byte(), line.byte(), line.byte());
     if (sectors != 9 && sectors != 18) || c >= 80 || h >= 2 || r < 1 || r > sectors {
         return Err(Wrong::Line);

@@ -1,16 +1,16 @@
 // Formatted tracks, as words of their own.
 use super::print::Runs;
-use super::{Asked, images, rate};
+use super::{FileBytes, images, rate};
 use flop_base::Chrn;
 use floppy_jobs::is_verb;
 use std::alloc::Global;
-use test_files::{Draft, Line, Wrong};
+use test_files::{Draft, LineWords, Wrong};
 use track_format::{FormatStream, LayoutError, choose_gap, layout};
 
 pub(crate) fn answer(
     verb: &[u8],
-    asked: Asked,
-    line: &mut Line,
+    asked: FileBytes,
+    line: &mut LineWords,
     out: &mut Draft,
 ) -> Result<(), Wrong> {
     if is_verb(verb, "layout") {
@@ -40,7 +40,7 @@ fn first_keys(alloc: Global, sectors: u8) -> Result<Vec<Chrn>, Wrong> {
 }
 
 /// `layout SECTORS GAP3 FILL WORDS`: how many words a layout of sectors of 512 bytes has, if it fits
-fn laid(asked: Asked, line: &mut Line, out: &mut Draft) -> Result<(), Wrong> {
+fn laid(asked: FileBytes, line: &mut LineWords, out: &mut Draft) -> Result<(), Wrong> {
     let keys = first_keys(asked.alloc, line.byte())?;
     let (gap3, fill, words) = (line.byte(), line.byte(), line.count());
     match layout(asked.alloc, &keys, 2, gap3, fill, words) {
@@ -56,7 +56,7 @@ fn laid(asked: Asked, line: &mut Line, out: &mut Draft) -> Result<(), Wrong> {
 
 /// `stream SECTORS GAP3 FILL WORDS`: a layout word by word; its key bytes are those of the file, when they are asked
 /// for
-fn stream(asked: Asked, line: &mut Line, out: &mut Draft) -> Result<(), Wrong> {
+fn stream(asked: FileBytes, line: &mut LineWords, out: &mut Draft) -> Result<(), Wrong> {
     let (sectors, gap3, fill) = (line.byte(), line.byte(), line.byte());
     let mut stream = FormatStream::new(2, sectors, gap3, fill);
     let mut keys = asked.bytes.iter();
@@ -82,7 +82,7 @@ fn stream(asked: Asked, line: &mut Line, out: &mut Draft) -> Result<(), Wrong> {
 }
 
 /// `gap N SECTORS 500 LEAST` and `gap N SECTORS 250 LEAST`: the largest gap 3 of such a track, from LEAST on
-fn gap(line: &mut Line, out: &mut Draft) -> Result<(), Wrong> {
+fn gap(line: &mut LineWords, out: &mut Draft) -> Result<(), Wrong> {
     let (n, sectors, rate, least) = (line.byte(), line.byte(), rate(line), line.byte());
     if n < 1 || n > 6 {
         return Err(Wrong::Line);

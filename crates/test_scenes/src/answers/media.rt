@@ -2,17 +2,17 @@
 ghost use Rattle.std.specs.Prelude.{IfOk};
 ghost use Rattle.imagedisk.specs.Images.{IsImdImage};
 
-use super::{Asked, rate, texts};
+use super::{FileBytes, rate, texts};
 use flat_files::{FlatForm, FormFault, flat_medium_as};
 use floppy_jobs::is_verb;
 use imagedisk::{ImdError, ImdImage, read_imd, to_medium};
 use raw_image::{ImageError, Medium, write_image};
-use test_files::{Draft, Line, Wrong, put_file};
+use test_files::{Draft, LineWords, Wrong, put_file};
 
 pub(crate) fn answer(
     verb: &[u8],
-    asked: Asked,
-    line: &mut Line,
+    asked: FileBytes,
+    line: &mut LineWords,
     out: &mut Draft,
 ) -> Result<(), Wrong> {
     if is_verb(verb, "flat-as") {
@@ -25,14 +25,14 @@ pub(crate) fn answer(
 }
 
 /// Prints the length and the sum of a medium's image.
-fn put_image(asked: Asked, medium: &Medium, out: &mut Draft) -> Result<(), Wrong> {
+fn put_image(asked: FileBytes, medium: &Medium, out: &mut Draft) -> Result<(), Wrong> {
     let file = write_image(asked.alloc, medium)?;
     put_file(out, "image", Some(&file));
     Ok(())
 }
 
 /// `flat-as CYLINDERS HEADS SECTORS N 500` and `.. 250`: the image of the medium of a flat file
-fn flat_as(asked: Asked, line: &mut Line, out: &mut Draft) -> Result<(), Wrong> {
+fn flat_as(asked: FileBytes, line: &mut LineWords, out: &mut Draft) -> Result<(), Wrong> {
     let (cylinders, heads, sectors, n) = (line.byte(), line.byte(), line.byte(), line.byte());
     let form = FlatForm {
         cylinders,
@@ -52,7 +52,7 @@ fn flat_as(asked: Asked, line: &mut Line, out: &mut Draft) -> Result<(), Wrong> 
 }
 
 /// The image of the ImageDisk file that was asked for.
-fn imd_asked(asked: Asked) -> Result<ImdImage, Wrong>
+fn imd_asked(asked: FileBytes) -> Result<ImdImage, Wrong>
     ensures { IfOk result IsImdImage }
 {
     match read_imd(asked.alloc, asked.bytes) {
@@ -63,7 +63,7 @@ fn imd_asked(asked: Asked) -> Result<ImdImage, Wrong>
 }
 
 /// `imd-as LEAST`: the image of the medium of an ImageDisk file, with gaps of LEAST bytes or more
-fn imd_as(asked: Asked, line: &mut Line, out: &mut Draft) -> Result<(), Wrong> {
+fn imd_as(asked: FileBytes, line: &mut LineWords, out: &mut Draft) -> Result<(), Wrong> {
     let least = line.byte();
     let image = imd_asked(asked)?;
     match to_medium(asked.alloc, &image, least) {

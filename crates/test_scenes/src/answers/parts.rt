@@ -1,15 +1,15 @@
 // Parts of the machine alone, call by call: the FIFO, the interrupt latch and the gate of a changed diskette.
-use super::{Asked, services};
+use super::{FileBytes, services};
 use fdc_registers::Fifo;
 use floppy_driver::Gate;
 use floppy_jobs::is_verb;
 use irq_events::IrqLatch;
-use test_files::{Draft, Line, Wrong, words_in};
+use test_files::{Draft, LineWords, Wrong, words_in};
 
 pub(crate) fn answer(
     verb: &[u8],
-    asked: Asked,
-    line: &mut Line,
+    asked: FileBytes,
+    line: &mut LineWords,
     out: &mut Draft,
 ) -> Result<(), Wrong> {
     if is_verb(verb, "parts") {
@@ -28,7 +28,7 @@ struct Parts {
 }
 
 /// `parts`: what the lines of the file do to the parts, each as it begins: `fifo CALL`, `latch CALL` and `gate CALL`
-fn calls(asked: Asked, out: &mut Draft) -> Result<(), Wrong> {
+fn calls(asked: FileBytes, out: &mut Draft) -> Result<(), Wrong> {
     let Ok(text) = std::str::from_utf8(asked.bytes) else {
         return Err(Wrong::Line);
     };
@@ -48,15 +48,15 @@ fn put_answer(out: &mut Draft, is_so: bool) {
 }
 
 impl Parts {
-    fn line(&mut self, asked: Asked, call: &str, out: &mut Draft) -> Result<(), Wrong> {
+    fn line(&mut self, asked: FileBytes, call: &str, out: &mut Draft) -> Result<(), Wrong> {
         let words = words_in(asked.alloc, call)?;
-        let mut line = Line::of(&words);
+        let mut line = LineWords::of(&words);
         out.text(call);
         self.call(&mut line, out);
         line.end()
     }
 
-    fn call(&mut self, line: &mut Line, out: &mut Draft) {
+    fn call(&mut self, line: &mut LineWords, out: &mut Draft) {
         let part = line.word().as_bytes();
         let verb = line.word().as_bytes();
         if is_verb(part, "fifo") {
@@ -73,7 +73,7 @@ impl Parts {
 
 /// `on THRESHOLD`, `push BYTE`, `pop`, `len`, `empty` and `clear`. `to-memory` and `from-memory` print whether the FIFO
 /// wants a transfer.
-fn serve_fifo(fifo: &mut Fifo, verb: &[u8], line: &mut Line, out: &mut Draft) {
+fn serve_fifo(fifo: &mut Fifo, verb: &[u8], line: &mut LineWords, out: &mut Draft) {
     if is_verb(verb, "on") {
         turn_on(fifo, line);
         out.line("");
@@ -98,7 +98,7 @@ fn serve_fifo(fifo: &mut Fifo, verb: &[u8], line: &mut Line, out: &mut Draft) {
     }
 }
 
-fn turn_on(fifo: &mut Fifo, line: &mut Line) {
+fn turn_on(fifo: &mut Fifo, line: &mut LineWords) {
     let threshold = line.byte();
     if threshold < 1 || threshold > 16 {
         line.refuse();
@@ -118,7 +118,7 @@ fn put_popped(out: &mut Draft, byte: Option<u8>) {
 }
 
 /// `high`, `low`, `stray` (a spurious interrupt), `set` and `take`
-fn serve_latch(latch: &mut IrqLatch, verb: &[u8], line: &mut Line, out: &mut Draft) {
+fn serve_latch(latch: &mut IrqLatch, verb: &[u8], line: &mut LineWords, out: &mut Draft) {
     if is_verb(verb, "set") {
         put_answer(out, latch.is_set());
     } else if is_verb(verb, "take") {
@@ -138,7 +138,7 @@ fn serve_latch(latch: &mut IrqLatch, verb: &[u8], line: &mut Line, out: &mut Dra
 }
 
 /// `begins`, `changed`, `unchanged` and `acknowledge`. Each prints whether the medium is acknowledged after it.
-fn serve_gate(gate: &mut Gate, verb: &[u8], line: &mut Line, out: &mut Draft) {
+fn serve_gate(gate: &mut Gate, verb: &[u8], line: &mut LineWords, out: &mut Draft) {
     if is_verb(verb, "changed") {
         gate.see(true);
     } else if is_verb(verb, "unchanged") {

@@ -1,16 +1,16 @@
 // The records that a rescue asks for, which record follows each read, and how an attempt is prepared.
 use super::print::put_key;
-use super::{Asked, chips, key, rate};
+use super::{FileBytes, chips, key, rate};
 use flop_base::{Chrn, Code};
 use floppy_driver::{Prepare, START_TRIES, preparation};
 use floppy_jobs::is_verb;
 use rescue::{AfterRead, after_read, logged_keys, read_log, read_request, standard_keys};
-use test_files::{Draft, Line, Wrong};
+use test_files::{Draft, LineWords, Wrong};
 
 pub(crate) fn answer(
     verb: &[u8],
-    asked: Asked,
-    line: &mut Line,
+    asked: FileBytes,
+    line: &mut LineWords,
     out: &mut Draft,
 ) -> Result<(), Wrong> {
     if is_verb(verb, "records") {
@@ -40,14 +40,14 @@ fn put_keys(out: &mut Draft, keys: &[Chrn]) {
 }
 
 /// `records RATE CYLINDERS HEADS`: the records of a whole diskette
-fn records(asked: Asked, line: &mut Line, out: &mut Draft) -> Result<(), Wrong> {
+fn records(asked: FileBytes, line: &mut LineWords, out: &mut Draft) -> Result<(), Wrong> {
     let (rate, cylinders, heads) = (rate(line), line.byte(), line.byte());
     put_keys(out, &standard_keys(asked.alloc, rate, cylinders, heads)?);
     Ok(())
 }
 
 /// `logged-records`: the records of a log of a diskette with 18 sectors on a track
-fn logged(asked: Asked, out: &mut Draft) -> Result<(), Wrong> {
+fn logged(asked: FileBytes, out: &mut Draft) -> Result<(), Wrong> {
     let Ok(lines) = read_log(asked.alloc, asked.bytes, 18) else {
         return Err(Wrong::Line);
     };
@@ -56,7 +56,7 @@ fn logged(asked: Asked, out: &mut Draft) -> Result<(), Wrong> {
 }
 
 /// What a read came to: `data`, `deleted`, or a refusal.
-fn read_of(line: &mut Line) -> Result<bool, Code> {
+fn read_of(line: &mut LineWords) -> Result<bool, Code> {
     let word = line.word().as_bytes();
     if is_verb(word, "data") {
         return Ok(false);
@@ -77,7 +77,7 @@ fn read_of(line: &mut Line) -> Result<bool, Code> {
 }
 
 /// `after-read READ C H R N`
-fn after(line: &mut Line, out: &mut Draft) -> Result<(), Wrong> {
+fn after(line: &mut LineWords, out: &mut Draft) -> Result<(), Wrong> {
     let read = read_of(line);
     match after_read(key(line), read) {
         AfterRead::Write(request) => out.show_line(&request),
@@ -95,7 +95,7 @@ fn after(line: &mut Line, out: &mut Draft) -> Result<(), Wrong> {
 }
 
 /// `attempt TRIES ATTEMPT known` and `attempt TRIES ATTEMPT unknown`: how an attempt is prepared
-fn attempt(line: &mut Line, out: &mut Draft) -> Result<(), Wrong> {
+fn attempt(line: &mut LineWords, out: &mut Draft) -> Result<(), Wrong> {
     let (tries, attempt, known) = (line.byte(), line.byte(), line.is("known"));
     if tries < 1 || tries > 10 || attempt < 1 || attempt > tries {
         return Err(Wrong::Line);

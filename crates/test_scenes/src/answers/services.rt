@@ -1,13 +1,13 @@
 // The core of INT 13h, call by call.
-use super::Asked;
+use super::FileBytes;
 use bios_int13::{Int13, Kind, Regs, Work};
 use floppy_jobs::is_verb;
-use test_files::{Draft, Line, Wrong, words_in};
+use test_files::{Draft, LineWords, Wrong, words_in};
 
 pub(crate) fn answer(
     verb: &[u8],
-    asked: Asked,
-    line: &mut Line,
+    asked: FileBytes,
+    line: &mut LineWords,
     out: &mut Draft,
 ) -> Result<(), Wrong> {
     if !is_verb(verb, "int13") {
@@ -19,21 +19,21 @@ pub(crate) fn answer(
 
 /// `int13`: what each line of the file asks for, and the registers after it. A line is `AX BX CX DX ES CODE MOVED`.
 /// CODE and MOVED are the answer and the count of the work, if the call asks for some.
-fn calls(asked: Asked, out: &mut Draft) -> Result<(), Wrong> {
+fn calls(asked: FileBytes, out: &mut Draft) -> Result<(), Wrong> {
     let Ok(text) = std::str::from_utf8(asked.bytes) else {
         return Err(Wrong::Line);
     };
     let mut front = Int13::new();
     for call in text.lines() {
         let words = words_in(asked.alloc, call)?;
-        let mut line = Line::of(&words);
+        let mut line = LineWords::of(&words);
         serve(&mut front, &mut line, out);
         line.end()?;
     }
     Ok(())
 }
 
-fn serve(front: &mut Int13, line: &mut Line, out: &mut Draft) {
+fn serve(front: &mut Int13, line: &mut LineWords, out: &mut Draft) {
     let regs = registers_of(line);
     let (code, moved) = (line.hex_byte(), line.byte());
     put_work(front.plan(regs), out);
@@ -49,7 +49,7 @@ fn finished(front: &mut Int13, regs: Regs, code: u8, moved: u8) -> Regs {
 }
 
 /// The registers before a call.
-fn registers_of(line: &mut Line) -> Regs {
+fn registers_of(line: &mut LineWords) -> Regs {
     Regs {
         ax: line.hex_word(),
         bx: line.hex_word(),

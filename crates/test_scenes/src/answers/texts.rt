@@ -1,16 +1,16 @@
 // Texts of jobs, port accesses, calls, plans and logs.
-use super::{Asked, records};
+use super::{FileBytes, records};
 use drive_model::Fault;
 use fault_plan::{FaultPlan, PlanError, plan_of};
 use floppy_jobs::{CallLine, JobError, PortLine, is_verb, parse_calls, parse_job, parse_ports};
 use rescue::{LogError, read_log, write_log};
 use std::alloc::Global;
-use test_files::{Draft, Line, Wrong};
+use test_files::{Draft, LineWords, Wrong};
 
 pub(crate) fn answer(
     verb: &[u8],
-    asked: Asked,
-    line: &mut Line,
+    asked: FileBytes,
+    line: &mut LineWords,
     out: &mut Draft,
 ) -> Result<(), Wrong> {
     if is_verb(verb, "text") {
@@ -26,43 +26,43 @@ pub(crate) fn answer(
 
 /// The kind of a text.
 #[derive(Clone, Copy)]
-enum Kind {
+enum TextKind {
     Job,
     Ports,
     Calls,
     Plan,
 }
 
-fn kind_asked(line: &mut Line) -> Kind {
+fn kind_asked(line: &mut LineWords) -> TextKind {
     let word = line.word().as_bytes();
     if is_verb(word, "job") {
-        return Kind::Job;
+        return TextKind::Job;
     }
     if is_verb(word, "ports") {
-        return Kind::Ports;
+        return TextKind::Ports;
     }
     if is_verb(word, "calls") {
-        return Kind::Calls;
+        return TextKind::Calls;
     }
     if !is_verb(word, "plan") {
         line.refuse();
     }
-    Kind::Plan
+    TextKind::Plan
 }
 
 /// `text job`, `text ports`, `text calls` and `text plan`: the lines of a text as they are understood, or its first bad
 /// line
-fn text(alloc: Global, kind: Kind, bytes: &[u8], out: &mut Draft) -> Result<(), Wrong> {
+fn text(alloc: Global, kind: TextKind, bytes: &[u8], out: &mut Draft) -> Result<(), Wrong> {
     match kind {
-        Kind::Job => job(alloc, bytes, out),
-        Kind::Ports => ports(alloc, bytes, out),
-        Kind::Calls => calls(alloc, bytes, out),
-        Kind::Plan => plan(alloc, bytes, out),
+        TextKind::Job => job(alloc, bytes, out),
+        TextKind::Ports => ports(alloc, bytes, out),
+        TextKind::Calls => calls(alloc, bytes, out),
+        TextKind::Plan => plan(alloc, bytes, out),
     }
 }
 
 /// `lines KIND`: each line of the file that isn't empty, as a text of its own
-fn lines(asked: Asked, line: &mut Line, out: &mut Draft) -> Result<(), Wrong> {
+fn lines(asked: FileBytes, line: &mut LineWords, out: &mut Draft) -> Result<(), Wrong> {
     let kind = kind_asked(line);
     for bytes in asked.bytes.split(|byte| *byte == b'\n') {
         if !bytes.is_empty() {
@@ -231,7 +231,7 @@ fn put_pace<T: std::fmt::Display>(out: &mut Draft, kind: &str, steps: &[T]) {
 }
 
 /// `log SECTORS`: the log that a rescue would write with the lines of this one, or the first bad line
-fn log(asked: Asked, line: &mut Line, out: &mut Draft) -> Result<(), Wrong> {
+fn log(asked: FileBytes, line: &mut LineWords, out: &mut Draft) -> Result<(), Wrong> {
     match read_log(asked.alloc, asked.bytes, line.byte()) {
         Ok(lines) => {
             out.put(&write_log(asked.alloc, &lines)?);

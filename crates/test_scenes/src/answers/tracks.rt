@@ -4,19 +4,19 @@ ghost use Rattle.track_model.specs.Cells.{IsTrackSized};
 ghost use Rattle.track_model.specs.Fields.{IsSizeCode};
 
 use super::print::{Runs, put_key, put_words};
-use super::{Asked, key, medium_of, turns};
+use super::{FileBytes, key, medium_of, turns};
 use flop_base::Chrn;
 use floppy_jobs::is_verb;
 use sector_map::{
     Look, content_byte, failing, field_words, find_sector, is_regular, is_regular_disk,
     list_fields, place_window,
 };
-use test_files::{Draft, Line, Wrong};
+use test_files::{Draft, LineWords, Wrong};
 
 pub(crate) fn answer(
     verb: &[u8],
-    asked: Asked,
-    line: &mut Line,
+    asked: FileBytes,
+    line: &mut LineWords,
     out: &mut Draft,
 ) -> Result<(), Wrong> {
     if is_verb(verb, "look") {
@@ -39,7 +39,7 @@ pub(crate) fn answer(
 }
 
 /// The key that four words spell, if its size code is that of a sector.
-pub(crate) fn sized_key(line: &mut Line) -> Result<Chrn, Wrong>
+pub(crate) fn sized_key(line: &mut LineWords) -> Result<Chrn, Wrong>
     ensures { IfOk result (λ key. IsSizeCode key.n) }
 {
     let key = key(line);
@@ -51,7 +51,7 @@ pub(crate) fn sized_key(line: &mut Line) -> Result<Chrn, Wrong>
 }
 
 /// The words of the first track.
-pub(crate) fn first_track(asked: Asked) -> Result<Vec<u16>, Wrong>
+pub(crate) fn first_track(asked: FileBytes) -> Result<Vec<u16>, Wrong>
     ensures { IfOk result (λ track. IsTrackSized track.items) }
 {
     let track = track_words(asked)?;
@@ -61,7 +61,7 @@ pub(crate) fn first_track(asked: Asked) -> Result<Vec<u16>, Wrong>
     Ok(track)
 }
 
-fn track_words(asked: Asked) -> Result<Vec<u16>, Wrong> {
+fn track_words(asked: FileBytes) -> Result<Vec<u16>, Wrong> {
     let medium = medium_of(asked)?;
     match medium.track(0, 0) {
         Some(words) => Ok(words.to_vec(asked.alloc)?),
@@ -85,7 +85,7 @@ fn put_look(out: &mut Draft, look: Look) {
 }
 
 /// `look C H R N`: what the look for a key gives
-fn look(asked: Asked, line: &mut Line, out: &mut Draft) -> Result<(), Wrong> {
+fn look(asked: FileBytes, line: &mut LineWords, out: &mut Draft) -> Result<(), Wrong> {
     let key = sized_key(line)?;
     let track = first_track(asked)?;
     put_look(out, find_sector(&track, key));
@@ -100,7 +100,7 @@ fn put_place(out: &mut Draft, key: Chrn, place: usize) {
 }
 
 /// `fields`: the place and the key of each address field
-fn fields(asked: Asked, out: &mut Draft) -> Result<(), Wrong> {
+fn fields(asked: FileBytes, out: &mut Draft) -> Result<(), Wrong> {
     let track = first_track(asked)?;
     for field in &list_fields(asked.alloc, &track)? {
         put_place(out, field.key, field.place);
@@ -109,7 +109,7 @@ fn fields(asked: Asked, out: &mut Draft) -> Result<(), Wrong> {
 }
 
 /// `content CELL COUNT`: so many bytes from a cell on
-fn content(asked: Asked, line: &mut Line, out: &mut Draft) -> Result<(), Wrong> {
+fn content(asked: FileBytes, line: &mut LineWords, out: &mut Draft) -> Result<(), Wrong> {
     let (place, length) = (line.count(), line.count());
     let track = first_track(asked)?;
     if place > 262_144 || length > 8_192 || place + 16 * length > 16 * track.len() {
@@ -125,7 +125,7 @@ fn content(asked: Asked, line: &mut Line, out: &mut Draft) -> Result<(), Wrong> 
 }
 
 /// `words FIRST COUNT`: some words of the track
-fn words(asked: Asked, line: &mut Line, out: &mut Draft) -> Result<(), Wrong> {
+fn words(asked: FileBytes, line: &mut LineWords, out: &mut Draft) -> Result<(), Wrong> {
     let (first, length) = (line.count(), line.count());
     let track = track_words(asked)?;
     let behind = track.as_slice().get(first..).unwrap_or(&[]);
@@ -138,7 +138,7 @@ fn put_regular(out: &mut Draft, regular: bool) {
 }
 
 /// `regular C H`: whether the track is regular
-fn regular(asked: Asked, line: &mut Line, out: &mut Draft) -> Result<(), Wrong> {
+fn regular(asked: FileBytes, line: &mut LineWords, out: &mut Draft) -> Result<(), Wrong> {
     let (c, h) = (line.byte(), line.byte());
     let track = first_track(asked)?;
     put_regular(out, is_regular(&track, c, h));
@@ -147,7 +147,7 @@ fn regular(asked: Asked, line: &mut Line, out: &mut Draft) -> Result<(), Wrong> 
 
 /// `torn CELL CUT C H R N`: the look for a key after a write that stopped. The write is of 512 bytes 00, marked
 /// deleted, to the address field at CELL, and it stopped after CUT words.
-fn torn(asked: Asked, line: &mut Line, out: &mut Draft) -> Result<(), Wrong> {
+fn torn(asked: FileBytes, line: &mut LineWords, out: &mut Draft) -> Result<(), Wrong> {
     let (place, cut) = (line.count(), line.count());
     let key = sized_key(line)?;
     let track = torn_track(asked, place, cut)?;
@@ -157,7 +157,7 @@ fn torn(asked: Asked, line: &mut Line, out: &mut Draft) -> Result<(), Wrong> {
 }
 
 /// The track after that write.
-fn torn_track(asked: Asked, place: usize, cut: usize) -> Result<Vec<u16>, Wrong>
+fn torn_track(asked: FileBytes, place: usize, cut: usize) -> Result<Vec<u16>, Wrong>
     ensures { IfOk result (λ track. IsTrackSized track.items) }
 {
     let mut track = track_words(asked)?;
@@ -174,7 +174,7 @@ fn torn_track(asked: Asked, place: usize, cut: usize) -> Result<Vec<u16>, Wrong>
 }
 
 /// `failing`: whether each track is regular, and the keys of the standard format that aren't found
-fn failing_keys(asked: Asked, out: &mut Draft) -> Result<(), Wrong> {
+fn failing_keys(asked: FileBytes, out: &mut Draft) -> Result<(), Wrong> {
     let medium = medium_of(asked)?;
     put_regular(out, is_regular_disk(&medium));
     for (key, look) in &failing(asked.alloc, &medium)? {

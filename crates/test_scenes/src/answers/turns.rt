@@ -1,17 +1,17 @@
 // Revolutions of the first track of an image, word by word through a separator.
 use super::print::{Runs, put_bytes_of, put_key};
 use super::tracks::{first_track, sized_key};
-use super::{Asked, layouts};
+use super::{FileBytes, layouts};
 use flop_base::sector_size;
 use floppy_jobs::is_verb;
 use sector_map::{Seen, Separator, TurnRead, read_turn};
 use std::alloc::Global;
-use test_files::{Draft, Line, Wrong};
+use test_files::{Draft, LineWords, Wrong};
 
 pub(crate) fn answer(
     verb: &[u8],
-    asked: Asked,
-    line: &mut Line,
+    asked: FileBytes,
+    line: &mut LineWords,
     out: &mut Draft,
 ) -> Result<(), Wrong> {
     if is_verb(verb, "turns") {
@@ -77,11 +77,11 @@ fn feed(separator: &mut Separator, words: &[u16], out: &mut Draft) {
 /// The number that a word spells.
 fn count(word: &str) -> usize {
     let words = [word];
-    Line::of(&words).count()
+    LineWords::of(&words).count()
 }
 
 /// `turns COUNT..`: revolutions through one separator, each of the first COUNT words of the track
-fn turns(asked: Asked, line: &mut Line, out: &mut Draft) -> Result<(), Wrong> {
+fn turns(asked: FileBytes, line: &mut LineWords, out: &mut Draft) -> Result<(), Wrong> {
     let track = first_track(asked)?;
     let mut separator = Separator::new();
     for word in line.words() {
@@ -107,7 +107,7 @@ fn second_turn(alloc: Global, track: &[u16], start: usize) -> Draft {
 
 /// `starts COUNT`: what the second revolution gives if the first one began at words 0, 1 and so on, once for each
 /// answer
-fn starts(asked: Asked, line: &mut Line, out: &mut Draft) -> Result<(), Wrong> {
+fn starts(asked: FileBytes, line: &mut LineWords, out: &mut Draft) -> Result<(), Wrong> {
     let track = first_track(asked)?;
     let mut last = Draft::new(asked.alloc);
     for start in 0..line.count() {
@@ -125,7 +125,7 @@ fn starts(asked: Asked, line: &mut Line, out: &mut Draft) -> Result<(), Wrong> {
 }
 
 /// `turn C H R N`: a whole revolution that looks for one key
-fn turn(asked: Asked, line: &mut Line, out: &mut Draft) -> Result<(), Wrong> {
+fn turn(asked: FileBytes, line: &mut LineWords, out: &mut Draft) -> Result<(), Wrong> {
     let key = sized_key(line)?;
     let track = first_track(asked)?;
     let mut content = vec![in asked.alloc; 0u8; sector_size(key.n)]?;

@@ -4,7 +4,7 @@ use sector_model::Reason;
 
 /// The answer to a line that was done.
 #[derive(Drop)]
-pub enum Answer {
+pub enum LineAnswer {
     /// A write or a wait, which has nothing to print.
     Nothing,
     /// The byte that a port gave.

@@ -4,7 +4,7 @@ ghost use Rattle.text_commands.specs.Benches.{AreNamed};
 ghost use Rattle.text_commands.specs.PortFaults.{Handled, faulty_bench_of};
 ghost use Rattle.text_commands.specs.PortLines.{LineGoes, ReadsPort};
 
-use crate::ports::answer::Answer;
+use crate::ports::answer::LineAnswer;
 use crate::ports::media::{Names, eject, insert};
 use drive_model::Drive;
 use flop_base::Shelf;
@@ -20,7 +20,7 @@ pub(crate) fn do_line<S: Shelf, D: Drive>(
     names: &mut Names,
     line: &PortLine,
     shelf: &mut S,
-) -> Result<Answer, Stop>
+) -> Result<LineAnswer, Stop>
     requires { AreNamed names.old (board D.state machine.old) }
     ensures { Handled (LineGoes line.now)
         (faulty_bench_of D.state S.told S.fault_count machine.old names.old shelf.old) result
@@ -30,15 +30,15 @@ pub(crate) fn do_line<S: Shelf, D: Drive>(
         PortLine::In { port } => Ok(read(machine, *port)),
         PortLine::Out { port, value } => {
             machine.outb(*port, *value);
-            Ok(Answer::Nothing)
+            Ok(LineAnswer::Nothing)
         }
         PortLine::Wait { steps } => {
             machine.wait(u32::from(*steps));
-            Ok(Answer::Nothing)
+            Ok(LineAnswer::Nothing)
         }
         PortLine::Irq => {
             let set = machine.take_irq();
-            Ok(Answer::Latch { set })
+            Ok(LineAnswer::Latch { set })
         }
         PortLine::Insert { bay, name } => insert(alloc, machine, names, *bay, name, shelf),
         PortLine::Eject { bay } => eject(alloc, machine, names, *bay, shelf),
@@ -46,9 +46,9 @@ pub(crate) fn do_line<S: Shelf, D: Drive>(
 }
 
 /// Reads a port.
-fn read<D: Drive>(machine: &mut MachineOf<D>, port: u16) -> Answer
+fn read<D: Drive>(machine: &mut MachineOf<D>, port: u16) -> LineAnswer
     ensures { ReadsPort port (board D.state machine.old) result (board D.state machine.new) }
 {
     let value = machine.inb(port);
-    Answer::Byte { port, value }
+    LineAnswer::Byte { port, value }
 }

@@ -10,7 +10,7 @@ ghost use Rattle.text_commands.specs.PortFaults.{Handled, faulty_bench_of};
 ghost use Rattle.text_commands.specs.PortLines.{LineGoes, StoresOrDrops};
 ghost use Rattle.text_commands.specs.PortCourses.{BayGoes, EndGoes};
 
-use crate::ports::answer::Answer;
+use crate::ports::answer::LineAnswer;
 use drive_model::Drive;
 use flop_base::{Code, Name, Shelf, Two};
 use floppy_session::{load_medium, store_medium};
@@ -36,22 +36,22 @@ pub(crate) fn insert<S: Shelf, D: Drive>(
     bay: u8,
     name: &Name,
     shelf: &mut S,
-) -> Result<Answer, Stop>
+) -> Result<LineAnswer, Stop>
     requires { AreNamed names.old (board D.state machine.old) }
     ensures { Handled (LineGoes (line.Insert bay name.now))
         (faulty_bench_of D.state S.told S.fault_count machine.old names.old shelf.old) result
         (faulty_bench_of D.state S.told S.fault_count machine.new names.new shelf.new) }
 {
     if bay > 1 {
-        return Ok(Answer::Refused(Reason::Driver(Code::BadRequest)));
+        return Ok(LineAnswer::Refused(Reason::Driver(Code::BadRequest)));
     }
     if is_loaded(names, bay) {
-        return Ok(Answer::Refused(Reason::Busy));
+        return Ok(LineAnswer::Refused(Reason::Busy));
     }
     let medium = load_medium(alloc, shelf, name)?;
     let name = Name::copy(alloc, name.as_str())?;
     put_in(machine, names, bay, name, medium);
-    Ok(Answer::Done)
+    Ok(LineAnswer::Done)
 }
 
 /// Puts a medium into an empty bay, to be stored under this name.
@@ -85,20 +85,20 @@ pub(crate) fn eject<S: Shelf, D: Drive>(
     names: &mut Names,
     bay: u8,
     shelf: &mut S,
-) -> Result<Answer, Stop>
+) -> Result<LineAnswer, Stop>
     requires { AreNamed names.old (board D.state machine.old) }
     ensures { Handled (LineGoes (line.Eject bay))
         (faulty_bench_of D.state S.told S.fault_count machine.old names.old shelf.old) result
         (faulty_bench_of D.state S.told S.fault_count machine.new names.new shelf.new) }
 {
     if bay > 1 {
-        return Ok(Answer::Refused(Reason::Driver(Code::BadRequest)));
+        return Ok(LineAnswer::Refused(Reason::Driver(Code::BadRequest)));
     }
     if !is_loaded(names, bay) {
-        return Ok(Answer::Refused(Reason::Empty));
+        return Ok(LineAnswer::Refused(Reason::Empty));
     }
     take_out(alloc, machine, names, bay, shelf)?;
-    Ok(Answer::Done)
+    Ok(LineAnswer::Done)
 }
 
 /// Takes the medium out of a loaded bay and stores its image under its name. After a stop the medium is dropped.

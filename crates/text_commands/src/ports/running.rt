@@ -9,7 +9,7 @@ ghost use Rattle.text_commands.specs.PortLines.{is_refusal};
 ghost use Rattle.text_commands.specs.PortPlays.{RoundGoes, RoundsGo, HasPlayed, EndsAs, PlaysGiven};
 
 use crate::ending::either;
-use crate::ports::answer::Answer;
+use crate::ports::answer::LineAnswer;
 use crate::ports::doing::do_line;
 use crate::ports::media::{Names, end};
 use crate::ports::telling::put_answer;
@@ -49,12 +49,15 @@ fn run_one<S: Shelf, K: Sink, D: Drive>(
     }
 }
 
-fn is_refusal(answer: &Answer) -> bool
+fn is_refusal(answer: &LineAnswer) -> bool
     ensures { result ≡ is_refusal answer.now }
 {
     match answer {
-        Answer::Refused(_) => true,
-        Answer::Nothing | Answer::Byte { .. } | Answer::Latch { .. } | Answer::Done => false,
+        LineAnswer::Refused(_) => true,
+        LineAnswer::Nothing
+        | LineAnswer::Byte { .. }
+        | LineAnswer::Latch { .. }
+        | LineAnswer::Done => false,
     }
 }
 

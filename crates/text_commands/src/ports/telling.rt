@@ -5,7 +5,7 @@ ghost use Rattle.commands.specs.Puts.{Puts, printed_of};
 ghost use Rattle.sector_model.specs.Texts.{reason_text, line_end};
 ghost use Rattle.text_commands.specs.PortTexts.{answer_lines, latch_text, port_text, verb_text};
 
-use crate::ports::answer::Answer;
+use crate::ports::answer::LineAnswer;
 use commands::{put_line, reason_word};
 use flop_base::{Sink, Status};
 use floppy_jobs::{MemoryByte, PortLine};
@@ -85,18 +85,18 @@ pub(crate) fn put_answer<K: Sink>(
     alloc: Global,
     out: &mut K,
     line: &PortLine,
-    answer: &Answer,
+    answer: &LineAnswer,
 ) -> Result<(), Status>
     ensures puts { Puts (answer_lines line.now answer.now) (printed_of K.told K.fault_count out.old) result
         (printed_of K.told K.fault_count out.new) }
-    ensures tells { OnErr result (answer.now ≢ Answer.Nothing) }
+    ensures tells { OnErr result (answer.now ≢ LineAnswer.Nothing) }
 {
     let verb = verb_word(line);
     match answer {
-        Answer::Nothing => Ok(()),
-        Answer::Byte { port, value } => put_line(out, byte_line(alloc, *port, *value)),
-        Answer::Latch { set } => put_line(out, latch_line(alloc, *set)),
-        Answer::Done => put_line(out, format!(in alloc; "{verb} ok\n")),
-        Answer::Refused(reason) => put_line(out, refusal_line(alloc, verb, *reason)),
+        LineAnswer::Nothing => Ok(()),
+        LineAnswer::Byte { port, value } => put_line(out, byte_line(alloc, *port, *value)),
+        LineAnswer::Latch { set } => put_line(out, latch_line(alloc, *set)),
+        LineAnswer::Done => put_line(out, format!(in alloc; "{verb} ok\n")),
+        LineAnswer::Refused(reason) => put_line(out, refusal_line(alloc, verb, *reason)),
     }
 }

@@ -1,8 +1,8 @@
 // A layout as bytes.
-use super::{FormatStream, Part};
-use saved_state::{Saved, Sink, Source};
+use super::{FormatStream, TrackPart};
+use saved_state::{Saved, SavedBytes, Source};
 
-impl Saved for Part {
+impl Saved for TrackPart {
     ghost use Rattle.std.specs.Prelude.{⊤};
     ghost use Rattle.track_format.specs.Saving.{spelled_part};
 
@@ -11,22 +11,22 @@ impl Saved for Part {
     ghost Fits = { λ _. ⊤ };
 
     #[tactic(auto, unfolding(crate::specs::Saving::spelled_part))]
-    fn save(&self, to: &mut Sink) {
+    fn save(&self, to: &mut SavedBytes) {
         match *self {
-            Part::Start => to.byte(0),
-            Part::Address => to.byte(1),
-            Part::Data => to.byte(2),
-            Part::End => to.byte(3),
+            TrackPart::Start => to.byte(0),
+            TrackPart::Address => to.byte(1),
+            TrackPart::Data => to.byte(2),
+            TrackPart::End => to.byte(3),
         }
     }
 
     #[tactic(auto, unfolding(crate::specs::Saving::spelled_part))]
-    fn load(from: &mut Source<'_>) -> Part {
+    fn load(from: &mut Source<'_>) -> TrackPart {
         match from.byte() {
-            1 => Part::Address,
-            2 => Part::Data,
-            3 => Part::End,
-            _ => Part::Start,
+            1 => TrackPart::Address,
+            2 => TrackPart::Data,
+            3 => TrackPart::End,
+            _ => TrackPart::Start,
         }
     }
 }
@@ -40,7 +40,7 @@ impl Saved for FormatStream {
     ghost Fits = { λ _. ⊤ };
 
     #[tactic(auto, unfolding(crate::specs::Saving::spelled_stream))]
-    fn save(&self, to: &mut Sink) {
+    fn save(&self, to: &mut SavedBytes) {
         self.size.save(to);
         self.gap3.save(to);
         self.fill.save(to);
@@ -57,7 +57,7 @@ impl Saved for FormatStream {
         let gap3 = u8::load(from);
         let fill = u8::load(from);
         let sectors = usize::load(from);
-        let part = Part::load(from);
+        let part = TrackPart::load(from);
         let place = usize::load(from);
         let check = u16::load(from);
         let last = bool::load(from);

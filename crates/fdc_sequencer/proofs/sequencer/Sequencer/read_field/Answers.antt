@@ -1,7 +1,7 @@
 use Rattle.std.proofs.Common.{false, ap, ◌∙◌}
 use Rattle.fdc_adapter.specs.Adapters.{adapter_state}
 use Rattle.fdc_sequencer.specs.Fronts.{front_state, moving_of}
-use Rattle.fdc_sequencer.specs.declared.stage.Stage.TheVariants.{Moving}
+use Rattle.fdc_sequencer.specs.declared.stage.FrontStage.TheVariants.{Moving}
 use Rattle.fdc_sequencer.specs.declared.transfer.Transfer.{Transfer}
 use Rattle.fdc_sequencer.proofs.sequencer.Sequencer.read_field.Goals as goal
 

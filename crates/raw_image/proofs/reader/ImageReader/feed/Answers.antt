@@ -1,5 +1,5 @@
 use Rattle.std.proofs.Common.{◌++◌, subst, sym}
-use Rattle.raw_image.specs.declared.stage.Stage.{Stage}
+use Rattle.raw_image.specs.declared.stage.ReaderStage.{ReaderStage}
 use Rattle.raw_image.specs.Stage.{progress_of}
 use Rattle.raw_image.specs.Progress.{Progress, IsFed}
 use Rattle.raw_image.proofs.Feeding.{is_wrong}
@@ -8,9 +8,9 @@ use Rattle.raw_image.proofs.reader.ImageReader.feed.Goals as goal
 pub returns-in-Ok-clause-fed : goal.returns-in-Ok-clause-fed
 returns-in-Ok-clause-fed c = λ bytes fed.
     let stage = subst (λ (p : Progress). IsFed bytes p) (sym c.self.view_is) fed in
-    c.in-Ok.ensures.fed bytes (subst (λ (s : Stage). IsFed bytes (progress_of s)) (sym c.replace-stage.ensures.value) stage)
+    c.in-Ok.ensures.fed bytes (subst (λ (s : ReaderStage). IsFed bytes (progress_of s)) (sym c.replace-stage.ensures.value) stage)
 
 pub returns-in-Err-clause-wrong : goal.returns-in-Err-clause-wrong
 returns-in-Err-clause-wrong c = λ bytes more fed.
     let stage = subst (λ (p : Progress). IsFed bytes p) (sym c.self.view_is) fed in
-    is_wrong (bytes ++ c.args.piece.now) more c.in-Err.error (c.in-Err.ensures.fed bytes (subst (λ (s : Stage). IsFed bytes (progress_of s)) (sym c.replace-stage.ensures.value) stage))
+    is_wrong (bytes ++ c.args.piece.now) more c.in-Err.error (c.in-Err.ensures.fed bytes (subst (λ (s : ReaderStage). IsFed bytes (progress_of s)) (sym c.replace-stage.ensures.value) stage))
