@@ -749,7 +749,7 @@ static void each_stage(void) {
  * and its poll is due. The FIFO is off, with a threshold of one byte. The change lines of both empty drives are up.
  * Counts have eight bytes, the low one first. */
 static void made_as_written(void) {
-    static const uint8_t wanted[198] = {
+    static const uint8_t wanted[] = {
         'T', 'E', 'L', 'W', 'Y', 'D', 'D', 3,
         'G', 'C',
         0, 2, 0, 1, 1, 0, 0, 0,             /* DOR, the rate, non-DMA, polling, poll due, INT, DRQ, the command phase */
