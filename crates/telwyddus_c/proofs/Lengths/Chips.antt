@@ -140,11 +140,10 @@ most-stage (stages.Telling answer read) rest = omega (arith, most-answer, length
 pub most-chip : {D : Type 0} (spelled : D → List ℕ → List ℕ) (fits : D → Type 0) (chip : Chip D) (first second : ℕ) (rest : List ℕ)
     → ChipFits fits chip → ((left : List ℕ) → length (spelled chip.behind.adapter.first left) ≤ first + length left)
     → ((left : List ℕ) → length (spelled chip.behind.adapter.second left) ≤ second + length left)
-    → length (spelled_chip spelled chip rest) ≤ 213 + first + second + length rest
+    → length (spelled_chip spelled chip rest) ≤ 214 + first + second + length rest
 unfolding spelled_chip
 most-chip spelled fits chip first second rest is one two =
-    let tape = spelled_byte chip.tape rest in
-    let paced = spelled_flag chip.paced tape in
+    let paced = spelled_flag chip.paced (spelled_byte chip.tape rest) in
     let pace = spelled_option spelled_pace chip.pace paced in
     let keys = spelled_word chip.keys (spelled_flag chip.gated pace) in
     let settings = spelled_settings chip.settings (spelled_flag chip.strapped keys) in
@@ -156,7 +155,6 @@ most-chip spelled fits chip first second rest is one two =
       most-stage,
       most-order,
       length-byte,
-      length-byte chip.tape rest,
       most-interrupts chip.interrupts settings is.1,
       most-settings,
       length-flag,
