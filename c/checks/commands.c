@@ -115,7 +115,7 @@ static void settings(void) {
     moves("07 02", "22 00", "RECALIBRATE of drive 2");
     gives("0E", "03 05 00 09 DF 02 00 00 57 2A", "DUMPREG gives that it is at 0");
     moves("07 00", "20 00", "RECALIBRATE of drive 0");
-    does("46 00 00 00 01 02 09 1B FF", 512, 512, "00 00 00 00 00 02 02", "a READ of EOT 09");
+    does("46 00 00 00 01 02 09 1B FF", 512, 512, "20 00 00 00 00 02 02", "a READ of EOT 09, with SE, since CONFIGURE set EIS");
     gives("0E", "00 05 00 09 DF 02 09 00 57 2A", "DUMPREG gives that EOT");
     seek(&guest, 7);
     lay(1, 2, "01 02 03");

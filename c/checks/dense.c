@@ -119,13 +119,14 @@ static void there_and_back(const Table *table) {
     check(1, table->name);
 }
 
-/* One sector more than FORMAT lays has no room. */
+/* One sector more than FORMAT lays has no room. (37 of 256 bytes aren't the most: 38 of them are another table.) */
 static void one_more(void) {
     telwyddus_tray tray = {0};
     for (size_t i = 0; i < sizeof tables / sizeof *tables; i++) {
         Table more = tables[i];
         more.cylinders = 2;
         more.sectors++;
+        if (more.n == 1 && more.sectors == 38) continue;
         need(telwyddus_tray_read_flat_as(&tray, wanted, length_of(&more), more.cylinders, 2, more.sectors, more.n, more.kilobits) == TELWYDDUS_UNFIT, "one more has no room");
     }
     check(1, "one more has no room");
