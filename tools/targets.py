@@ -57,7 +57,7 @@ def done(words, **more):
 
 def runs(check, room):
     """The runs: a name, a program, and its arguments. Their files are made in a folder."""
-    found = [(name, name, []) for name in "first convert several commands by_port drivers drives dense device".split()]
+    found = [(name, name, []) for name in "first convert several commands by_port drivers drives quiet dense device".split()]
     found += [("speed " + " ".join(words), "speed", words) for words in (["idle"], ["block"], ["bytes"], ["block", "fifo"])]
     for rate, c, h, r in ((500, 3, 1, 7), (250, 2, 0, 9)):
         before, wanted, content, after = check.sector_case(room, rate, c, h, r)
