@@ -29,7 +29,8 @@ test("a whole disk is read by DMA, with the FIFO on", () => {
     guest.command([0x13, 0, 0x47, 0]);
     for (let cylinder = 0; cylinder < 80; cylinder++) {
         const { results, moved } = guest.command([0xC6, 0, cylinder, 0, 1, 2, 18, 0x1B, 0xFF], memory);
-        assert.deepEqual([results.slice(0, 3), moved], [[4, 0, 0], memory.length]);
+        // 24: head 1, and SE, since CONFIGURE has set EIS
+        assert.deepEqual([results.slice(0, 3), moved], [[0x24, 0, 0], memory.length]);
         assert.ok(same(memory, FLAT.subarray(cylinder * memory.length, (cylinder + 1) * memory.length)), `cylinder ${cylinder}`);
     }
     controller.free();
