@@ -6,7 +6,7 @@ import asyncio
 import importlib
 import logging
 from collections.abc import Callable, Iterator, Sequence
-from contextlib import contextmanager
+from contextlib import contextmanager, suppress
 from typing import Any, TypeVar
 
 from .binding import LibraryAbsent, version
@@ -54,11 +54,24 @@ def connected(scheduler: str) -> Iterator[tuple[Any, Any]]:
     # What it would print is said here as a sentence.
     logging.getLogger("distributed").setLevel(logging.CRITICAL + 1)
     try:
-        client = distributed.Client(scheduler, timeout=TIMEOUT, set_as_default=False)
+        client = client_of(distributed, scheduler)
     except (OSError, ValueError) as fault:
         raise Problem(f"No scheduler of Dask answers at {scheduler}. Start one with dask-scheduler, and name the address that it prints.") from fault
     with client:
         yield distributed, client
+
+
+def client_of(distributed: Any, scheduler: str) -> Any:
+    """A client of a scheduler. One that can't connect is closed here. Otherwise Python's collector would close it at any
+    moment: if another client is just being started then, each waits for the other for ever."""
+    client = distributed.Client.__new__(distributed.Client)
+    try:
+        client.__init__(scheduler, timeout=TIMEOUT, set_as_default=False)
+    except BaseException:
+        with suppress(Exception):
+            client.close()
+        raise
+    return client
 
 
 def check_workers(client: Any, scheduler: str) -> None:
