@@ -44,7 +44,7 @@ def test_check_names_what_is_missing() -> None:
 
 def test_it_installs_what_is_missing_alone() -> None:
     assert setup().returncode == 0
-    assert Path("asked").read_text() == "update\ninstall -o DPkg::Lock::Timeout=600 --yes --no-install-recommends mtools\n"
+    assert Path("asked").read_text() == "update\ninstall --yes --no-install-recommends mtools\n"
     assert setup("--check").stdout == f"all {len(PACKAGES)} packages are installed\n"
     assert setup().returncode == 0 and Path("asked").read_text().count("\n") == 2
 
@@ -53,6 +53,27 @@ def test_a_package_that_another_provides_is_there() -> None:
     with Path("there").open("a") as there:
         there.write("installed other:amd64, mtools, else (= 2)\n")
     assert setup("--check").stdout == f"all {len(PACKAGES)} packages are installed\n"
+
+
+@pytest.mark.parametrize("word", ["update", "install"])
+def test_another_program_is_waited_for(word: str) -> None:
+    text = SETUP.read_text()
+    assert text.count("LONGEST, AGAIN = 600, 5\n") == 1
+    Path("setup").write_text(text.replace("LONGEST, AGAIN = 600, 5\n", "LONGEST, AGAIN = 600, 0.1\n"))
+    Path("packages.txt").write_text("mtools  # a test\n")
+    stand_in("apt-get", f"""echo "$1" >> asked
+if [ "$1" = {word} ] && [ "$(grep -c {word} asked)" -lt 3 ]; then echo "E: Could not get lock /var/lib/x"; exit 100; fi
+[ "$1" = install ] && echo installed mtools:amd64 >> there; true
+""")
+    environment = {**os.environ, "PATH": f"{Path('bin').absolute()}:/usr/bin:/bin"}
+    assert subprocess.run([sys.executable, "setup"], env=environment, capture_output=True).returncode == 0
+    assert Path("asked").read_text().split() == (["update"] * 3 + ["install"] if word == "update" else ["update"] + ["install"] * 3)
+
+
+def test_lists_that_can_not_be_fetched() -> None:
+    """Without a network, packages of a local archive can still be installed."""
+    stand_in("apt-get", '[ "$1" = update ] && exit 100; echo installed mtools:amd64 >> there\n')
+    assert setup().returncode == 0 and setup("--check").returncode == 0
 
 
 def test_an_install_that_fails() -> None:
