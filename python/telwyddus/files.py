@@ -2,6 +2,7 @@
 from __future__ import annotations
 
 import contextlib
+import errno
 import fcntl
 import os
 import stat
@@ -12,6 +13,8 @@ from .problems import Problem
 
 # One byte more than the largest image file that the library takes.
 LONGEST = 5_242_895
+# What a file system without hard links answers.
+WITHOUT_LINKS = (errno.EPERM, errno.ENOSYS, errno.EOPNOTSUPP)
 
 
 def read(path: Path, longest: int = LONGEST) -> bytes:
@@ -77,10 +80,16 @@ def take_name(beside: Path, target: Path, force: bool) -> None:
         return
     try:
         os.link(beside, target)
-    except PermissionError:
-        # A file system without hard links: take the name with an empty file first.
+    except OSError as fault:
+        if fault.errno not in WITHOUT_LINKS:
+            raise
+        # Take the name with an empty file first, which goes again if that is cut off.
         os.close(os.open(target, os.O_CREAT | os.O_EXCL | os.O_WRONLY, 0o600))
-        os.replace(beside, target)
+        try:
+            os.replace(beside, target)
+        except BaseException:
+            target.unlink()
+            raise
 
 
 def sync_folder(folder: Path) -> None:

@@ -1,6 +1,7 @@
 """Files are whole or as they were: stores, locks, and commands that Ctrl-C or a kill cuts off."""
 from __future__ import annotations
 
+import errno
 import fcntl
 import os
 import signal
@@ -38,15 +39,20 @@ def test_a_name_that_is_taken_meanwhile(monkeypatch: pytest.MonkeyPatch) -> None
     assert Path("a").read_bytes() == b"other" and os.listdir() == ["a"]
 
 
-def test_a_file_system_without_links(monkeypatch: pytest.MonkeyPatch) -> None:
+@pytest.mark.parametrize("number", [errno.EPERM, errno.ENOSYS, errno.EOPNOTSUPP])
+def test_a_file_system_without_links(monkeypatch: pytest.MonkeyPatch, number: int) -> None:
     def refused(*_: Any) -> None:
-        raise PermissionError(1, "Operation not permitted")
+        raise OSError(number, "refused")
 
     monkeypatch.setattr(os, "link", refused)
     files.store(Path("a"), b"new")
     assert Path("a").read_bytes() == b"new"
     with pytest.raises(Problem):
         files.store(Path("a"), b"newer")
+    with monkeypatch.context() as patched, pytest.raises(KeyboardInterrupt):
+        patched.setattr(os, "replace", interrupt)
+        files.store(Path("b"), b"new")
+    assert os.listdir() == ["a"]
 
 
 def test_a_folder_and_a_full_disk() -> None:

@@ -30,9 +30,9 @@ DONE, NOT_AS_IT_SHOULD, NOT_DONE, INTERRUPTED = 0, 1, 2, 130
 
 def main(arguments: Sequence[str] | None = None) -> int:
     """Runs the command, and returns its status."""
-    from .group import telwyddus
     signal.signal(signal.SIGTERM, lambda number, frame: sys.exit(128 + number))
     try:
+        from .group import telwyddus
         status = telwyddus.main(args=None if arguments is None else list(arguments), prog_name="telwyddus", standalone_mode=False)
         sys.stdout.flush()
         return status if isinstance(status, int) else DONE
