@@ -1,6 +1,7 @@
 """convert, format and copy. What they store is judged by mtools, libdsk and MAME's floptool."""
 from __future__ import annotations
 
+import re
 from pathlib import Path
 
 import containers
@@ -49,7 +50,11 @@ def test_libdsk_and_mame_read_our_imagedisk_file(run: Run, fat: Path) -> None:
     assert Path("libdsk.img").read_bytes() == fat.read_bytes()
     outside("floptool", "flopconvert", "imd", "pc", "a.imd", "mame.img")
     assert Path("mame.img").read_bytes() == fat.read_bytes()
-    assert "Sectors:        18" in outside("dskid", "a.imd") or "18" in outside("dskid", "a.imd")
+    assert re.search(r"Cylinders: +80\n.*Heads: +2\n.*Sectors: +18\n.*Sector size: +512\n.*Data rate: +HD\n.*Record mode: +MFM\n", outside("dskid", "a.imd"), re.S)
+    # dskdump takes the sectors that it finds on each track, whatever the boot sector says of them.
+    outside("dskdump", "-itype", "imd", "-otype", "edsk", "a.imd", "dumped.edsk")
+    outside("dsktrans", "-itype", "edsk", "-otype", "raw", "-format", "ibm1440", "dumped.edsk", "dumped.img")
+    assert Path("dumped.img").read_bytes() == fat.read_bytes()
 
 
 def test_we_read_libdsks_imagedisk_file(run: Run, fat: Path) -> None:

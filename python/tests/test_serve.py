@@ -7,6 +7,7 @@ import os
 import signal
 import subprocess
 import sys
+import time
 from collections.abc import Iterator
 from contextlib import contextmanager
 from pathlib import Path
@@ -51,6 +52,42 @@ def test_nbdcopy_reads_what_convert_stores(run: Run, fat: Path) -> None:
     assert outside("mtype", "-i", "copy.img", "::HELLO.TXT") == "hello from a diskette\n"
 
 
+def mounted(*words: str | Path, at: Path, wanted: Path) -> "subprocess.Popen[bytes]":
+    """Mounts something by FUSE, and waits until what is wanted is there."""
+    at.mkdir()
+    process = subprocess.Popen([str(word) for word in words], stdin=subprocess.DEVNULL, stdout=subprocess.DEVNULL, stderr=subprocess.DEVNULL)
+    for _ in range(600):
+        if wanted.exists():
+            return process
+        time.sleep(0.05)
+    raise AssertionError(f"{words[0]} doesn't mount")
+
+
+def unmount(folder: Path) -> None:
+    """Takes a mount away, if it is there."""
+    subprocess.run(["umount", "--lazy", str(folder)], stderr=subprocess.DEVNULL)
+
+
+@pytest.mark.skipif(not os.access("/dev/fuse", os.R_OK | os.W_OK) or os.getuid() != 0, reason="this system lets nobody mount by FUSE here")
+def test_mounted_files_are_those_of_export(run: Run, fat: Path) -> None:
+    """nbdfuse makes a file of the served device, and fusefat mounts the file system on it."""
+    assert run("convert", fat, "fat.rt").status == 0 and run("floppy", "export", "fat.rt", "exported").status == 0
+    device, files = Path("device"), Path("files")
+    with server("fat.rt") as (_, uri):
+        try:
+            mounted("nbdfuse", "--readonly", device / "disk.img", uri, at=device, wanted=device / "disk.img")
+            assert (device / "disk.img").read_bytes() == Path("exported").read_bytes()
+            mounted("fusefat", "-o", "ro", device / "disk.img", files, at=files, wanted=files / "HELLO.TXT")
+            found = {str(path.relative_to(files)): path.read_bytes() for path in files.rglob("*") if path.is_file()}
+        finally:
+            unmount(files)
+            unmount(device)
+    outside("mcopy", "-s", "-i", "exported", "::", "all")
+    wanted = {str(path.relative_to("all")): path.read_bytes() for path in Path("all").rglob("*") if path.is_file()}
+    # fusefat shows the diskette's label as a file without bytes.
+    assert found == {**wanted, "LETTERS": b""} and set(wanted) == {"HELLO.TXT", "YEAR/MAY.TXT"}
+
+
 @pytest.mark.parametrize("name, size", [("DMF", 1720320), ("1.23M", 1261568), ("360K", 368640)])
 def test_sizes(run: Run, name: str, size: int) -> None:
     assert run("format", "a.rt", "--geometry", name).status == 0
@@ -64,7 +101,12 @@ def test_sizes(run: Run, name: str, size: int) -> None:
 def test_nbdcopy_writes(run: Run, fat: Path, name: str) -> None:
     assert run("format", name).status == 0
     assert run("serve", "--write", name, "--run", f'nbdcopy --flush {fat} "$uri"').status == 0
-    assert run("convert", name, "back.img").status == 0
+    if name == "a.rt":
+        assert run("convert", name, "back.img").status == 0
+    elif name == "a.imd":
+        outside("dsktrans", "-itype", "imd", "-otype", "raw", name, "back.img")
+    else:
+        Path(name).rename("back.img")
     assert Path("back.img").read_bytes() == fat.read_bytes()
     assert outside("mtype", "-i", "back.img", "::YEAR/MAY.TXT") == "may\n" * 700
 

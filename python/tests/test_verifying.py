@@ -6,7 +6,7 @@ from pathlib import Path
 
 import disks
 import pytest
-from conftest import damage, put
+from conftest import damage, outside, put
 from hypothesis import given, settings
 from hypothesis import strategies as st
 
@@ -78,9 +78,9 @@ def test_it_is_the_verify_of_the_survey(name: str) -> None:
 
 def test_a_named_geometry_and_other_formats() -> None:
     put("a.rt", disks.formatted(80).file())
+    put("a.img", b"\xF6" * 1474560)
+    outside("dsktrans", "-itype", "raw", "-format", "ibm1440", "-otype", "imd", "a.img", "a.imd")
     with Disk.open("a.rt") as there:
-        there.save("a.imd")
-        there.save("a.img")
         assert verified(put("b.rt", there.image()), there.geometry) == there.verify()
         for name in "a.imd", "a.img":
             assert verified(Path(name)) == there.verify()
