@@ -3,7 +3,9 @@
 The images are computed by tools/disks.py from the plain definitions, or made by mtools. Where a program from outside
 knows a format (mtools, libdsk, MAME's floptool, ddrescue), that program judges what the package wrote.
 
-No test may hang: one that takes too long fails, with its name and the place where it waits.
+No test may hang: one that takes too long fails, with its name and the place where it waits. Hypothesis draws the same
+examples in each run, so that a run fails only because of what was changed; it has no limit of time of its own.
+TELWYDDUS_SEEDS=random lets it draw others.
 """
 from __future__ import annotations
 
@@ -18,6 +20,7 @@ from typing import Any, NamedTuple
 
 import disks
 import pytest
+from hypothesis import HealthCheck, settings
 
 import telwyddus.command
 
@@ -27,6 +30,9 @@ import telwyddus.command
 LONGEST, AGAIN, LAST = int(os.environ.get("TELWYDDUS_LONGEST_TEST", "180")), 15, 60
 # A copy of standard error, where the places of threads go: later pytest keeps what is written there for itself.
 places = pytest.StashKey[int]()
+settings.register_profile("telwyddus", deadline=None, derandomize=os.environ.get("TELWYDDUS_SEEDS") != "random",
+                          suppress_health_check=[HealthCheck.function_scoped_fixture, HealthCheck.too_slow])
+settings.load_profile("telwyddus")
 
 
 def pytest_configure(config: pytest.Config) -> None:

@@ -1,4 +1,5 @@
-"""Files of other formats, made of the plain definitions: HFE and DMK of cells, D88 of sectors. No program here writes them."""
+"""Files of other formats, made of the plain definitions: HFE and DMK of cells, D88 of sectors. No program here writes them.
+And what an ImageDisk file says, read by the text that defines the format."""
 from __future__ import annotations
 
 import disks
@@ -50,3 +51,18 @@ def d88(flat: bytes, sectors: int) -> bytes:
         places += at.to_bytes(4, "little")
         at += len(track)
     return bytes(27) + b"\x20" + at.to_bytes(4, "little") + places.ljust(656, b"\0") + b"".join(tracks)
+
+
+def imd_sectors(data: bytes) -> dict[tuple[int, int, int], tuple[int, bytes]]:
+    """The type and the bytes of each sector of an ImageDisk file without maps."""
+    at, found = data.index(0x1A) + 1, {}
+    while at < len(data):
+        _, cylinder, head, count, code = data[at:at + 5]
+        numbers, at = data[at + 5:at + 5 + count], at + 5 + count
+        assert head < 2, "no maps here"
+        for number in numbers:
+            kind, size = data[at], 128 << code
+            stored = data[at + 1:at + 1 + (0 if kind == 0 else size if kind % 2 else 1)]
+            found[cylinder, head, number] = kind, stored if len(stored) != 1 else stored * size
+            at += 1 + len(stored)
+    return found

@@ -3,16 +3,17 @@ from __future__ import annotations
 
 from pathlib import Path
 
+import containers
 import disks
 import pytest
 from conftest import content, damage, disk, outside, put
-from hypothesis import HealthCheck, given, settings
+from hypothesis import given, settings
 from hypothesis import strategies as st
 
 from telwyddus import BadCrc, Disk, Found, Geometry, Loss, NotFound, Problem, State, Tray
 from telwyddus.images import of_flat
 
-SLOW = settings(max_examples=25, deadline=None, suppress_health_check=[HealthCheck.function_scoped_fixture, HealthCheck.too_slow])
+SLOW = settings(max_examples=25)
 
 
 def test_it_reads_like_a_book() -> None:
@@ -91,6 +92,8 @@ def test_flat_files_of_any_geometry_come_back(geometry: Geometry, data: st.DataO
         return
     with tray:
         assert tray.flat_as(*geometry) == flat
+        told = containers.imd_sectors(tray.imd())
+        assert list(told) == list(geometry.keys()) and b"".join(data for _, data in told.values()) == flat
         with Tray.of_imd(tray.imd()) as again:
             assert again.flat_as(*geometry) == flat
 

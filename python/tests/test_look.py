@@ -5,7 +5,7 @@ from pathlib import Path
 
 import disks
 from conftest import Run, content, damage, disk, outside, put
-from hypothesis import HealthCheck, given, settings
+from hypothesis import given, settings
 from hypothesis import strategies as st
 
 
@@ -145,7 +145,7 @@ cells = st.builds(lambda flags, cylinders, heads, rate, size, rest: b"RTIMAGE2" 
                   st.integers(0, 1), st.integers(1, 3), st.integers(1, 2), st.sampled_from([0, 2]), st.integers(64, 700), st.binary(min_size=1, max_size=64))
 
 
-@settings(max_examples=60, deadline=None, suppress_health_check=[HealthCheck.function_scoped_fixture, HealthCheck.too_slow])
+@settings(max_examples=60)
 @given(data=imagedisk | cells | st.binary(max_size=64).map(lambda rest: b"RTIMAGE2" + rest) | st.binary(max_size=64).map(lambda rest: b"IMD " + rest))
 def test_no_file_is_a_surprise(run: Run, data: bytes) -> None:
     """Whatever stands in a file, commands answer, or say what is wrong in a sentence."""

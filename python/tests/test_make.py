@@ -173,19 +173,6 @@ def test_imagedisk_keeps_marks_and_damage(run: Run) -> None:
     assert told == {"deleted": ["0 0 4"], "damaged": ["1 0 3"]}
 
 
-def types_of(data: bytes) -> dict[tuple[int, int, int], int]:
-    """The type of each sector of an ImageDisk file, by the text that defines the format."""
-    at, found = data.index(0x1A) + 1, {}
-    while at < len(data):
-        _, cylinder, head, count, code = data[at:at + 5]
-        numbers, at = data[at + 5:at + 5 + count], at + 5 + count
-        assert head < 2, "no maps here"
-        for number in numbers:
-            found[cylinder, head, number] = kind = data[at]
-            at += 1 + (0 if kind == 0 else 128 << code if kind % 2 else 1)
-    return found
-
-
 def test_what_our_imagedisk_file_says(run: Run) -> None:
     """libdsk stops at the sector whose CRC is wrong. It passes over a deleted mark, so the types are read here."""
     put("a.rt", damage(disk(80), 1, 0, 3).write(4, content(0, 0, 4), deleted=True).file())
@@ -196,7 +183,8 @@ def test_what_our_imagedisk_file_says(run: Run) -> None:
     assert "Data error" in outside(*words, "a.imd", "a.img", status=1)
     outside(*words, "b.imd", "b.img")
     assert Path("b.img").read_bytes() == flat_of([(c, h, r) for c in range(80) for h in range(2) for r in range(1, 19)])
-    assert {key: kind for key, kind in types_of(Path("a.imd").read_bytes()).items() if kind not in (1, 2)} == {(0, 0, 4): 3, (1, 0, 3): 5}
+    found = containers.imd_sectors(Path("a.imd").read_bytes())
+    assert {key: kind for key, (kind, _) in found.items() if kind not in (1, 2)} == {(0, 0, 4): 3, (1, 0, 3): 5}
 
 
 def test_an_address_field_with_a_wrong_crc_is_told(run: Run) -> None:

@@ -160,7 +160,7 @@ def test_deleted_marks_are_kept(run: Run) -> None:
     assert run("rescue", "a.rt", "c.img", "--lossy").status == 0
 
 
-@settings(max_examples=25, deadline=None)
+@settings(max_examples=25)
 @given(st.lists(st.sampled_from("+-?"), min_size=36, max_size=36))
 def test_maps_come_back_and_ddrescue_reads_them(statuses: list[str]) -> None:
     geometry = Geometry(1, 2, 18)

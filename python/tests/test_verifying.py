@@ -87,7 +87,7 @@ def test_a_named_geometry_and_other_formats() -> None:
 
 
 @given(st.integers(0, 2 ** 32), st.lists(st.integers(0, 2000), max_size=6))
-@settings(max_examples=200, deadline=None)
+@settings(max_examples=200)
 def test_runs_are_counted_at_each_cell(seed: int, places: "list[int]") -> None:
     cells = list(f"{random.Random(seed).getrandbits(2048):02048b}")
     for place in places:
