@@ -3,9 +3,10 @@ also if a process is killed meanwhile."""
 from __future__ import annotations
 
 import signal
-from collections.abc import Callable, Generator, Sequence
+from collections.abc import Callable, Generator, Iterator, Sequence
 from concurrent.futures import FIRST_COMPLETED, Future, ProcessPoolExecutor, wait
 from concurrent.futures.process import BrokenProcessPool
+from contextlib import contextmanager
 from multiprocessing import get_context
 from typing import TypeVar
 
@@ -15,15 +16,35 @@ Answer = TypeVar("Answer")
 Answers = Generator[tuple[int, "Answer | None"], None, None]
 
 
+# What stops this process. A worker has its own way with it.
+STOPS = {signal.SIGINT, signal.SIGTERM}
+
+
 def begin_worker() -> None:
     """Leaves Ctrl-C to the process that waits for the workers, and lets SIGTERM end a worker at once."""
     signal.signal(signal.SIGINT, signal.SIG_IGN)
     signal.signal(signal.SIGTERM, signal.SIG_DFL)
+    signal.pthread_sigmask(signal.SIG_UNBLOCK, STOPS)
+
+
+@contextmanager
+def signals_held() -> Iterator[None]:
+    """Keeps back what stops this process, while it starts others. If it were stopped between two of them, it would wait
+    at its end for the first, to which nobody says that no work comes."""
+    before = signal.pthread_sigmask(signal.SIG_BLOCK, STOPS)
+    try:
+        yield
+    finally:
+        signal.pthread_sigmask(signal.SIG_SETMASK, before)
 
 
 def new_pool(jobs: int) -> ProcessPoolExecutor:
     """Some processes that begin as copies of this one."""
-    return ProcessPoolExecutor(jobs, get_context("fork"), begin_worker)
+    pool = ProcessPoolExecutor(jobs, get_context("fork"), begin_worker)
+    with signals_held():
+        # The first task starts them all.
+        pool.submit(int)
+    return pool
 
 
 def has_queues() -> bool:

@@ -4,6 +4,8 @@ from __future__ import annotations
 import csv
 import io
 import json
+import multiprocessing
+import multiprocessing.popen_fork
 import os
 import signal
 import time
@@ -133,6 +135,26 @@ def test_it_goes_on_after_ctrl_c(run: Run, box: Path, monkeypatch: pytest.Monkey
     assert run("many", "verify", box, "--report", "r.html").status == 1 and seen == ["a.rt", "broken.rt"]
     seen = watch(monkeypatch)
     assert run("many", "verify", box, "--report", "r.html", "--again").status == 1 and seen == NAMES
+
+
+def test_ctrl_c_between_the_starts_of_two_workers(run: Run, box: Path, monkeypatch: pytest.MonkeyPatch) -> None:
+    """No worker is left that waits for work for ever. Python waits for each at its own end."""
+    real = multiprocessing.popen_fork.Popen._launch
+
+    def interrupted(*words: Any) -> None:
+        real(*words)
+        os.kill(os.getpid(), signal.SIGINT)
+
+    with monkeypatch.context() as patched:
+        patched.setattr(multiprocessing.popen_fork.Popen, "_launch", interrupted)
+        assert run("many", "verify", box, "--jobs", "2").status == 130
+    end = time.monotonic() + 20
+    while multiprocessing.active_children() and time.monotonic() < end:
+        time.sleep(0.05)
+    left = multiprocessing.active_children()
+    for process in left:
+        process.kill()
+    assert not left
 
 
 def test_a_report_and_a_state_of_others_stay(run: Run, box: Path) -> None:
