@@ -2,6 +2,7 @@
 from __future__ import annotations
 
 import contextlib
+import os
 import shutil
 import signal
 import subprocess
@@ -57,6 +58,7 @@ def serve(image: Path, write: bool, socket: Path | None, port: int | None, comma
             if wait_until(server, listens) and command is None:
                 tell(uri, write, as_json)
             status = server.wait()
+            wait_for_store(listens)
         if socket is not None:
             socket.unlink(missing_ok=True)
         if failed.exists():
@@ -78,23 +80,48 @@ def place(room: Path, socket: Path | None, port: int | None) -> tuple[list[str],
 
 @contextlib.contextmanager
 def running(words: list[str]) -> Iterator[tuple["subprocess.Popen[bytes]", list[int]]]:
-    """Runs nbdkit. Ctrl-C and SIGTERM end it in its own good way, so that it stores what was written."""
+    """Runs nbdkit. Ctrl-C and SIGTERM end it in its own good way, so that it stores what was written. With a command,
+    nbdkit is two processes, and each has to be told."""
     stopped: list[int] = []
     server = subprocess.Popen(words, stdin=subprocess.DEVNULL, start_new_session=True)
 
     def stop(number: int, frame: object) -> None:
         stopped.append(number)
-        server.terminate()
+        terminate(server)
 
     before = {number: signal.signal(number, stop) for number in (signal.SIGINT, signal.SIGTERM)}
     try:
         yield server, stopped
     finally:
         if server.poll() is None:
-            server.terminate()
+            terminate(server)
             server.wait()
         for number, handler in before.items():
             signal.signal(number, handler)
+
+
+def terminate(server: "subprocess.Popen[bytes]") -> None:
+    """Ends nbdkit, and the command that it runs."""
+    with contextlib.suppress(ProcessLookupError):
+        os.killpg(server.pid, signal.SIGTERM)
+
+
+def wait_for_store(listens: Path) -> None:
+    """Waits for the process that serves, whose number nbdkit has written down. With a command, it is another one than
+    nbdkit's first, and may end later: it stores what was written."""
+    begin = time.monotonic()
+    while listens.exists() and is_running(int(listens.read_text() or "0")):
+        if time.monotonic() - begin > MOST_WAIT:
+            raise Problem("nbdkit doesn't end, so what was written may not be stored.")
+        time.sleep(LOOK)
+
+
+def is_running(number: int) -> bool:
+    """Whether a process of this number runs. One that has ended may still be in the system's list."""
+    try:
+        return Path(f"/proc/{number}/stat").read_text().rpartition(")")[2].split()[0] not in ("Z", "X")
+    except OSError:
+        return False
 
 
 def wait_until(server: "subprocess.Popen[bytes]", listens: Path) -> bool:
