@@ -5,6 +5,7 @@ Nothing here comes from the program. Only whole bytes and whole fields are cache
 This is the only place in Python that knows the layout. bios/track.c computes it once more, independently and in C, for
 judges that are written in C.
 """
+import struct
 from collections import namedtuple
 from functools import lru_cache
 
@@ -156,7 +157,7 @@ class Disk:
     def file(self):
         """The image file of the disk."""
         head = Shape(self.flags, self.cylinders, self.heads, self.rate, self.words).header()
-        return head + b"".join(w.to_bytes(2, "big") for t in self.tracks for w in t)
+        return head + b"".join(struct.pack(f">{len(t)}H", *t) for t in self.tracks)
 
 
 def formatted(cylinders, rate=500):

@@ -9,7 +9,9 @@ TELWYDDUS_SEEDS=random lets it draw others.
 """
 from __future__ import annotations
 
+import copy
 import faulthandler
+import functools
 import json
 import os
 import signal
@@ -106,14 +108,28 @@ def content(cylinder: int, head: int, sector: int, size: int = 512) -> bytes:
     return bytes((7 * i + 31 * cylinder + 17 * head + 5 * sector + i // 256) % 256 for i in range(size))
 
 
-def disk(cylinders: int = 2, rate: int = 500) -> disks.Disk:
-    """A diskette whose sectors have the bytes of `content`, computed by tools/disks.py."""
+@functools.cache
+def computed(cylinders: int, rate: int) -> disks.Disk:
+    """The diskette of `disk`. To compute it takes longer than most tests."""
     made, step = disks.formatted(cylinders, rate), 682 if rate == 500 else 654
     for cylinder in range(cylinders):
         for head in range(2):
             for sector in range(1, (18 if rate == 500 else 9) + 1):
                 made.write(sector, content(cylinder, head, sector), track=2 * cylinder + head, step=step)
     return made
+
+
+def disk(cylinders: int = 2, rate: int = 500) -> disks.Disk:
+    """A diskette whose sectors have the bytes of `content`, computed by tools/disks.py."""
+    made = copy.copy(computed(cylinders, rate))
+    made.tracks = [list(track) for track in made.tracks]
+    return made
+
+
+@functools.cache
+def disk_file(cylinders: int = 2) -> bytes:
+    """The image file of such a diskette."""
+    return disk(cylinders).file()
 
 
 def damage(made: disks.Disk, cylinder: int, head: int, sector: int, step: int = 682) -> disks.Disk:

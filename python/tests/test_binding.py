@@ -11,7 +11,7 @@ from array import array
 from pathlib import Path
 
 import pytest
-from conftest import disk
+from conftest import disk_file
 
 import telwyddus
 from telwyddus import BadImage, Controller, Empty, Machine, Shelf, Tray, binding
@@ -52,7 +52,7 @@ def test_what_has_no_bytes_is_refused(wrong: object) -> None:
 def test_a_code_is_raised_with_its_words() -> None:
     with pytest.raises(BadImage, match="not those of an image file"):
         Tray(b"nothing")
-    tray = Tray(disk(1).file())
+    tray = Tray(disk_file(1))
     tray.close()
     tray.close()
     with pytest.raises(Empty):
@@ -89,7 +89,7 @@ def test_long_calls_of_two_threads_run_at_the_same_time() -> None:
 
 
 def test_threads_that_share_an_object_come_one_at_a_time() -> None:
-    image, wrong = disk(2).file(), []
+    image, wrong = disk_file(2), []
     tray = Tray(image)
 
     def look() -> None:
@@ -108,7 +108,7 @@ def test_threads_that_share_an_object_come_one_at_a_time() -> None:
 
 def test_media_go_between_threads_and_drives() -> None:
     """Eight threads put one medium into one controller and take it out again; no call finds another's half-done."""
-    image, lost = disk(1).file(), []
+    image, lost = disk_file(1), []
     with Controller() as controller:
         controller.insert(0, Tray(image))
         turn = threading.Lock()

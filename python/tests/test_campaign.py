@@ -12,7 +12,7 @@ from pathlib import Path
 from typing import Any
 
 import pytest
-from conftest import Run, content, damage, disk, put
+from conftest import Run, content, damage, disk, disk_file, put
 
 from telwyddus import Disk, Machine, State
 from telwyddus.campaigns import LINES, plan_of, wrong
@@ -105,7 +105,7 @@ def test_it_goes_on_after_ctrl_c(run: Run, image: Path, monkeypatch: pytest.Monk
     assert sorted(seen) == [1, 2, 3, 4, 5, 6] and [row["round"] for row in rows] == [f"seed {seed}" for seed in range(1, 7)]
     # More seeds go on with the same state; another image doesn't.
     assert run("campaign", image, "--seeds", "5-8", "--state", "s").status == 0 and sorted(seen)[-2:] == [7, 8]
-    put("b.rt", disk(1).file())
+    put("b.rt", disk_file(1))
     assert "with other arguments" in run("campaign", "b.rt", "--state", "s").err
     assert [json.loads(line)[0] for line in Path("s").read_text().splitlines()[1:]] == [f"seed {seed}" for seed in seen]
 

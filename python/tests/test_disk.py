@@ -6,7 +6,7 @@ from pathlib import Path
 import containers
 import disks
 import pytest
-from conftest import content, damage, disk, outside, put
+from conftest import content, damage, disk, disk_file, outside, put
 from hypothesis import given, settings
 from hypothesis import strategies as st
 
@@ -69,7 +69,7 @@ def test_save_refuses_what_is_there_and_what_would_be_lost() -> None:
 
 
 def test_it_is_a_desk_too() -> None:
-    with Disk() as it, Tray(disk(2).file()) as tray:
+    with Disk() as it, Tray(disk_file(2)) as tray:
         it.insert(1, tray)
         it.acknowledge(1)
         assert it.read(1, 1, 0, 2) == (content(1, 0, 2), False)
@@ -102,7 +102,7 @@ def test_flat_files_of_any_geometry_come_back(geometry: Geometry, data: st.DataO
 @given(writes=st.lists(st.tuples(st.integers(0, 1), st.integers(0, 1), st.integers(1, 18), st.binary(min_size=8, max_size=8), st.booleans()), max_size=8))
 def test_writes_change_their_sectors_alone(writes: list[tuple[int, int, int, bytes, bool]]) -> None:
     wanted = {(c, h, r): (content(c, h, r), False) for c in range(2) for h in range(2) for r in range(1, 19)}
-    with Disk.of(Tray(disk(2).file())) as it:
+    with Disk.of(Tray(disk_file(2))) as it:
         for cylinder, head, sector, part, is_deleted in writes:
             it.write(0, cylinder, head, sector, part * 64, deleted=is_deleted)
             wanted[cylinder, head, sector] = part * 64, is_deleted

@@ -7,7 +7,7 @@ from pathlib import Path
 
 import disks
 import pytest
-from conftest import Run, content, damage, disk, files_here, outside, put
+from conftest import Run, content, damage, disk, disk_file, files_here, outside, put
 
 PATH = "{http://www.w3.org/2000/svg}path"
 
@@ -34,7 +34,7 @@ def test_a_track_as_a_strip(run: Run) -> None:
 
 
 def test_png(run: Run, monkeypatch: pytest.MonkeyPatch) -> None:
-    put("a.rt", disk(2).file())
+    put("a.rt", disk_file(2))
     assert run("picture", "a.rt", "a.png").status == 0
     assert Path("a.png").read_bytes()[:8] == b"\x89PNG\r\n\x1a\n"
     monkeypatch.setenv("PATH", "/nowhere")
@@ -43,7 +43,7 @@ def test_png(run: Run, monkeypatch: pytest.MonkeyPatch) -> None:
 
 
 def test_picture_refuses(run: Run) -> None:
-    put("a.rt", disk(1).file())
+    put("a.rt", disk_file(1))
     assert run("picture", "a.rt", "a.gif").status == 2
     put("a.svg", b"mine")
     assert run("picture", "a.rt", "a.svg").status == 2 and Path("a.svg").read_bytes() == b"mine"

@@ -12,7 +12,7 @@ from pathlib import Path
 
 import click
 import pytest
-from conftest import Run, disk, outside, put
+from conftest import Run, disk_file, outside, put
 
 from telwyddus import Disk
 from telwyddus.command.group import telwyddus
@@ -66,7 +66,7 @@ BAD = {
     "floppy": [["floppy", "verify", "none.rt"], ["floppy", "verify", "nowhere.rt"], ["floppy", "eat"]],
 }
 # How often Ctrl-C comes while a command works, each time at another moment.
-MOMENTS = 4
+MOMENTS = 3
 # Runs the command, and first says that it has begun.
 BEGUN = "import sys; from telwyddus.command import main, group; print('begun', flush=True); sys.exit(main(sys.argv[1:]))"
 
@@ -83,7 +83,7 @@ def commands(group: click.Group, before: str = "") -> Iterator[str]:
 @pytest.fixture
 def there(fat: Path) -> dict[str, bytes]:
     """The files that commands work on."""
-    put("a.rt", disk(80).file())
+    put("a.rt", disk_file(80))
     put("none.rt", b"RTIMAGE2")
     put("old.img", b"old")
     put("more.txt", b"more\n")
@@ -91,7 +91,7 @@ def there(fat: Path) -> dict[str, bytes]:
     put("job", b"insert 0 a.rt\nack 0\nfill 10000 512 5A\nwrite 0 1 0 3 2 10000\n")
     Path("box").mkdir()
     for name in "abcd":
-        put(f"box/{name}.rt", disk(2).file())
+        put(f"box/{name}.rt", disk_file(2))
     return contents()
 
 

@@ -4,7 +4,7 @@ from __future__ import annotations
 from pathlib import Path
 
 import disks
-from conftest import Run, content, damage, disk, outside, put
+from conftest import Run, content, damage, disk, disk_file, outside, put
 from hypothesis import given, settings
 from hypothesis import strategies as st
 
@@ -57,7 +57,7 @@ def test_info_of_a_protected_diskette(run: Run) -> None:
 
 
 def test_info_refuses_what_is_no_image(run: Run) -> None:
-    put("a.rt", disk(2).file()[:-1])
+    put("a.rt", disk_file(2)[:-1])
     answer = run("info", "a.rt")
     assert answer.status == 2 and "it is damaged, or cut short" in answer.err and answer.out == ""
     put("b.img", b"x" * 1000)

@@ -7,7 +7,7 @@ from pathlib import Path
 import containers
 import disks
 import pytest
-from conftest import Run, content, damage, disk, files_here, flat_of, outside, put
+from conftest import Run, content, damage, disk, disk_file, files_here, flat_of, outside, put
 
 # Geometries that mtools makes, with mformat's own words for each.
 OF_MTOOLS = [("1440", 1474560, "1.44M"), ("720", 737280, "720K"), ("360", 368640, "360K"), ("1200", 1228800, "1.2M"), ("160", 163840, "160K"),
@@ -112,7 +112,7 @@ def test_d88_is_read(run: Run) -> None:
     put("a.d88", containers.d88(Path("a.img").read_bytes(), 15))
     assert run("convert", "a.d88", "b.img").status == 0
     assert Path("b.img").read_bytes() == Path("a.img").read_bytes()
-    put("c.d88", containers.d88(disk(80).file()[:1474560], 18))
+    put("c.d88", containers.d88(disk_file(80)[:1474560], 18))
     answer = run("convert", "c.d88", "c.img")
     assert answer.status == 2 and "floptool" in answer.err and not Path("c.img").exists()
 
@@ -176,7 +176,7 @@ def test_imagedisk_keeps_marks_and_damage(run: Run) -> None:
 def test_what_our_imagedisk_file_says(run: Run) -> None:
     """libdsk stops at the sector whose CRC is wrong. It passes over a deleted mark, so the types are read here."""
     put("a.rt", damage(disk(80), 1, 0, 3).write(4, content(0, 0, 4), deleted=True).file())
-    put("b.rt", disk(80).file())
+    put("b.rt", disk_file(80))
     words = ["dsktrans", "-itype", "imd", "-format", "ibm1440", "-otype", "raw"]
     for name in "ab":
         assert run("convert", f"{name}.rt", f"{name}.imd").status == 0

@@ -15,7 +15,7 @@ from pathlib import Path
 from typing import Any
 
 import pytest
-from conftest import Run, content, damage, disk, files_here, outside, put
+from conftest import Run, content, damage, disk, disk_file, files_here, outside, put
 
 from telwyddus import batch, pools
 from telwyddus.command import running
@@ -27,7 +27,7 @@ NAMES = ["a.rt", "b.rt", "broken.rt", "in/c.img", "in/d.rt"]
 def box(fat: Path) -> Path:
     """A folder with three good images, one with a bad sector, and one that is none."""
     os.makedirs("box/in")
-    put("box/a.rt", disk(2).file())
+    put("box/a.rt", disk_file(2))
     put("box/b.rt", damage(disk(2), 1, 0, 3).file())
     put("box/broken.rt", b"RTIMAGE2" + bytes(90))
     fat.rename("box/in/c.img")
@@ -94,7 +94,7 @@ class Page(HTMLParser):
 
 
 def test_a_report_with_pictures(run: Run, box: Path) -> None:
-    put("box/<b>&.rt", disk(1).file())
+    put("box/<b>&.rt", disk_file(1))
     assert run("many", "verify", box, "--report", "r.html").status == 1
     page = Page(Path("r.html").read_text())
     assert page.count["svg"] == 5 and page.count["tr"] == 7 and "b" not in page.count and "<b>&.rt" in page.text
@@ -130,7 +130,7 @@ def test_it_goes_on_after_ctrl_c(run: Run, box: Path, monkeypatch: pytest.Monkey
     assert run("many", "verify", box, "--report", "r.html").status == 1 and seen == NAMES[2:]
     assert Page(Path("r.html").read_text()).count["tr"] == 6
     # What failed is tried again, and what changed is looked at again; the report is replaced.
-    put("box/a.rt", disk(1).file())
+    put("box/a.rt", disk_file(1))
     seen = watch(monkeypatch)
     assert run("many", "verify", box, "--report", "r.html").status == 1 and seen == ["a.rt", "broken.rt"]
     seen = watch(monkeypatch)

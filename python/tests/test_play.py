@@ -6,13 +6,13 @@ import sys
 from pathlib import Path
 
 import pytest
-from conftest import Run, content, disk, files_here, put
+from conftest import Run, content, disk, disk_file, files_here, put
 
 JOB = b"insert 0 a.rt\nack 0\nfill 10000 512 5A\nwrite 0 1 0 3 2 10000\nread 0 1 0 4 2 20000\ndump 20000 4\n"
 
 
 def test_play(run: Run) -> None:
-    before = put("a.rt", disk(2).file()).read_bytes()
+    before = put("a.rt", disk_file(2)).read_bytes()
     put("job", JOB)
     answer = run("play", "job")
     assert answer.status == 2 and "--force" in answer.err and Path("a.rt").read_bytes() == before
@@ -25,14 +25,14 @@ def test_play(run: Run) -> None:
 
 def test_play_in_another_folder(run: Run) -> None:
     Path("box").mkdir()
-    put("box/a.rt", disk(2).file())
+    put("box/a.rt", disk_file(2))
     put("box/job", JOB)
     assert run("play", "box/job", "--force", "--json").json["stored"] == ["a.rt"]
     assert files_here() == {"box"} and Path("box/a.rt").read_bytes() == disk(2).write(3, b"\x5A" * 512, track=2).file()
 
 
 def test_a_refused_request(run: Run) -> None:
-    put("a.rt", disk(2).file())
+    put("a.rt", disk_file(2))
     put("job", b"insert 0 a.rt\nack 0\nread 0 1 0 19 2 10000\n")
     answer = run("play", "job")
     assert answer.status == 1 and answer.out.splitlines()[-1] == "read refused 04"
@@ -101,7 +101,7 @@ def test_python_m_and_completion() -> None:
 
 
 def test_an_answer_that_nobody_reads(run: Run) -> None:
-    put("a.rt", disk(80).file())
+    put("a.rt", disk_file(80))
     done = subprocess.run(f"{sys.executable} -m telwyddus sectors a.rt | head -1; echo ${{PIPESTATUS[0]}}", shell=True, executable="/bin/bash",
                           capture_output=True, text=True)
     assert "Traceback" not in done.stderr and done.stdout.splitlines()[0].startswith("C")

@@ -9,7 +9,7 @@ from pathlib import Path
 from typing import Any
 
 import pytest
-from conftest import Run, content, damage, disk, files_here, outside, put
+from conftest import Run, content, damage, disk, disk_file, files_here, outside, put
 from hypothesis import given, settings
 from hypothesis import strategies as st
 
@@ -25,7 +25,7 @@ def copies() -> None:
     """Three copies of one diskette. The first two lack two sectors each, one of them the same."""
     put("one.rt", damage(damage(disk(80), 1, 0, 3), 1, 0, 4).file())
     put("two.rt", damage(damage(disk(80), 1, 0, 3), 5, 1, 9).file())
-    put("three.rt", disk(80).file())
+    put("three.rt", disk_file(80))
 
 
 def blocks(name: str) -> list[tuple[int, int]]:
@@ -138,7 +138,7 @@ def test_what_is_refused(run: Run) -> None:
     copies()
     put("mine.rt", b"mine")
     assert run("rescue", "one.rt", "mine.rt").status == 2 and Path("mine.rt").read_bytes() == b"mine"
-    put("small.rt", disk(2).file())
+    put("small.rt", disk_file(2))
     assert "another geometry" in run("rescue", "one.rt", "small.rt", "saved.rt").err
     put("new.rt.map", b"0x0 + 1\nnonsense\n")
     assert "isn't there" in run("rescue", "one.rt", "new.rt").err

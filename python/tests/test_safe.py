@@ -13,7 +13,7 @@ from pathlib import Path
 from typing import Any
 
 import pytest
-from conftest import Run, damage, disk, put
+from conftest import Run, damage, disk, disk_file, put
 
 from telwyddus import Problem, files
 
@@ -92,7 +92,7 @@ READING = [["rescue", "a.rt", "new.rt"], ["info", "a.rt"], ["sectors", "a.rt"], 
 @pytest.fixture
 def there(fat: Path) -> dict[str, bytes]:
     """The files that commands work on."""
-    put("a.rt", disk(80).file())
+    put("a.rt", disk_file(80))
     put("old.img", b"old")
     put("more.txt", b"more\n")
     put("plan", b"lose 0 0 1\n")

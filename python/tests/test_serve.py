@@ -13,7 +13,7 @@ from contextlib import contextmanager
 from pathlib import Path
 
 import pytest
-from conftest import Run, damage, disk, files_here, flat_of, outside, put
+from conftest import Run, damage, disk, disk_file, files_here, flat_of, outside, put
 
 from telwyddus import Disk, Geometry, Problem
 from telwyddus.volume import Volume
@@ -112,7 +112,7 @@ def test_nbdcopy_writes(run: Run, fat: Path, name: str) -> None:
 
 
 def test_a_write_is_stored_at_flush_and_at_the_end(run: Run) -> None:
-    put("a.rt", disk(2).file())
+    put("a.rt", disk_file(2))
     with server("--write", "a.rt") as (process, uri):
         qemu_io(uri, "write -P 0x5a 700 1000", "flush")
         with Disk.open("a.rt") as stored:
@@ -168,7 +168,7 @@ def test_what_isnt_written_stays_cell_by_cell() -> None:
 
 def test_what_can_not_be_served(run: Run) -> None:
     put("a.rt", b"RTIMAGE2")
-    put("b.rt", disk(1).file())
+    put("b.rt", disk_file(1))
     assert run("serve", "a.rt", "--run", "true").status == 2
     assert run("serve", "nowhere.rt", "--run", "true").status == 2
     assert run("serve", "b.rt", "--socket", "b.rt", "--run", "true").status == 2
@@ -185,19 +185,19 @@ def test_what_can_not_be_served(run: Run) -> None:
 
 
 def test_nbdkit_isnt_there(run: Run, monkeypatch: pytest.MonkeyPatch) -> None:
-    put("a.rt", disk(1).file())
+    put("a.rt", disk_file(1))
     monkeypatch.setenv("PATH", "/nowhere")
     answer = run("serve", "a.rt")
     assert answer.status == 2 and "apt install nbdkit nbdkit-plugin-python" in answer.err
 
 
 def test_the_status_is_that_of_the_command(run: Run) -> None:
-    put("a.rt", disk(1).file())
+    put("a.rt", disk_file(1))
     assert run("serve", "a.rt", "--run", "exit 5").status == 5
 
 
 def test_a_store_that_fails_is_told(run: Run) -> None:
-    put("a.rt", disk(2).file())
+    put("a.rt", disk_file(2))
     volume = Volume(Path("a.rt"), is_writable=True)
     volume.write(0, b"\x02" * 512)
     os.utime("a.rt", (1, 1))
@@ -213,7 +213,7 @@ def test_a_store_that_fails_is_told(run: Run) -> None:
 
 
 def test_a_kill_leaves_a_whole_image(run: Run) -> None:
-    before = put("a.rt", disk(2).file()).read_bytes()
+    before = put("a.rt", disk_file(2)).read_bytes()
     with server("--write", "a.rt", "--socket", "here") as (process, uri):
         assert "here" in uri
         process.kill()
@@ -223,6 +223,6 @@ def test_a_kill_leaves_a_whole_image(run: Run) -> None:
 
 
 def test_a_socket_goes_when_the_server_ends(run: Run) -> None:
-    put("a.rt", disk(1).file())
+    put("a.rt", disk_file(1))
     assert run("serve", "a.rt", "--socket", "here", "--run", "test -S here").status == 0
     assert files_here() == {"a.rt"}
