@@ -8,10 +8,11 @@ NATIVE.a is the archive for x86-64. `tools/archive --target` makes the others. T
                               heap
     clang=NATIVE.a            on x86-64 again, where clang compiles the programs and c/heap.c in place of gcc
 
-The programs are those of c/examples, c/checks and bench. They print the same with each compiler only if they draw their
-random numbers in a fixed order, so tools/draws.py looks for that first. The script wants gcc and the kit, for aarch64
-also Debian's gcc-aarch64-linux-gnu, libc6-dev-arm64-cross and qemu-user, for wasm32 node, and for clang Debian's clang.
-CROSS names another root in which Debian's cross compiler was unpacked.
+The programs are those of c/examples, c/checks and bench. The one in C++ isn't run on wasm32, for which there is no
+library of C++ and no thread here. They print the same with each compiler only if they draw their random numbers in a
+fixed order, so tools/draws.py looks for that first. The script wants gcc, g++ and the kit, for aarch64 also Debian's
+g++-aarch64-linux-gnu, libc6-dev-arm64-cross and qemu-user, for wasm32 node, and for clang Debian's clang. CROSS names
+another root in which Debian's cross compiler was unpacked.
 """
 import argparse
 import concurrent.futures
@@ -34,6 +35,7 @@ from retarget import CLANG, TRIPLE, tool  # noqa: E402
 TARGETS = ("aarch64", "wasm32", "clang")
 WASM = TOP / "c" / "wasm"
 ALONE = ("starved", "random_calls")     # they have a heap of their own
+PLUS = ".cpp"       # how the file of a program in C++ ends
 # On wasm32 the library keeps pointers in eight bytes, in slots and in the answers of a heap too.
 WIDE = [("{ void *at_; uint32_t tag_; }", "{ uint64_t at_; uint32_t tag_; }"),
         ("typedef struct { bool is_ok; void *at; } tried;", "typedef struct { _Alignas(8) bool is_ok; _Alignas(8) void *at; } tried;")]
@@ -74,15 +76,19 @@ def runs(check, room):
     found.append(("random_calls 20000 1", "random_calls", ["20000", "1"]))
     found.append(("random_several 500", "random_several", ["500"]))
     found.append(("states 100", "states", ["100"]))
+    found.append((check.MOVING, check.MOVING, []))
     return found
 
 
 # ---- building and running, by target
 
 
-def for_linux(compiler, more, name, source, library, room):
-    flags = ["-std=c11", "-O1", *(f"-I{TOP / it}" for it in ("c", "c/examples", "c/checks"))]
-    done([compiler, *flags, source, *([] if name in ALONE else [TOP / "c" / "heap.c"]), library, *more, "-o", room / name])
+def for_linux(compilers, more, name, source, library, room):
+    """`compilers` are the one of C and the one of C++."""
+    flags, heap = ["-O1", *(f"-I{TOP / it}" for it in ("c", "c/examples", "c/checks"))], room / f"{name}_heap.o"
+    done([compilers[0], "-std=c11", *flags, "-c", TOP / "c" / "heap.c", "-o", heap])
+    own = [compilers[1], "-std=c++17", "-pthread"] if source.suffix == PLUS else [compilers[0], "-std=c11"]
+    done([*own, *flags, source, *([] if name in ALONE else [heap]), library, *more, "-o", room / name])
 
 
 def for_wasm(name, source, library, room):
@@ -114,11 +120,12 @@ def wide_sources(room):
 def builder(target, room):
     """What builds a program for a target, and what it is run by."""
     if target in ("x86_64", "clang"):
-        return lambda *words: for_linux("gcc" if target == "x86_64" else "clang", [], *words), []
+        compilers = ("gcc", "g++") if target == "x86_64" else ("clang", "clang++")
+        return lambda *words: for_linux(compilers, [], *words), []
     if target == "aarch64":
         cross = os.environ.get("CROSS", "")
-        compiler = f"{cross}/usr/bin/aarch64-linux-gnu-gcc-12" if cross else "aarch64-linux-gnu-gcc"
-        return lambda *words: for_linux(compiler, ["-static"], *words), ["qemu-aarch64"]
+        compilers = [f"{cross}/usr/bin/aarch64-linux-gnu-{it}-12" if cross else f"aarch64-linux-gnu-{it}" for it in ("gcc", "g++")]
+        return lambda *words: for_linux(compilers, ["-static"], *words), ["qemu-aarch64"]
     wide_sources(room / "wide")
     tool(str(room), "wasm-ld")
     return for_wasm, ["node", TOP / "js" / "host.mjs"]
@@ -139,17 +146,21 @@ def compared(native, libraries, jobs=2):
     with tempfile.TemporaryDirectory() as folder, concurrent.futures.ThreadPoolExecutor(jobs) as pool:
         room = pathlib.Path(folder)
         sources = {name: pathlib.Path(path) for name, path in check.sources().items()}
-        found, first = runs(check, folder), None
+        sources[check.MOVING] = TOP / "c" / "examples" / (check.MOVING + PLUS)
+        found, first = runs(check, folder), {}
         lacking = sorted(set(sources) - {it[1] for it in found})
         yield not lacking, f"each of the {len(sources)} programs has a run{''.join(', not ' + it for it in lacking)}"
         for target, library in {"x86_64": native, **libraries}.items():
             own = room / target
             own.mkdir()
             build, runner = builder(target, own)
-            list(pool.map(lambda name: build(name, sources[name], library, own), sorted(sources)))
-            got = list(pool.map(lambda it: output_of([*runner, own / it[1], *it[2]]), found))
+            programs = [name for name, source in sorted(sources.items()) if target != "wasm32" or source.suffix != PLUS]
+            list(pool.map(lambda name: build(name, sources[name], library, own), programs))
+            there = [it for it in found if it[1] in programs]
+            got = dict(zip((it[0] for it in there), pool.map(lambda it: output_of([*runner, own / it[1], *it[2]]), there)))
             first = first or got
-            for (name, _, _), (one, seconds, _), (other, longer, error) in zip(found, first, got if target != "x86_64" else []):
+            for name in got if target != "x86_64" else []:
+                (one, seconds, _), (other, longer, error) = first[name], got[name]
                 is_same = one == other and one[0] != b"" and one[1] == 0
                 seen = f"{target}, {name}: {len(one[0])} bytes as on x86-64; {longer:.2f} s, there {seconds:.2f} s"
                 yield is_same, seen if is_same else f"{seen}\nx86-64: {one[0][-600:]!r}, status {one[1]}\n{target}: {other[0][-600:]!r}, status {other[1]}\n{error[-1500:]}"
