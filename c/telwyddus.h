@@ -293,8 +293,14 @@ TELWYDDUS_CALL uint32_t telwyddus_controller_run(telwyddus_controller *controlle
  *   - No command is executed or held, and INT is up already, or DOR lets no line out.
  *   - Results are read, and no pulse of strap_steps is still to come.
  * While heads seek, and while a command is held until they stand, it is the number of steps before the seek can end.
- * The next step then ends the seek, unless a drive loses pulses. It is 0 while a command is executed, and where INT of
- * a reset comes in the next step. DONE, EMPTY. */
+ * The next step then ends the seek, unless a drive loses pulses.
+ * While a command reads, and while one that writes searches for its sector, it is computed from the words that pass next
+ * under the head. It ends before an address field that a READ ID or a write wants, the data mark of a sector, the next
+ * byte for which DRQ rises, the last byte of a sector, and the index. No line changes in so many steps if no planned
+ * fault is left, if the track is Plain (docs/MODEL.md), and, for a read, if it has the sector ID once. On any other
+ * track a line may change earlier.
+ * It is 0 while a command writes or formats, in a VERIFY that reads, while DRQ is up, while a sector's data ends, and
+ * where INT of a reset comes in the next step. DONE, EMPTY. */
 TELWYDDUS_CALL uint32_t telwyddus_controller_quiet(telwyddus_controller *controller, uint32_t most, uint32_t *steps);
 
 /* Gives the lines: INT, DRQ, whether bytes go to memory, and INDEX of the drive that DOR selects. INDEX is up in the

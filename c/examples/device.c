@@ -39,7 +39,7 @@ static void attend(Device *device) {
 
 /* ---- time: steps are made when somebody looks at the controller, or when the timer is due */
 
-#define SLICE 32                /* the steps between two timers within a command: an interrupt may be half a millisecond late, and no byte is late */
+#define SLICE 32                /* the steps between two timers where `quiet` gives 0: an interrupt may be half a millisecond late, and no byte is late */
 
 /* Makes the steps that are due. A run ends after the step in which INT or DRQ changes, so bytes pass in time,
  * however late this function is called. */
@@ -79,6 +79,7 @@ static uint8_t device_in(Device *device, uint16_t port) {
     uint8_t value;
     catch_up(device);
     must(telwyddus_controller_read(&device->controller, 0x3F0 | (port & 7), &value, &device->lines));
+    if ((port & 7) != 5) return value; /* no other read changes anything, so the timer stays as it is */
     attend(device);
     set_timer(device);
     return value;

@@ -44,7 +44,7 @@ type TwoResults = ([u8; 7], [u8; 7]);
 ///
 /// From the last byte of the command to its results, drive 0 is selected, its motor is on, and the rate stays the same.
 /// The medium is in and at speed, under heads that stay over one cylinder. No word of it is lost or replaced. So this
-/// run meets the premise of the law on such a read (`laws_sequencer`), which is that the medium stays in. The law says
+/// run meets the premise of the law on such a read (`laws_chip`), which is that the medium stays in. The law says
 /// that what the read gives stands on the medium.
 fn read_four(
     alloc: Global,

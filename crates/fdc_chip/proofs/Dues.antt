@@ -13,13 +13,13 @@ use Rattle.fdc_core.specs.Ranges.{IsInRange}
 use Rattle.fdc_core.specs.State.{is_gated, is_held}
 use Rattle.fdc_core.specs.Whole.{is_idle}
 use Rattle.fdc_core.specs.declared.controller.Fdc.{Fdc}
-use Rattle.fdc_adapter.specs.Still.{steps_ahead}
-use Rattle.fdc_sequencer.specs.Fronts.{Front, asks_outside, interrupts_at, interrupts_outside, with_controller}
+use Rattle.fdc_sequencer.specs.AdapterStill.{steps_ahead}
+use Rattle.fdc_sequencer.specs.Fronts.{Front, GivesCommand, asks_outside, interrupts_at, interrupts_outside, is_ready, with_controller}
 use Rattle.fdc_sequencer.specs.Moves.{StepsFront}
-use Rattle.fdc_sequencer.specs.Senses.{is_ready, recalibrated_at, recalibrated_outside}
+use Rattle.fdc_sequencer.specs.Senses.{recalibrated_at, recalibrated_outside}
 use Rattle.fdc_chip.specs.Chips.{ChipState, asks_chip, interrupts_chip, passes, passes_at, shows_behind, with_front}
 use Rattle.fdc_chip.specs.Codes.{code_of}
-use Rattle.fdc_chip.specs.Doing.{AttendsIf, AttendsTo, Sends, drained, is_moving, moves_heads, moving, needs_heads}
+use Rattle.fdc_chip.specs.Doing.{AttendsIf, AttendsTo, drained, is_moving, moves_heads, moving, needs_heads}
 use Rattle.fdc_chip.specs.Orders.{is_format}
 use Rattle.fdc_chip.specs.Paces.{EndsAt, GoesOn, GoesOnIf, Paces, PulsesIf, is_due, is_over, pulses_left, pulses_to, stepped, steps_left, target_of}
 use Rattle.fdc_chip.specs.Quiet.{IsQuietFor, StepsBy, awaits_heads, due_steps, head_steps, is_for_heads, is_settled, is_still_at, quiet_steps, tells_alone, waits_at}
@@ -161,7 +161,7 @@ abbrev sought_to : ℕ → ℕ → Front → DriveSeek
 sought_to unit target start = record { drive = unit % 4; motion = Toward (slice_index start.adapter.controller.seeks.cylinders (unit % 4)) target }
 
 -- the inner controller is given a SEEK
-sent_ahead : (unit target : ℕ) (start new : Front) → IsAhead start → seek_bits start.adapter.controller.seeks ≡ 0 → Sends (moving unit (Some target)) start new → IsAhead new × (moves_heads new ≡ true)
+sent_ahead : (unit target : ℕ) (start new : Front) → IsAhead start → seek_bits start.adapter.controller.seeks ≡ 0 → GivesCommand (moving unit (Some target)) start new → IsAhead new × (moves_heads new ≡ true)
 sent_ahead unit target start new was rests sends =
     let (through, is) = seek_given unit target start new was.taking rests sends in
     let taking : IsTaking new = record {
@@ -402,7 +402,7 @@ awaits_ahead chip range is =
     not_due true held free none = absurd (false≢true (sym none ∙ ap not free))
     not_due false held free none = refl
 
-none_quiet : (chip : ChipState) → IsQuietFor 0 chip
+pub none_quiet : (chip : ChipState) → IsQuietFor 0 chip
 unfolding StepsBy
 none_quiet chip zero new within is = subst (HasLinesChip (interrupts_chip chip) (asks_chip chip)) (sym is) (refl, refl)
 none_quiet chip (suc n) new within steps = absurd (omega (arith, within))

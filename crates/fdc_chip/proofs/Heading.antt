@@ -16,8 +16,8 @@ use Rattle.fdc_core.specs.Courses.{Works}
 use Rattle.fdc_core.specs.State.{is_gated, is_held}
 use Rattle.fdc_core.specs.Steps.{Moves, MovesIn, Rests, RestsIn, Stays, polled, seek_stepped}
 use Rattle.fdc_core.specs.declared.controller.Fdc.{Fdc}
-use Rattle.fdc_adapter.specs.Adapters.{AdapterState, StepsAdapter, selected_at}
-use Rattle.fdc_adapter.specs.Still.{heads_at, steps_ahead}
+use Rattle.fdc_sequencer.specs.Adapters.{AdapterState, StepsAdapter, selected_at}
+use Rattle.fdc_sequencer.specs.AdapterStill.{heads_at, steps_ahead}
 use Rattle.fdc_sequencer.specs.Fronts.{Front, interrupts_at, interrupts_outside}
 use Rattle.fdc_sequencer.specs.Moves.{FollowsStep, StepsFront}
 use Rattle.fdc_sequencer.specs.declared.stage.FrontStage.TheVariants.{Through}

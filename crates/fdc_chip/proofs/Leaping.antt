@@ -1,12 +1,12 @@
 -- Device steps at once while the inner controller moves a sector.
 use Rattle.std.proofs.Common.{◌≡◌, ℕ, zero, suc, ◌+◌, Bool, false, refl, sym, ap, subst, ◌∙◌, arith}
-use Rattle.std.specs.Prelude.{◌==◌, bit_and}
-use Rattle.fdc_sequencer.specs.Fronts.{Front, interrupts_at, interrupts_outside, value_outside}
+use Rattle.std.specs.Prelude.{None, option_map}
+use Rattle.fdc_sequencer.specs.Fronts.{Front, interrupts_at, interrupts_outside, results_at}
 use Rattle.fdc_sequencer.specs.Moves.{LeapsFront, MovesAlong, StepsFront}
 use Rattle.fdc_sequencer.specs.declared.stage.Moving.{Moving as MovingSector}
 use Rattle.fdc_sequencer.specs.declared.stage.FrontStage.TheVariants.{Moving}
 use Rattle.fdc_chip.specs.Chips.{ChipState, with_front, interrupts_chip, asks_chip}
-use Rattle.fdc_chip.specs.Ending.{EndsIf, has_results}
+use Rattle.fdc_chip.specs.Ending.{EndsAs, judged, results_judged}
 use Rattle.fdc_chip.specs.Steps.{Follows, HasLinesChip, RunsChipWith, StepsChip}
 use Rattle.fdc_chip.specs.declared.stage.ChipStage.{ChipStage}
 use Rattle.fdc_chip.specs.declared.stage.ChipStage.TheVariants.{Busy}
@@ -15,8 +15,8 @@ use Rattle.fdc_chip.proofs.Quieting.{same_lines}
 use Rattle.fdc_chip.proofs.Runs.{runs_one, runs_plus}
 
 -- while a sector is moved, no results wait and INT of the inner controller is down
-moving_waits : (moving : MovingSector) (front : Front) → front.stage ≡ Moving moving → has_results front ≡ false
-moving_waits moving front at = ap (λ stage. bit_and (value_outside 0x3F4 (record front { stage = stage })) 0xC0 == 0xC0) at
+moving_waits : (moving : MovingSector) (chip : ChipState) → chip.front.stage ≡ Moving moving → results_judged chip ≡ None
+moving_waits moving chip at = ap (λ stage. option_map (judged chip) (results_at stage chip.front.adapter.controller)) at
 
 moving_shows : (moving : MovingSector) (front : Front) → front.stage ≡ Moving moving → interrupts_outside front ≡ false
 moving_shows moving front at = ap (λ stage. interrupts_at stage front.adapter.controller) at
@@ -30,7 +30,7 @@ sent_step chip front at step along =
       between = front;
       steps = step;
       follows = subst (λ (stage : ChipStage). Follows stage new new) (sym at)
-          (subst (λ (ends : Bool). EndsIf ends Sent new new) (sym (moving_waits along.moving front along.is)) refl);
+          (subst (λ ends. EndsAs ends Sent new new) (sym (moving_waits along.moving new along.is)) refl);
     }
 
 -- neither line changes in such a device step

@@ -5,3 +5,4 @@ mod Heading
 mod Dues
 mod Quieting
 mod Leaping
+mod Awaiting

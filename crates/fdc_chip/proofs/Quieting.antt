@@ -87,7 +87,7 @@ lasts P (suc n) old new goes was steps = goes steps.0 new (lasts P n old steps.0
 
 keeps_itself : (chip : ChipState) → KeepsChip chip chip
 keeps_itself chip = record {
-  front = record { controller = refl; stage = refl; bytes = refl; strapped = refl; configured = refl };
+  front = record { controller = refl; stage = refl };
   rest = refl;
 }
 

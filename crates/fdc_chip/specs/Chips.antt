@@ -4,7 +4,7 @@ use Rattle.std.specs.Int.RustNames.{bit_or}
 use Rattle.flop_base.specs.declared.answers.Rate.{Rate}
 use Rattle.flop_base.specs.declared.answers.Rate.TheVariants.{R500, R250}
 use Rattle.drive_model.specs.Drive.{DriveState, place_under, rate_of}
-use Rattle.fdc_adapter.specs.Adapters.{drive_at, selected_at}
+use Rattle.fdc_sequencer.specs.Adapters.{drive_at, selected_at}
 use Rattle.fdc_registers.specs.Dor.{gate}
 use Rattle.fdc_registers.specs.Msr.{rqm, dio, non_dma, busy}
 use Rattle.fdc_core.specs.Dma.{to_memory_of}

@@ -1,20 +1,25 @@
 -- What a whole command does.
-use Rattle.std.specs.Prelude.{◌≡◌, ℕ, zero, suc, ◌+◌, ◌-◌, ◌*◌, ◌%◌, Bool, true, false, not, ◌==◌, ◌&&◌, ◌||◌, List, [], ◌∷◌, Option, Some, None, is_none, is_some, if◌then◌else◌, nat_le, bit_and, min}
+use Rattle.std.specs.Prelude.{◌≡◌, ℕ, zero, suc, ◌+◌, ◌-◌, ◌*◌, ◌%◌, Bool, true, false, not, ◌==◌, ◌&&◌, ◌||◌, Option, Some, None, is_none, is_some, if◌then◌else◌, nat_le, bit_and, min}
 use Rattle.std.specs.Int.RustNames.{bit_or}
 use Rattle.flop_base.specs.declared.key.Chrn.{Chrn}
-use Rattle.fdc_sequencer.specs.Fronts.{Front, WritesFront, after_reading, value_outside, with_seeks}
+use Rattle.fdc_commands.specs.declared.command.Command.{Command}
+use Rattle.fdc_commands.specs.declared.command.Command.TheVariants as command
+use Rattle.fdc_core.specs.Commands.{status_of_lines}
+use Rattle.fdc_sequencer.specs.Adapters.{lines_at}
+use Rattle.fdc_sequencer.specs.Fronts.{Front, GivesCommand, GivesTransfer, value_outside}
+use Rattle.fdc_sequencer.specs.Opcodes.{opcode_of}
 use Rattle.fdc_sequencer.specs.Senses.{pending_outside, sensed_outside}
 use Rattle.fdc_registers.specs.St0.{seek_end}
-use Rattle.fdc_sequencer.specs.Transfers.{size_of}
+use Rattle.fdc_sequencer.specs.Transfers.{size_of, transfer_with}
+use Rattle.fdc_sequencer.specs.declared.transfer.Transfer.{Transfer}
 use Rattle.fdc_chip.specs.Chips.{ChipState, with_front, KeepsRest}
 use Rattle.fdc_chip.specs.Codes.{has_bit}
 use Rattle.fdc_chip.specs.Interrupts.{with_result, without_results_of, sensed, after_sense, cylinder_of, with_cylinder}
-use Rattle.fdc_chip.specs.Orders.{order_bytes}
 use Rattle.fdc_chip.specs.Settings.{implies_seeks, perpendicular_set}
 use Rattle.fdc_chip.specs.declared.answer.ChipAnswer.{ChipAnswer}
 use Rattle.fdc_chip.specs.declared.answer.ChipAnswer.TheVariants as answer
 use Rattle.fdc_chip.specs.declared.code.ChipOpcode.{ChipOpcode}
-use Rattle.fdc_chip.specs.declared.code.ChipOpcode.TheVariants.{ReadTrack, Specify, SenseDrive, Transfer, Recalibrate, SenseInterrupt, ReadId, FormatTrack, DumpRegisters, Seek, RelativeSeek, Version, Perpendicular, Configure, Lock, Verify}
+use Rattle.fdc_chip.specs.declared.code.ChipOpcode.TheVariants.{ReadTrack, Specify, SenseDrive, Transfer as TransferCode, Recalibrate, SenseInterrupt, ReadId, FormatTrack, DumpRegisters, Seek, RelativeSeek, Version, Perpendicular, Configure, Lock, Verify}
 use Rattle.fdc_chip.specs.declared.order.Order.{Order}
 use Rattle.fdc_chip.specs.declared.pace.PacedSeek.{PacedSeek}
 use Rattle.fdc_chip.specs.declared.stage.Place.TheVariants.{Index}
@@ -25,14 +30,9 @@ use Rattle.fdc_chip.specs.declared.stage.Track.{Track}
 
 -- ---- the inner controller
 
--- bytes go to the data port of the inner controller, one by one
-abbrev pub Sends : List ℕ → Front → Front → Type 0
-Sends [] old new = new ≡ old
-Sends (byte ∷ rest) old new = (between : Front) × WritesFront 0x3F5 byte old between × Sends rest between new
-
--- bytes go to the data port of the inner controller, and nothing else changes
-abbrev pub SendsOn : List ℕ → ChipState → ChipState → Type 0
-SendsOn bytes old new = Sends bytes old.front new.front × KeepsRest old new
+-- the inner controller is given a command, if it takes one. Nothing else changes
+abbrev pub GivesOn : Command → ChipState → ChipState → Type 0
+GivesOn command old new = GivesCommand command old.front new.front × KeepsRest old new
 
 -- whether a result is reported to the host. While pulses come in the time that SPECIFY sets, the result of the poll is
 -- reported, and the result of a single pulse isn't
@@ -92,13 +92,13 @@ abbrev pub specified : ChipState → ChipState
 specified old =
     ready (record old { settings = record old.settings { step_rate = old.order.unit; head_load = old.order.key.c } })
 
--- CONFIGURE. The inner controller isn't given EIS: the chip says for each command whether a seek is implied
+-- CONFIGURE. The inner controller knows no EIS: the chip says for each command whether a seek is implied
 abbrev pub configured : ChipState → ChipState
 configured old =
     ready (record old { settings = record old.settings { options = old.order.key.c; precompensation = old.order.key.h; forgotten = false } })
 
-abbrev pub configuring : ℕ → ℕ → List ℕ
-configuring options precompensation = 0x13 ∷ 0 ∷ bit_and options 0x3F ∷ precompensation ∷ []
+abbrev pub configuring : ℕ → ℕ → Command
+configuring options precompensation = command.Configure 0 (bit_and options 0x3F) precompensation
 
 -- DUMPREG
 abbrev pub dumped : ChipState → ChipState
@@ -124,18 +124,16 @@ abbrev pub relative_target : Bool → ℕ → ℕ → ℕ
 relative_target true cylinder count = min (cylinder + count) 255
 relative_target false cylinder count = cylinder - count
 
--- the inner controller is given a command, and the byte that it answers is the chip's answer
-pub record Asks (bytes : List ℕ) (old new : ChipState) : Type 0 where
-  pub sent : ChipState
-  pub sends : SendsOn bytes old sent
-  pub told_is : new ≡ told_byte (value_outside 0x3F5 sent.front) (with_front (after_reading 0x3F5 sent.front) sent)
+-- SENSE DRIVE answers with ST3
+abbrev pub drive_sensed : ChipState → ChipState
+drive_sensed old = told_byte (status_of_lines (lines_at old.front.adapter) old.order.unit) old
 
 -- ---- seeks
 
 -- a RECALIBRATE, or a SEEK of a cylinder
-abbrev pub moving : ℕ → Option ℕ → List ℕ
-moving unit None = 0x07 ∷ unit ∷ []
-moving unit (Some target) = 0x0F ∷ unit ∷ target ∷ []
+abbrev pub moving : ℕ → Option ℕ → Command
+moving unit None = command.Recalibrate unit
+moving unit (Some target) = command.Seek unit target
 
 -- a seek begins at the cylinder number that the controller counts. The first pulse comes at once, and a RECALIBRATE
 -- gives at most 79
@@ -146,7 +144,7 @@ pace_begun unit cylinder goal = record { unit = unit; cylinder = cylinder; goal 
 abbrev pub MovesIf : Bool → Option ℕ → ChipState → ChipState → Type 0
 MovesIf true goal old new = let unit = old.order.unit in
     new ≡ record (ready old) { pace = Some (pace_begun unit (cylinder_of unit old.interrupts) goal) }
-MovesIf false goal old new = SendsOn (moving old.order.unit goal) (ready old) new
+MovesIf false goal old new = GivesOn (moving old.order.unit goal) (ready old) new
 
 abbrev pub Moves : Option ℕ → ChipState → ChipState → Type 0
 Moves goal old new = MovesIf old.paced goal old new
@@ -176,30 +174,31 @@ begun task old = record old {
 -- after a reset, the inner controller is given again what LOCK kept
 abbrev pub RemembersIf : Bool → ChipState → ChipState → Type 0
 RemembersIf true old new =
-    SendsOn (configuring old.settings.options old.settings.precompensation) (record old { settings = record old.settings { forgotten = false } }) new
+    GivesOn (configuring old.settings.options old.settings.precompensation) (record old { settings = record old.settings { forgotten = false } }) new
 RemembersIf false old new = new ≡ old
 
 abbrev pub Remembers : ChipState → ChipState → Type 0
 Remembers old new = RemembersIf old.settings.forgotten old new
 
--- for the next command of the inner controller a seek is implied, or none is
-abbrev pub implying : Bool → ChipState → ChipState
-implying seeks old = with_front (with_seeks seeks old.front) old
+-- a command of this task begins, before the inner controller is given anything for it
+abbrev pub Opens : ChipTask → ChipState → ChipState → Type 0
+Opens task old new = Remembers (begun task old) new
 
--- a command of this task begins, and the inner controller is given these bytes. A seek is implied for it, or none is
-pub record Begins (task : ChipTask) (seeks : Bool) (bytes : List ℕ) (old new : ChipState) : Type 0 where
+-- a command of this task begins, and the inner controller is given something
+pub record Begins (task : ChipTask) (Gives : Front → Front → Type 0) (old new : ChipState) : Type 0 where
   pub set : ChipState
-  pub remembers : Remembers (begun task old) set
-  pub sends : SendsOn bytes (implying seeks set) new
+  pub opens : Opens task old set
+  pub gives : Gives set.front new.front
+  pub rest : KeepsRest set new
 
--- the bytes of a READ ID of a unit
-abbrev pub identifying : ℕ → List ℕ
-identifying unit = 0x4A ∷ unit ∷ []
+-- the READ ID of a unit
+abbrev pub identifying : ℕ → Command
+identifying unit = command.ReadId unit
 
 -- a command that this medium can't have: the inner controller looks for an address mark instead
 abbrev pub Refuses : Chrn → Bool → ChipState → ChipState → Type 0
 Refuses key mfm old new =
-    Begins (task.Refused old.order.unit key mfm) false (identifying old.order.unit) old new
+    Begins (task.Refused old.order.unit key mfm) (GivesCommand (identifying old.order.unit)) old new
 
 abbrev pub no_key : Chrn
 no_key = record { c = 0; h = 0; r = 0; n = 0 }
@@ -209,15 +208,15 @@ abbrev pub is_size : ℕ → Bool
 is_size n = nat_le 1 n && nat_le n 6
 
 abbrev pub BeginsReadId : Bool → ChipState → ChipState → Type 0
-BeginsReadId true old new = Begins task.Sent false (identifying old.order.unit) old new
+BeginsReadId true old new = Begins task.Sent (GivesCommand (identifying old.order.unit)) old new
 BeginsReadId false old new = Refuses no_key false old new
 
--- the bytes of a FORMAT TRACK
-abbrev pub format_bytes : Order → List ℕ
-format_bytes order = 0x4D ∷ order.unit ∷ order.key.c ∷ order.key.h ∷ order.key.r ∷ order.key.n ∷ []
+-- the FORMAT TRACK of an order, whose third byte is the size code. The number of sectors, gap 3 and the fill byte follow
+abbrev pub formatting : Order → Command
+formatting order = command.FormatTrack order.unit order.key.c order.key.h order.key.r order.key.n
 
 abbrev pub FormatsIf : Bool → Bool → ChipState → ChipState → Type 0
-FormatsIf true mfm old new = Begins task.Sent false (format_bytes old.order) old new
+FormatsIf true mfm old new = Begins task.Sent (GivesCommand (formatting old.order)) old new
 FormatsIf false mfm old new = Refuses no_key mfm old new
 
 -- a FORMAT TRACK takes four bytes for each of its sectors
@@ -229,14 +228,19 @@ abbrev pub Formats : Bool → ChipState → ChipState → Type 0
 Formats mfm old new =
     FormatsIf (mfm && is_size old.order.key.c) mfm (with_keys old.order.key.h (with_last old.order.key.h old)) new
 
--- a command of sectors, which this medium can have or can't
-abbrev pub TransfersIf : Bool → Bool → ChipTask → List ℕ → ChipState → ChipState → Type 0
-TransfersIf true mfm what bytes old new = Begins what (implies old) bytes (sought_if (implies old) old) new
-TransfersIf false mfm what bytes old new = Refuses old.order.key mfm old new
+-- the command of several sectors that an order spells. The Bool says whether the heads go to its cylinder first
+abbrev pub transfer_sent : Bool → Order → Transfer
+transfer_sent seeks order = transfer_with seeks (opcode_of order.code) order.unit order.key order.last_sector order.gap order.length
 
-abbrev pub Transfers : Bool → ChipTask → List ℕ → ChipState → ChipState → Type 0
-Transfers mfm what bytes old new =
-    TransfersIf (mfm && is_size old.order.key.n) mfm what bytes (with_last old.order.last_sector old) new
+-- a command of sectors, which this medium can have or can't. The inner controller is given that of another order
+abbrev pub TransfersIf : Bool → Bool → ChipTask → Order → ChipState → ChipState → Type 0
+TransfersIf true mfm what order old new =
+    Begins what (GivesTransfer (transfer_sent (implies old) order)) (sought_if (implies old) old) new
+TransfersIf false mfm what order old new = Refuses old.order.key mfm old new
+
+abbrev pub Transfers : Bool → ChipTask → Order → ChipState → ChipState → Type 0
+Transfers mfm what order old new =
+    TransfersIf (mfm && is_size old.order.key.n) mfm what order (with_last old.order.last_sector old) new
 
 -- ---- VERIFY
 
@@ -258,7 +262,7 @@ verifying order = record order { code = bit_or 0x46 (bit_and order.code 0xA0); u
 
 abbrev pub Verifies : Bool → ChipState → ChipState → Type 0
 Verifies mfm old new =
-    Transfers mfm (task.Verify (sectors_verified old.order * size_of old.order.key.n)) (order_bytes (verifying old.order)) old new
+    Transfers mfm (task.Verify (sectors_verified old.order * size_of old.order.key.n)) (verifying old.order) old new
 
 -- ---- READ TRACK
 
@@ -280,9 +284,9 @@ track_begun seeks order = record {
   st2 = record { 0 = 0 };
 }
 
--- the bytes of a READ DATA of one sector
-abbrev pub reading_one : ℕ → Chrn → ℕ → ℕ → List ℕ
-reading_one unit key gap length = 0x46 ∷ unit ∷ key.c ∷ key.h ∷ key.r ∷ key.n ∷ key.r ∷ gap ∷ length ∷ []
+-- the READ DATA of one sector, in place of a READ TRACK
+abbrev pub reading_one : Chrn → Order → Order
+reading_one key order = record order { code = 0x46; key = key; last_sector = key.r }
 
 -- a sector ID that no track is expected to have. The search for it ends with the index pulse
 abbrev pub absent_key : ℕ → Chrn
@@ -290,13 +294,13 @@ absent_key c = record { c = c; h = 0xFF; r = 0xFF; n = 6 }
 
 abbrev pub ReadsTrack : Bool → ChipState → ChipState → Type 0
 ReadsTrack mfm old new = let order = old.order in
-    Transfers mfm (task.Track (track_begun (implies old) order)) (reading_one order.unit (absent_key order.key.c) order.gap order.length) old new
+    Transfers mfm (task.Track (track_begun (implies old) order)) (reading_one (absent_key order.key.c) order) old new
 
 -- ---- all commands
 
 abbrev pub Obeys : ChipOpcode → ChipState → ChipState → Type 0
 Obeys Specify old new = new ≡ specified old
-Obeys SenseDrive old new = Asks (0x04 ∷ old.order.unit ∷ []) old new
+Obeys SenseDrive old new = new ≡ drive_sensed old
 Obeys SenseInterrupt old new = new ≡ sensing old
 Obeys Recalibrate old new = Moves None old new
 Obeys Seek old new = Moves (Some old.order.key.c) old new
@@ -304,12 +308,12 @@ Obeys (RelativeSeek inward) old new =
     Moves (Some (relative_target inward (cylinder_of old.order.unit old.interrupts) old.order.key.c)) old new
 Obeys Version old new = new ≡ told_byte 0x90 old
 Obeys Perpendicular old new = new ≡ made_perpendicular old
-Obeys Configure old new = SendsOn (configuring old.order.key.c old.order.key.h) (configured old) new
+Obeys Configure old new = GivesOn (configuring old.order.key.c old.order.key.h) (configured old) new
 Obeys DumpRegisters old new = new ≡ dumped old
 Obeys (Lock on) old new = new ≡ locked on old
 Obeys (ReadId mfm) old new = BeginsReadId mfm old new
 Obeys (FormatTrack mfm) old new = Formats mfm old new
-Obeys (Transfer mfm) old new = Transfers mfm task.Sent (order_bytes old.order) old new
+Obeys (TransferCode mfm) old new = Transfers mfm task.Sent old.order old new
 Obeys (Verify mfm) old new = Verifies mfm old new
 Obeys (ReadTrack mfm) old new = ReadsTrack mfm old new
 

@@ -1,5 +1,5 @@
 -- How what the inner controller executes ends, and what comes of it.
-use Rattle.std.specs.Prelude.{◌≡◌, ℕ, ◌+◌, ◌-◌, ◌*◌, ◌%◌, nat_le, Bool, true, false, not, ◌==◌, ◌&&◌, ◌||◌, Option, Some, None, if◌then◌else◌, bit_and}
+use Rattle.std.specs.Prelude.{◌≡◌, ℕ, ◌+◌, ◌-◌, ◌*◌, ◌%◌, nat_le, Bool, true, false, not, ◌==◌, ◌&&◌, ◌||◌, Option, Some, None, option_map, if◌then◌else◌, bit_and}
 use Rattle.std.specs.Int.Bits.{bit_xor}
 use Rattle.std.specs.Int.RustNames.{bit_or}
 use Rattle.flop_base.specs.declared.key.Chrn.{Chrn}
@@ -8,13 +8,12 @@ use Rattle.fdc_registers.specs.St0.{abnormal, seek_end}
 use Rattle.fdc_registers.specs.St1.{end_of_cylinder, overrun, no_data, missing_mark}
 use Rattle.fdc_registers.specs.St2.{wrong_cylinder, bad_cylinder, missing_data_mark}
 use Rattle.fdc_commands.specs.declared.results.Results.{Results}
-use Rattle.fdc_adapter.specs.Adapters.{drive_at, selected_at}
-use Rattle.fdc_sequencer.specs.Senses.{is_through}
+use Rattle.fdc_sequencer.specs.Adapters.{drive_at, selected_at}
 use Rattle.fdc_sequencer.specs.Transfers.{size_of}
-use Rattle.fdc_sequencer.specs.Fronts.{Front, ReadsSector, after_reading, sector_alone, value_outside, with_seeks}
+use Rattle.fdc_sequencer.specs.Fronts.{Front, ReadsSector, is_through, results_outside, results_taken, sector_alone}
 use Rattle.fdc_chip.specs.Chips.{ChipState, KeepsRest, with_front}
 use Rattle.fdc_chip.specs.Codes.{has_bit, has_multitrack}
-use Rattle.fdc_chip.specs.Doing.{SendsOn, told, identifying, is_size}
+use Rattle.fdc_chip.specs.Doing.{GivesOn, told, identifying, is_size}
 use Rattle.fdc_chip.specs.Orders.{is_format}
 use Rattle.fdc_chip.specs.declared.answer.ChipAnswer.TheVariants as answer
 use Rattle.fdc_chip.specs.declared.order.Order.{Order}
@@ -24,43 +23,6 @@ use Rattle.fdc_chip.specs.declared.stage.ChipStage.TheVariants.{Busy}
 use Rattle.fdc_chip.specs.declared.stage.ChipTask.{ChipTask}
 use Rattle.fdc_chip.specs.declared.stage.ChipTask.TheVariants as task
 use Rattle.fdc_chip.specs.declared.stage.Track.{Track}
-
--- ---- the results of what the inner controller executed
-
--- the inner controller after one byte of its results was read; then the byte
-abbrev pub behind_one : Front → Front
-behind_one front = after_reading 0x3F5 front
-
-abbrev pub byte_behind : Front → ℕ
-byte_behind front = value_outside 0x3F5 front
-
--- the inner controller after this many bytes of its results were read
-abbrev pub behind_three : Front → Front
-behind_three front = behind_one (behind_one (behind_one front))
-
-abbrev pub behind_six : Front → Front
-behind_six front = behind_three (behind_three front)
-
-abbrev pub results_behind : Front → Results
-results_behind front = record {
-  st0 = record { 0 = byte_behind front };
-  st1 = record { 0 = byte_behind (behind_one front) };
-  st2 = record { 0 = byte_behind (behind_one (behind_one front)) };
-  key = record {
-    c = byte_behind (behind_three front);
-    h = byte_behind (behind_one (behind_three front));
-    r = byte_behind (behind_one (behind_one (behind_three front)));
-    n = byte_behind (behind_six front);
-  };
-}
-
--- the inner controller after all seven bytes were read
-abbrev pub results_taken : Front → Front
-results_taken front = behind_one (behind_six front)
-
--- results wait to be read
-abbrev pub has_results : Front → Bool
-has_results front = bit_and (value_outside 0x3F4 front) 0xC0 == 0xC0
 
 -- ---- FORMAT TRACK
 
@@ -97,10 +59,13 @@ as_done results = record results { st0 = record { 0 = bit_and results.st0.0 0x3F
 abbrev pub done_if : Bool → Results → Results
 done_if room results = if room && says_cut results then as_done results else results
 
--- the results that wait, as the chip judges them: a FORMAT TRACK is done if the index cut nothing but gap 3 of its last
--- sector
-abbrev pub results_judged : ChipState → Results
-results_judged chip = done_if (has_room chip) (results_behind chip.front)
+-- these results, as the chip judges them: a FORMAT TRACK is done if the index cut nothing but gap 3 of its last sector
+abbrev pub judged : ChipState → Results → Results
+judged chip results = done_if (has_room chip) results
+
+-- the results that wait in the inner controller, as the chip judges them
+abbrev pub results_judged : ChipState → Option Results
+results_judged chip = option_map (judged chip) (results_outside chip.front)
 
 -- ---- what is reported
 
@@ -216,13 +181,13 @@ with_fault fault track = record track { st1 = record { 0 = bit_or track.st1.0 fa
 abbrev pub track_told : Track → ChipState → ChipState
 track_told track old = told_results (results_of_track track) old
 
--- this READ TRACK is then under way, and no seek is implied for its next commands
+-- this READ TRACK is then under way
 abbrev pub track_at : Track → ChipState → ChipState
-track_at track old = record old { front = with_seeks false old.front; stage = Busy (task.Track track) }
+track_at track old = record old { stage = Busy (task.Track track) }
 
 -- the READ TRACK looks for the next address field
 abbrev pub LooksOn : Track → ChipState → ChipState → Type 0
-LooksOn track old new = SendsOn (identifying track.unit) (track_at (record track { place = Address }) old) new
+LooksOn track old new = GivesOn (identifying track.unit) (track_at (record track { place = Address }) old) new
 
 -- the sector of an address field, with as many bytes as the command says
 abbrev pub sector_met : Chrn → Track → Chrn
@@ -270,7 +235,7 @@ EndsAt Data track results old new = let over = without_one results track in Ends
 
 abbrev pub EndsSent : Bool → Results → ChipState → ChipState → Type 0
 EndsSent true results old new =
-    SendsOn (identifying (unit_of results)) (record old { stage = Busy (task.Sought results) }) new
+    GivesOn (identifying (unit_of results)) (record old { stage = Busy (task.Sought results) }) new
 EndsSent false results old new = new ≡ told_results results old
 
 -- what the inner controller executed for this task ended with these results
@@ -281,10 +246,10 @@ Ends (task.Refused unit key mfm) results old new = new ≡ told_results (refusal
 Ends (task.Verify _) results old new = let told = verified old.order results in EndsSent (looks_for_cylinder old.order told) told old new
 Ends (task.Track track) results old new = EndsAt track.place track results old new
 
-abbrev pub EndsIf : Bool → ChipTask → ChipState → ChipState → Type 0
-EndsIf true task old new = Ends task (results_judged old) (with_front (results_taken old.front) old) new
-EndsIf false task old new = new ≡ old
+abbrev pub EndsAs : Option Results → ChipTask → ChipState → ChipState → Type 0
+EndsAs None task old new = new ≡ old
+EndsAs (Some results) task old new = Ends task results (with_front (results_taken old.front) old) new
 
 -- if results of the task wait, they are taken, and `Ends` says what comes of them
 abbrev pub MayEnd : ChipTask → ChipState → ChipState → Type 0
-MayEnd task old new = EndsIf (has_results old.front) task old new
+MayEnd task old new = EndsAs (results_judged old) task old new

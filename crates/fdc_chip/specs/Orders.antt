@@ -1,5 +1,5 @@
 -- The bytes of a command, one after the other.
-use Rattle.std.specs.Prelude.{ℕ, Bool, ◌==◌, List, [], ◌∷◌, if◌then◌else◌, bit_and}
+use Rattle.std.specs.Prelude.{ℕ, Bool, ◌==◌, if◌then◌else◌, bit_and}
 use Rattle.flop_base.specs.declared.key.Chrn.{Chrn}
 use Rattle.fdc_chip.specs.declared.order.Order.{Order}
 
@@ -29,8 +29,3 @@ with_byte place byte old =
     if place == 6 then record old { last_sector = byte } else (
     if place == 7 then record old { gap = byte } else
     record old { length = byte })))))))
-
--- the nine bytes of a command
-abbrev pub order_bytes : Order → List ℕ
-order_bytes order =
-    order.code ∷ order.unit ∷ order.key.c ∷ order.key.h ∷ order.key.r ∷ order.key.n ∷ order.last_sector ∷ order.gap ∷ order.length ∷ []

@@ -1,8 +1,9 @@
 -- Seeks whose pulses come in the time that SPECIFY sets.
 use Rattle.std.specs.Prelude.{◌≡◌, ℕ, ◌+◌, ◌-◌, ◌*◌, max, min, Bool, true, false, not, ◌==◌, ◌&&◌, ◌||◌, Option, Some, None, is_none, if◌then◌else◌, nat_le, nat_lt, unwrap_or}
-use Rattle.fdc_sequencer.specs.Senses.{is_ready, recalibrated_outside}
+use Rattle.fdc_sequencer.specs.Fronts.{is_ready}
+use Rattle.fdc_sequencer.specs.Senses.{recalibrated_outside}
 use Rattle.fdc_chip.specs.Chips.{ChipState, with_front}
-use Rattle.fdc_chip.specs.Doing.{SendsOn, drained, moving, moves_heads}
+use Rattle.fdc_chip.specs.Doing.{GivesOn, drained, moving, moves_heads}
 use Rattle.fdc_chip.specs.Settings.{step_words}
 use Rattle.fdc_chip.specs.declared.pace.PacedSeek.{PacedSeek}
 
@@ -29,14 +30,14 @@ is_due pace chip = (nat_le pace.wait 1 && is_ready chip.front) && not (moves_hea
 -- the inner controller is given what ends the seek: a SEEK of its cylinder, or a RECALIBRATE with at most the pulses
 -- that are left of the 79
 abbrev pub EndsAt : Option ℕ → PacedSeek → ChipState → ChipState → Type 0
-EndsAt (Some target) pace old new = SendsOn (moving pace.unit (Some target)) old new
+EndsAt (Some target) pace old new = GivesOn (moving pace.unit (Some target)) old new
 EndsAt None pace old new = new ≡ with_front (recalibrated_outside pace.unit pace.left old.front) old
 
 -- a seek that is over ends. Otherwise the inner controller is given a SEEK by one cylinder
 abbrev pub PulsesIf : Bool → PacedSeek → ChipState → ChipState → Type 0
 PulsesIf true pace old new = EndsAt pace.goal pace (record old { pace = None }) new
 PulsesIf false pace old new = let next = stepped (step_words old.settings) pace in
-    SendsOn (moving pace.unit (Some next.cylinder)) (record old { pace = Some next }) new
+    GivesOn (moving pace.unit (Some next.cylinder)) (record old { pace = Some next }) new
 
 abbrev pub GoesOnIf : Bool → PacedSeek → ChipState → ChipState → Type 0
 GoesOnIf true pace old new = PulsesIf (is_over pace) pace old new

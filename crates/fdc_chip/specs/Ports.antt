@@ -3,8 +3,7 @@ use Rattle.std.specs.Prelude.{◌≡◌, ℕ, ◌+◌, ◌-◌, ◌%◌, Bool, t
 use Rattle.std.specs.Int.RustNames.{bit_or}
 use Rattle.fdc_registers.specs.Dor.{gate}
 use Rattle.fdc_core.specs.Ports.{resets}
-use Rattle.fdc_sequencer.specs.Fronts.{Front, WritesFront, TakesFront, GivesFront, told_front}
-use Rattle.fdc_sequencer.specs.Senses.{is_ready}
+use Rattle.fdc_sequencer.specs.Fronts.{Front, GivesFront, TakesFront, WritesFront, is_ready, told_front}
 use Rattle.fdc_chip.specs.Answers.{answer_bytes, is_of_data}
 use Rattle.fdc_chip.specs.Chips.{ChipState, with_front, KeepsRest, status_of, value_of, passes_by_port, passes_by_channel, is_data}
 use Rattle.fdc_chip.specs.Codes.{code_of, has_bit, parameters}

@@ -1,10 +1,11 @@
 -- For how many device steps INT and DRQ surely stay as they are.
 use Rattle.std.specs.Prelude.{◌≡◌, ◌⊎◌, ◌≤◌, ℕ, zero, suc, min, Bool, true, false, is_none, Option, None, Some, if◌then◌else◌}
 use Rattle.fdc_core.specs.Courses.{awaits_nothing}
-use Rattle.fdc_adapter.specs.Still.{steps_ahead}
-use Rattle.fdc_sequencer.specs.Fronts.{interrupts_outside}
-use Rattle.fdc_sequencer.specs.Senses.{is_ready}
+use Rattle.fdc_sequencer.specs.AdapterStill.{steps_ahead}
+use Rattle.fdc_sequencer.specs.Fronts.{interrupts_outside, is_ready}
+use Rattle.fdc_sequencer.specs.Quiet.{ForeseesBehind, IsQuietBehind, seeks_at}
 use Rattle.fdc_sequencer.specs.Still.{stands_at, StandsFront}
+use Rattle.fdc_sequencer.specs.declared.stage.FrontStage.{FrontStage}
 use Rattle.fdc_chip.specs.Chips.{ChipState, interrupts_chip, asks_chip}
 use Rattle.fdc_chip.specs.Codes.{code_of}
 use Rattle.fdc_chip.specs.Doing.{needs_heads}
@@ -16,6 +17,8 @@ use Rattle.fdc_chip.specs.declared.order.Order.{Order}
 use Rattle.fdc_chip.specs.declared.pace.PacedSeek.{PacedSeek}
 use Rattle.fdc_chip.specs.declared.stage.ChipStage.{ChipStage}
 use Rattle.fdc_chip.specs.declared.stage.ChipStage.TheVariants.{Ready, Held, Busy, Telling}
+use Rattle.fdc_chip.specs.declared.stage.ChipTask.{ChipTask}
+use Rattle.fdc_chip.specs.declared.stage.ChipTask.TheVariants.{Verify}
 
 -- this many device steps, whatever the drives do in them
 unfoldable pub StepsBy : ℕ → ChipState → ChipState → Type 0
@@ -81,8 +84,8 @@ head_steps (Some pace) chip = steps_left (step_words chip.settings) pace
 abbrev pub due_steps : ChipState → ℕ
 due_steps chip = if awaits_heads chip then head_steps chip.pace chip else 0
 
--- the number of device steps, at most `most`, for which the lines are said to stay. It is `most` if nothing runs, or if
--- INT can't change. It is 0 while a command is executed
+-- the number of device steps, at most `most`, for which the lines are said to stay where no command is executed. It is
+-- `most` if nothing runs, or if INT can't change
 abbrev pub quiet_steps : (most : ℕ) → ChipState → ℕ
 quiet_steps most chip =
     if is_still_at chip then most else (
@@ -105,3 +108,36 @@ pub record IsStill (chip : ChipState) : Type 0 where
 pub record IsSettled (chip : ChipState) : Type 0 where
   pub rests : rests_at chip.stage ≡ true
   pub fixed : (chip.gated ≡ false) ⊎ (chip.interrupts.line ≡ true)
+
+-- ---- while a command is executed
+
+-- the inner controller executes a command
+abbrev pub is_busy : ChipStage → Bool
+is_busy (Busy _) = true
+is_busy _ = false
+
+-- a device step takes no byte of what is executed. The bytes of a VERIFY go nowhere, and are taken in each step, but
+-- none comes while the heads go to its cylinder
+abbrev pub takes_none : ChipTask → FrontStage → Bool
+takes_none (Verify _) stage = seeks_at stage
+takes_none _ stage = true
+
+-- a command is executed, and a device step only waits for its results
+abbrev pub awaits_results : ChipStage → FrontStage → Bool
+awaits_results (Busy task) stage = takes_none task stage
+awaits_results _ stage = false
+
+-- ---- both
+
+-- so many device steps, at most `most`, surely leave INT and DRQ as they are.
+--
+-- Where no command is executed, the number is that of `quiet_steps`, and this holds whatever the drives do. While a
+-- command is executed, the number is computed from the words that pass next, and this holds if the inner controller's
+-- own lines stay by so many steps. That is foreseen of a READ ID, a READ DATA and the search of a write if no fault can
+-- come, and by what was heard of the track. While the heads go to the command's cylinder, nothing has to be known
+pub record StaysQuiet (most : ℕ) (chip : ChipState) (count : ℕ) : Type 0 where
+  pub few : count ≤ most
+  pub value : is_busy chip.stage ≡ false → count ≡ quiet_steps most chip
+  pub rests : is_busy chip.stage ≡ false → IsQuietFor count chip
+  pub foresees : is_busy chip.stage ≡ true → ForeseesBehind count chip.front
+  pub executes : is_busy chip.stage ≡ true → IsQuietBehind count chip.front → IsQuietFor count chip

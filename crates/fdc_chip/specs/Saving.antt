@@ -83,10 +83,10 @@ spelled_stage (stage.Telling answer read) rest = 3 ∷ spelled_answer answer (sp
 abbrev pub ChipFits : {D : Type 0} → (D → Type 0) → Chip D → Type 0
 ChipFits fits chip = SequencerFits fits chip.behind × AreFour chip.interrupts
 
--- the letter G, then the inner controller, and then what the chip keeps
+-- the letter H, then the inner controller, and then what the chip keeps
 unfoldable pub spelled_chip : {D : Type 0} → (D → List ℕ → List ℕ) → Chip D → List ℕ → List ℕ
 spelled_chip spelled chip rest =
-    71 ∷ spelled_sequencer spelled chip.behind (spelled_stage chip.stage (spelled_order chip.order (spelled_byte chip.count
+    72 ∷ spelled_sequencer spelled chip.behind (spelled_stage chip.stage (spelled_order chip.order (spelled_byte chip.count
     (spelled_interrupts chip.interrupts (spelled_settings chip.settings (spelled_flag chip.strapped (spelled_word chip.keys
     (spelled_flag chip.gated (spelled_option spelled_pace chip.pace (spelled_flag chip.paced
     (spelled_byte chip.tape rest)))))))))))

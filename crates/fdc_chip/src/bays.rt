@@ -2,9 +2,9 @@
 ghost use Rattle.std.specs.Prelude.{◌≡◌, ◌≤◌, ◌+◌, ◌%◌, ◌↔◌, IsTrue, IsBitSet};
 ghost use Rattle.std.specs.Option.{option_copied};
 ghost use Rattle.drive_model.specs.Drive.{forgotten, rate_of};
-ghost use Rattle.fdc_adapter.specs.Adapters.{controller_of, drive_at};
-ghost use Rattle.fdc_adapter.specs.Handling.{PutsIn, TakesOut, Sets};
-ghost use Rattle.fdc_adapter.specs.WordTimes.{nanoseconds};
+ghost use Rattle.fdc_sequencer.specs.Adapters.{controller_of, drive_at};
+ghost use Rattle.fdc_sequencer.specs.Handling.{PutsIn, TakesOut, Sets};
+ghost use Rattle.fdc_sequencer.specs.WordTimes.{nanoseconds};
 ghost use Rattle.fdc_core.specs.State.{dor_of, data_rate};
 ghost use Rattle.fdc_sequencer.specs.Fronts.{adapter_of};
 ghost use Rattle.fdc_chip.specs.Chips.{chip_state, behind_of, KeepsChip, index_words, indexes, indexes_chip};

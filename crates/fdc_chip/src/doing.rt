@@ -1,8 +1,7 @@
 // What a whole command does.
 ghost use Rattle.std.specs.Prelude.{◌≡◌};
-ghost use Rattle.fdc_sequencer.specs.Fronts.{front_state};
-ghost use Rattle.fdc_chip.specs.Chips.{chip_state, behind_of, KeepsRest};
-ghost use Rattle.fdc_chip.specs.Doing.{Sends, SendsOn, is_told, drained_one, drained, moves_heads, is_moving, told, ready, sensing, specified, configured, configuring, dumped, locked, made_perpendicular, relative_target, Asks, Moves, Obeys, AttendsTo, Attends, needs_heads};
+ghost use Rattle.fdc_chip.specs.Chips.{chip_state};
+ghost use Rattle.fdc_chip.specs.Doing.{GivesOn, is_told, drained_one, drained, moves_heads, is_moving, told, ready, sensing, specified, configured, configuring, dumped, locked, made_perpendicular, relative_target, drive_sensed, Moves, Obeys, AttendsTo, Attends, needs_heads};
 ghost use Rattle.fdc_chip.specs.Interrupts.{cylinder_of};
 
 use crate::answer::{ChipAnswer, Registers};
@@ -13,13 +12,11 @@ use crate::pace::PacedSeek;
 use crate::settings::Settings;
 use crate::stage::{ChipStage, ChipTask};
 use drive_model::Inspect;
+use fdc_commands::Command;
 use fdc_registers::{Flags, St0};
 
 /// MSR when the port is read.
 pub(crate) const STATUS: u16 = 0x3F4;
-
-/// The data port.
-pub(crate) const DATA: u16 = 0x3F5;
 
 /// The only result byte of a command that is invalid.
 const INVALID: u8 = 0x80;
@@ -65,13 +62,11 @@ fn relative_target(inward: bool, cylinder: u8, count: u8) -> u8
 }
 
 impl<D: Inspect> Chip<D> {
-    /// Gives bytes to the inner controller.
-    pub(crate) fn send(&mut self, bytes: &[u8])
-        ensures { SendsOn bytes.now (chip_state D.state self.old) (chip_state D.state self.new) }
+    /// Gives a command to the inner controller, if it takes one.
+    pub(crate) fn command(&mut self, command: Command)
+        ensures { GivesOn command (chip_state D.state self.old) (chip_state D.state self.new) }
     {
-        for byte in bytes {
-            self.behind.write(DATA, *byte);
-        }
+        self.behind.give_command(command);
     }
 
     /// Lets the host read this answer.
@@ -152,13 +147,12 @@ impl<D: Inspect> Chip<D> {
         ensures { Obeys code (chip_state D.state self.old) (chip_state D.state self.new) }
     {
         let order = self.order;
-        let Order { unit, key, .. } = order;
         match code {
             ChipOpcode::Specify => self.specify(),
-            ChipOpcode::SenseDrive => self.ask(&[0x04, unit]),
+            ChipOpcode::SenseDrive => self.sense_drive(),
             ChipOpcode::SenseInterrupt => self.sense_interrupt(),
             ChipOpcode::Recalibrate => self.move_heads(None),
-            ChipOpcode::Seek => self.move_heads(Some(key.c)),
+            ChipOpcode::Seek => self.move_heads(Some(order.key.c)),
             ChipOpcode::RelativeSeek { inward } => self.seek_from_here(inward),
             ChipOpcode::Version => self.tell(ChipAnswer::Byte { byte: ENHANCED }),
             ChipOpcode::Perpendicular => self.make_perpendicular(),
@@ -185,12 +179,11 @@ impl<D: Inspect> Chip<D> {
         self.stage = ChipStage::Ready;
     }
 
-    /// Gives a command to the inner controller, which answers it with one byte.
-    fn ask(&mut self, bytes: &[u8])
-        ensures { Asks bytes.now (chip_state D.state self.old) (chip_state D.state self.new) }
+    /// SENSE DRIVE STATUS.
+    fn sense_drive(&mut self)
+        ensures { chip_state D.state self.new ≡ drive_sensed (chip_state D.state self.old) }
     {
-        self.send(bytes);
-        let byte = self.behind.read(DATA);
+        let byte = self.behind.drive_status(self.order.unit);
         self.tell(ChipAnswer::Byte { byte });
     }
 
@@ -236,7 +229,7 @@ impl<D: Inspect> Chip<D> {
         self.stage = ChipStage::Ready;
     }
 
-    /// CONFIGURE. Whether a seek is implied is set in the inner controller with each command.
+    /// CONFIGURE. The inner controller knows no EIS.
     fn configure(&mut self)
         ensures { Obeys ChipOpcode.Configure (chip_state D.state self.old) (chip_state D.state self.new) }
     {
@@ -253,9 +246,13 @@ impl<D: Inspect> Chip<D> {
 
     /// Gives CONFIGURE to the inner controller.
     pub(crate) fn configure_behind(&mut self, options: u8, precompensation: u8)
-        ensures { SendsOn (configuring options precompensation) (chip_state D.state self.old) (chip_state D.state self.new) }
+        ensures { GivesOn (configuring options precompensation) (chip_state D.state self.old) (chip_state D.state self.new) }
     {
-        self.send(&[0x13, 0, options & WITHOUT_IMPLIED_SEEK, precompensation]);
+        self.command(Command::Configure {
+            zero: 0,
+            options: options & WITHOUT_IMPLIED_SEEK,
+            pretrk: precompensation,
+        });
     }
 
     /// DUMPREG.

@@ -1,19 +1,17 @@
 // How what the inner controller executes ends, and what comes of it.
 ghost use Rattle.std.specs.Prelude.{◌≡◌, ◌==◌, not};
-ghost use Rattle.fdc_sequencer.specs.Fronts.{Front, front_state};
-ghost use Rattle.fdc_chip.specs.Chips.{chip_state, behind_of, with_front};
-ghost use Rattle.fdc_chip.specs.Ending.{behind_one, byte_behind, results_behind, results_taken, has_results, told_results, has_key, looks_for_cylinder, unit_of, cylinder_bits, with_cylinder_passed, saw_marks, refusal, behind_last, is_done, verified, EndsSent, Ends, MayEnd};
+ghost use Rattle.fdc_chip.specs.Chips.{chip_state};
+ghost use Rattle.fdc_chip.specs.Ending.{told_results, has_key, looks_for_cylinder, unit_of, cylinder_bits, with_cylinder_passed, saw_marks, refusal, behind_last, is_done, verified, EndsSent, Ends, MayEnd};
 
 use crate::answer::ChipAnswer;
 use crate::chip::Chip;
 use crate::code::{MULTITRACK, has_bit};
-use crate::doing::{DATA, STATUS};
 use crate::order::Order;
 use crate::stage::{ChipStage, ChipTask};
 use crate::starting::COUNTS;
 use drive_model::Inspect;
-use fdc_commands::Results;
-use fdc_registers::{Flags, Msr, St0, St1, St2};
+use fdc_commands::{Command, Results};
+use fdc_registers::{Flags, St0, St1, St2};
 use flop_base::Chrn;
 
 /// The head and the drive in ST0.
@@ -21,9 +19,6 @@ const UNIT: u8 = 0x07;
 
 /// What a VERIFY that is done leaves of ST0: the head, the drive and SE.
 const WITHOUT_CODE: u8 = 0x27;
-
-/// READ ID with MFM.
-const READ_ID: u8 = 0x4A;
 
 /// The bits that say which command a code is; then READ ID by these bits.
 const COMMAND: u8 = 0x1F;
@@ -127,43 +122,6 @@ impl Order {
 }
 
 impl<D: Inspect> Chip<D> {
-    /// Whether results of the inner controller wait.
-    fn has_results(&mut self) -> bool
-        ensures waits { result ≡ has_results (chip_state D.state self.old).front }
-        ensures same { chip_state D.state self.new ≡ chip_state D.state self.old }
-    {
-        let wait = Msr::RQM.union(Msr::DIO).bits();
-        self.behind.read(STATUS) & wait == wait
-    }
-
-    /// The next byte of these results.
-    fn next_result(&mut self) -> u8
-        ensures byte { result ≡ byte_behind (chip_state D.state self.old).front }
-        ensures after { chip_state D.state self.new ≡ with_front (behind_one (chip_state D.state self.old).front) (chip_state D.state self.old) }
-    {
-        self.behind.read(DATA)
-    }
-
-    /// Takes all seven bytes of the results.
-    pub(crate) fn take_results(&mut self) -> Results
-        ensures results { result ≡ results_behind (chip_state D.state self.old).front }
-        ensures after { chip_state D.state self.new ≡ with_front (results_taken (chip_state D.state self.old).front) (chip_state D.state self.old) }
-    {
-        let st0 = St0(self.next_result());
-        let st1 = St1(self.next_result());
-        let st2 = St2(self.next_result());
-        let c = self.next_result();
-        let h = self.next_result();
-        let r = self.next_result();
-        let n = self.next_result();
-        Results {
-            st0,
-            st1,
-            st2,
-            key: Chrn { c, h, r, n },
-        }
-    }
-
     /// Lets the host read results. INT rises.
     pub(crate) fn tell_results(&mut self, results: Results)
         ensures { chip_state D.state self.new ≡ told_results results (chip_state D.state self.old) }
@@ -176,8 +134,7 @@ impl<D: Inspect> Chip<D> {
     pub(crate) fn may_end(&mut self, task: ChipTask)
         ensures { MayEnd task (chip_state D.state self.old) (chip_state D.state self.new) }
     {
-        if self.has_results() {
-            let results = self.take_judged();
+        if let Some(results) = self.take_judged() {
             self.end(task, results);
         }
     }
@@ -210,6 +167,8 @@ impl<D: Inspect> Chip<D> {
         self.stage = ChipStage::Busy {
             task: ChipTask::Sought { results },
         };
-        self.send(&[READ_ID, results.st0.bits() & UNIT]);
+        self.command(Command::ReadId {
+            head_drive: results.st0.bits() & UNIT,
+        });
     }
 }

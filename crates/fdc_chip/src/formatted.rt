@@ -1,10 +1,11 @@
 // A FORMAT TRACK that the index cuts in gap 3 of its last sector. It is done (82077AA data sheet: a format ends at the
 // index). The inner controller reports it as cut, because it counts this gap as a part of the layout.
 ghost use Rattle.std.specs.Prelude.{◌≡◌, ◌≤◌, ◌+◌};
-ghost use Rattle.fdc_adapter.specs.Adapters.{drive_at};
+ghost use Rattle.fdc_sequencer.specs.Adapters.{drive_at};
+ghost use Rattle.fdc_sequencer.specs.Fronts.{results_taken};
 ghost use Rattle.fdc_sequencer.specs.Transfers.{size_of};
 ghost use Rattle.fdc_chip.specs.Chips.{chip_state, with_front};
-ghost use Rattle.fdc_chip.specs.Ending.{as_done, done_if, fits_but_gap, fits_selected, has_room, layout_words, results_judged, results_taken, says_cut, words_in};
+ghost use Rattle.fdc_chip.specs.Ending.{as_done, done_if, fits_but_gap, fits_selected, has_room, layout_words, results_judged, says_cut, words_in};
 
 use crate::chip::Chip;
 use crate::order::Order;
@@ -112,14 +113,14 @@ impl<D: Inspect> Chip<D> {
         self.order.is_format() && (self.behind.is_through() && self.fits_selected())
     }
 
-    /// Takes all seven bytes of the results that wait, and judges them. A FORMAT TRACK is done if the index cut nothing
-    /// but gap 3 of its last sector.
-    pub(crate) fn take_judged(&mut self) -> Results
+    /// Takes the results that wait in the inner controller, and judges them. A FORMAT TRACK is done if the index cut
+    /// nothing but gap 3 of its last sector.
+    pub(crate) fn take_judged(&mut self) -> Option<Results>
         ensures results { result ≡ results_judged (chip_state D.state self.old) }
         ensures after { chip_state D.state self.new ≡ with_front (results_taken (chip_state D.state self.old).front) (chip_state D.state self.old) }
     {
         let room = self.has_room();
-        let results = self.take_results();
-        done_if(room, results)
+        let results = self.behind.take_results()?;
+        Some(done_if(room, results))
     }
 }

@@ -106,7 +106,7 @@ impl<D: Inspect> Chip<D> {
     }
 
     /// Does at least one device step and at most `most`, and gives their number. No step comes after one in which a
-    /// line changes.
+    /// line changes. While nothing runs, all of them are made at once.
     fn advance(&mut self, most: u32) -> u32
         requires { 1 ≤ most }
         ensures some { 1 ≤ result }
@@ -117,10 +117,19 @@ impl<D: Inspect> Chip<D> {
         match self.stage {
             ChipStage::Ready
                 if self.pace.is_none() && !self.interrupts.is_up() && !self.behind.int() => {
-                self.advance_ready(most)
+                return self.advance_ready(most);
             }
-            _ => self.advance_other(most),
+            _ => {}
         }
+        if self.is_still() {
+            return self.behind.run(most);
+        }
+        let made = self.leap(most);
+        if made != 0 {
+            return made;
+        }
+        self.step();
+        1
     }
 
     /// Does what `advance` does, while nothing is under way, no pulses are to come and INT is down. Many steps are then

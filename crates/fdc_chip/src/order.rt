@@ -1,7 +1,9 @@
 // The bytes of a command, one after the other.
 ghost use Rattle.std.specs.Prelude.{◌≡◌};
-ghost use Rattle.fdc_chip.specs.Orders.{blank, is_format, with_byte, order_bytes};
+ghost use Rattle.fdc_chip.specs.Doing.{transfer_sent};
+ghost use Rattle.fdc_chip.specs.Orders.{blank, is_format, with_byte};
 
+use fdc_sequencer::{Opcode, Transfer};
 use flop_base::Chrn;
 
 /// The bits that say which command a code is; then FORMAT TRACK by these bits.
@@ -87,21 +89,18 @@ impl Order {
         }
     }
 
-    /// The nine bytes of the command.
-    pub(crate) fn bytes(self) -> [u8; 9]
-        ensures { result ≡ order_bytes self }
+    /// The command of several sectors that the order spells. `seeks` says whether the heads go to its cylinder first.
+    pub(crate) fn transfer(self, seeks: bool) -> Transfer
+        ensures { result ≡ transfer_sent seeks self }
     {
-        let Chrn { c, h, r, n } = self.key;
-        [
-            self.code,
-            self.unit,
-            c,
-            h,
-            r,
-            n,
-            self.last_sector,
-            self.gap,
-            self.length,
-        ]
+        Transfer {
+            opcode: Opcode::of(self.code),
+            head_drive: self.unit,
+            key: self.key,
+            last_sector: self.last_sector,
+            gap: self.gap,
+            length: self.length,
+            seeks,
+        }
     }
 }

@@ -2,20 +2,15 @@
 // cylinder. A RECALIBRATE ends with the pulses that are left of its 79.
 ghost use Rattle.std.specs.Prelude.{◌≡◌, Some};
 ghost use Rattle.fdc_chip.specs.Chips.{chip_state, pace_bit};
-ghost use Rattle.fdc_chip.specs.Doing.{SendsOn, moving, pace_begun};
+ghost use Rattle.fdc_chip.specs.Doing.{GivesOn, moving, pace_begun};
 ghost use Rattle.fdc_chip.specs.Interrupts.{cylinder_of};
 ghost use Rattle.fdc_chip.specs.Paces.{target_of, stepped, is_over, is_due, EndsAt, PulsesIf, GoesOn, Paces, pulses_left, steps_left};
 
 use crate::chip::Chip;
 use drive_model::Inspect;
+use fdc_commands::Command;
 use fdc_registers::Flags;
 use fdc_sequencer::drive_bit;
-
-/// RECALIBRATE.
-const RECALIBRATE: u8 = 0x07;
-
-/// SEEK.
-const SEEK: u8 = 0x0F;
 
 /// The most pulses that a RECALIBRATE gives.
 const RECALIBRATE_PULSES: u8 = 79;
@@ -124,12 +119,15 @@ impl PacedSeek {
 impl<D: Inspect> Chip<D> {
     /// Gives a SEEK of a cylinder or a RECALIBRATE to the inner controller.
     pub(crate) fn send_move(&mut self, unit: u8, goal: Option<u8>)
-        ensures { SendsOn (moving unit goal) (chip_state D.state self.old) (chip_state D.state self.new) }
+        ensures { GivesOn (moving unit goal) (chip_state D.state self.old) (chip_state D.state self.new) }
     {
-        match goal {
-            Some(target) => self.send(&[SEEK, unit, target]),
-            None => self.send(&[RECALIBRATE, unit]),
-        }
+        self.command(match goal {
+            Some(target) => Command::Seek {
+                head_drive: unit,
+                ncn: target,
+            },
+            None => Command::Recalibrate { drive: unit },
+        });
     }
 
     /// Does a device step of such a seek, if one is under way. The results of the inner controller are taken over

@@ -1,6 +1,6 @@
 // Ports.
 ghost use Rattle.std.specs.Prelude.{◌≡◌, ◌==◌, ◌&&◌};
-ghost use Rattle.fdc_adapter.specs.Adapters.{SameDrives};
+ghost use Rattle.fdc_sequencer.specs.Adapters.{SameDrives};
 ghost use Rattle.fdc_sequencer.specs.Fronts.{adapter_of};
 ghost use Rattle.fdc_chip.specs.Chips.{chip_state, behind_of, status_of, stage_bits, execution_bits, port_bits, output_of};
 ghost use Rattle.fdc_chip.specs.Ports.{ReadsChip, ReadsAt, PassesOut, byte_told, WritesChip, TakesByte, Collects, may_come, with_next, PassesIn, is_whole, latched_by, value_behind};
@@ -8,13 +8,16 @@ ghost use Rattle.fdc_chip.specs.Ports.{ReadsChip, ReadsAt, PassesOut, byte_told,
 use crate::answer::{ChipAnswer, NOTHING};
 use crate::chip::Chip;
 use crate::code::{ChipOpcode, has_bit};
-use crate::doing::{DATA, STATUS};
+use crate::doing::STATUS;
 use crate::interrupts::Interrupts;
 use crate::pace::pace_bit;
 use crate::stage::ChipStage;
 use drive_model::Inspect;
 use fdc_core::Fdc;
 use fdc_registers::{Dor, Flags, Msr};
+
+/// The data port.
+const DATA: u16 = 0x3F5;
 
 /// DOR.
 const OUTPUT: u16 = 0x3F2;

@@ -1,9 +1,10 @@
 // How long no line changes, and device steps while nothing runs; also the ranges of the inner controller's numbers.
 ghost use Rattle.std.specs.Prelude.{◌≡◌, ◌≤◌, true};
 ghost use Rattle.fdc_core.specs.Ranges.{IsInRange};
+ghost use Rattle.fdc_sequencer.specs.Quiet.{ForeseesBehind, IsQuietBehind};
 ghost use Rattle.fdc_sequencer.specs.Ranges.{HasByteNumbers};
 ghost use Rattle.fdc_chip.specs.Chips.{chip_state, interrupts_chip, asks_chip};
-ghost use Rattle.fdc_chip.specs.Quiet.{IsIdle, IsQuietFor, IsStill, awaits_heads, due_steps, idles, is_for_heads, is_settled, is_still_at, quiet_steps, rests_at, tells_alone, waits_at};
+ghost use Rattle.fdc_chip.specs.Quiet.{IsIdle, IsQuietFor, IsStill, StaysQuiet, awaits_heads, awaits_results, due_steps, idles, is_busy, is_for_heads, is_settled, is_still_at, quiet_steps, rests_at, takes_none, tells_alone, waits_at};
 ghost use Rattle.fdc_chip.specs.Steps.{RunsChipWith};
 ghost use Rattle.fdc_chip.specs.declared.stage.ChipStage.TheVariants.{Busy};
 ghost use Rattle.fdc_chip.specs.declared.stage.ChipTask.TheVariants.{Sent};
@@ -56,13 +57,68 @@ impl<D: Inspect> Chip<D> {
         self.behind.ranges();
     }
 
-    /// This many device steps, at most `most`, surely leave INT and DRQ as they are, whatever the drives do.
+    /// This many device steps, at most `most`, surely leave INT and DRQ as they are.
     ///
     /// The number is `most` if no command is executed and no heads move, whether motors are on or off. It is also `most`
     /// if INT can't change, because DOR lets no line out or because INT is up already. Then no timer is needed until the
-    /// next call. While heads move, the number is that of the steps before their seek can end. It is 0 while a command is
-    /// executed.
+    /// next call. While heads move, the number is that of the steps before their seek can end. All this holds whatever
+    /// the drives do.
+    ///
+    /// While a command is executed, the number comes from the words that pass next, and ends before the next event. This
+    /// is the address field of a READ ID or of a write, or the data mark of a READ DATA, or the next byte of its content
+    /// for which the FIFO asks. The number holds if no fault can come, if the track is Plain, and if a READ DATA's sector
+    /// ID is there once. In an implied seek it is that of the steps before the seek can end. It is 0 in a write after its
+    /// search, in a FORMAT TRACK, and in a VERIFY that reads.
     pub fn quiet(&self, most: u32) -> u32
+        ensures { StaysQuiet most (chip_state D.state self.now) result }
+    {
+        if self.is_busy() {
+            return self.quiet_busy(most);
+        }
+        self.quiet_idle(most)
+    }
+
+    /// Whether the inner controller executes a command.
+    fn is_busy(&self) -> bool
+        ensures { result ≡ is_busy (chip_state D.state self.now).stage }
+    {
+        matches!(self.stage, ChipStage::Busy { .. })
+    }
+
+    /// `quiet` while a command is executed.
+    fn quiet_busy(&self, most: u32) -> u32
+        ensures few { result ≤ most }
+        ensures foresees { ForeseesBehind result (chip_state D.state self.now).front }
+        ensures lines { IsQuietBehind result (chip_state D.state self.now).front → IsQuietFor result (chip_state D.state self.now) }
+    {
+        if self.awaits_results() {
+            return self.behind.quiet_ahead(most);
+        }
+        UNKNOWN
+    }
+
+    /// Whether a command is executed, and a device step only waits for its results.
+    fn awaits_results(&self) -> bool
+        ensures { result ≡ awaits_results (chip_state D.state self.now).stage (chip_state D.state self.now).front.stage }
+    {
+        match self.stage {
+            ChipStage::Busy { task } => self.takes_none(task),
+            _ => false,
+        }
+    }
+
+    /// Whether a device step takes no byte of this task. Of a VERIFY none comes while the heads go to its cylinder.
+    fn takes_none(&self, task: ChipTask) -> bool
+        ensures { result ≡ takes_none task (chip_state D.state self.now).front.stage }
+    {
+        match task {
+            ChipTask::Verify { .. } => self.behind.seeks_first(),
+            _ => true,
+        }
+    }
+
+    /// `quiet` while no command is executed.
+    fn quiet_idle(&self, most: u32) -> u32
         ensures few { result ≤ most }
         ensures value { result ≡ quiet_steps most (chip_state D.state self.now) }
         ensures lines { IsQuietFor result (chip_state D.state self.now) }
@@ -99,7 +155,7 @@ impl<D: Inspect> Chip<D> {
     }
 
     /// Whether device steps change nothing but the drives.
-    fn is_still(&self) -> bool
+    pub(crate) fn is_still(&self) -> bool
         ensures value { result ≡ is_still_at (chip_state D.state self.now) }
         ensures still { result ≡ true → IsStill (chip_state D.state self.now) }
     {
@@ -164,29 +220,9 @@ impl<D: Inspect> Chip<D> {
         self.behind.adapter().awaits_nothing()
     }
 
-    /// Does at least one device step and at most `most`, and gives their number. No step comes after one in which a
-    /// line changes. While nothing runs, all of them are made at once.
-    pub(crate) fn advance_other(&mut self, most: u32) -> u32
-        requires { 1 ≤ most }
-        ensures some { 1 ≤ result }
-        ensures few { result ≤ most }
-        ensures runs { RunsChipWith (interrupts_chip (chip_state D.state self.old)) (asks_chip (chip_state D.state self.old)) result
-            (chip_state D.state self.old) (chip_state D.state self.new) }
-    {
-        if self.is_still() {
-            return self.behind.run(most);
-        }
-        let made = self.leap(most);
-        if made != 0 {
-            return made;
-        }
-        self.step();
-        1
-    }
-
     /// Does device steps at once while a command that was sent on moves a sector, at most `most`, and gives their
     /// number. Neither line changes in them. If the number is 0, the next step has to be done alone.
-    fn leap(&mut self, most: u32) -> u32
+    pub(crate) fn leap(&mut self, most: u32) -> u32
         ensures few { result ≤ most }
         ensures runs { RunsChipWith (interrupts_chip (chip_state D.state self.old)) (asks_chip (chip_state D.state self.old)) result
             (chip_state D.state self.old) (chip_state D.state self.new) }

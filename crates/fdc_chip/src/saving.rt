@@ -14,7 +14,7 @@ use saved_state::{Saved, SavedBytes, SavedWhole, Source};
 use std::alloc::Global;
 
 /// What the bytes of a chip begin with.
-const KIND: u8 = b'G';
+const KIND: u8 = b'H';
 
 impl Saved for Order {
     ghost use Rattle.std.specs.Prelude.{⊤};

@@ -1,9 +1,9 @@
 // Data commands. The inner controller is given those that this medium can have. For the others it searches instead.
 ghost use Rattle.std.specs.Prelude.{◌≡◌, ◌≤◌, ◌*◌, true};
+ghost use Rattle.fdc_sequencer.specs.Fronts.{GivesCommand, GivesTransfer};
 ghost use Rattle.fdc_sequencer.specs.Transfers.{size_of};
 ghost use Rattle.fdc_chip.specs.Chips.{chip_state};
-ghost use Rattle.fdc_chip.specs.Doing.{SendsOn, Begins, Remembers, Refuses, BeginsReadId, Formats, FormatsIf, Transfers, TransfersIf, Verifies, ReadsTrack, with_last, with_keys, implies, sectors_of_track, sought_if, is_size, no_key, sectors_to, sectors_verified, verifying, track_begun, absent_key, reading_one};
-ghost use Rattle.fdc_chip.specs.Orders.{order_bytes};
+ghost use Rattle.fdc_chip.specs.Doing.{Begins, Opens, Remembers, Refuses, BeginsReadId, Formats, FormatsIf, Transfers, TransfersIf, Verifies, ReadsTrack, with_last, with_keys, implies, sectors_of_track, sought_if, is_size, no_key, sectors_to, sectors_verified, verifying, track_begun, absent_key, reading_one};
 
 use crate::chip::Chip;
 use crate::code::{MULTITRACK, SKIP, has_bit};
@@ -11,17 +11,13 @@ use crate::order::Order;
 use crate::settings::Settings;
 use crate::stage::{ChipStage, ChipTask, Place, Track};
 use drive_model::Inspect;
+use fdc_commands::Command;
 use fdc_registers::{St1, St2};
+use fdc_sequencer::Transfer;
 use flop_base::Chrn;
 
 /// READ DATA with MFM.
 const READ_DATA: u8 = 0x46;
-
-/// READ ID with MFM.
-const READ_ID: u8 = 0x4A;
-
-/// FORMAT TRACK with MFM.
-const FORMAT_TRACK: u8 = 0x4D;
 
 /// The head and the drive in the second byte of a command.
 const UNIT: u8 = 0x07;
@@ -123,8 +119,8 @@ impl Order {
     }
 
     /// The READ DATA of one sector, with the gap and length of this command.
-    pub(crate) fn reading_one(self, key: Chrn) -> Order
-        ensures { order_bytes result ≡ reading_one self.unit key self.gap self.length }
+    fn reading_one(self, key: Chrn) -> Order
+        ensures { result ≡ reading_one key self }
     {
         Order {
             code: READ_DATA,
@@ -155,17 +151,30 @@ impl Track {
 }
 
 impl<D: Inspect> Chip<D> {
-    /// Begins a command of this task: INT falls, the pending result of its drive is dropped, and the inner controller
-    /// is given these bytes. `seeks` says whether a seek is implied for it.
-    fn begin(&mut self, task: ChipTask, seeks: bool, bytes: &[u8])
-        ensures { Begins task seeks bytes.now (chip_state D.state self.old) (chip_state D.state self.new) }
+    /// Begins a task: INT falls, and the pending result of its drive is dropped.
+    fn open(&mut self, task: ChipTask)
+        ensures { Opens task (chip_state D.state self.old) (chip_state D.state self.new) }
     {
         self.stage = ChipStage::Busy { task };
         let unit = self.order.unit;
         self.interrupts.forget(unit);
         self.remember();
-        self.behind.imply_seeks(seeks);
-        self.send(bytes);
+    }
+
+    /// Begins a command of this task, for which the inner controller is given this command.
+    fn begin(&mut self, task: ChipTask, command: Command)
+        ensures { Begins task (GivesCommand command) (chip_state D.state self.old) (chip_state D.state self.new) }
+    {
+        self.open(task);
+        self.behind.give_command(command);
+    }
+
+    /// Begins a command of this task, for which the inner controller is given this command of several sectors.
+    fn begin_transfer(&mut self, task: ChipTask, transfer: Transfer)
+        ensures { Begins task (GivesTransfer transfer) (chip_state D.state self.old) (chip_state D.state self.new) }
+    {
+        self.open(task);
+        self.behind.give_transfer(transfer);
     }
 
     /// Gives the inner controller again what LOCK kept over a reset.
@@ -195,8 +204,7 @@ impl<D: Inspect> Chip<D> {
         let unit = self.order.unit;
         self.begin(
             ChipTask::Refused { unit, key, mfm },
-            false,
-            &[READ_ID, unit],
+            Command::ReadId { head_drive: unit },
         );
     }
 
@@ -206,7 +214,7 @@ impl<D: Inspect> Chip<D> {
     {
         if mfm {
             let unit = self.order.unit;
-            self.begin(ChipTask::Sent, false, &[READ_ID, unit]);
+            self.begin(ChipTask::Sent, Command::ReadId { head_drive: unit });
         } else {
             self.refuse(NO_KEY, false);
         }
@@ -232,8 +240,13 @@ impl<D: Inspect> Chip<D> {
         if mfm && is_size(key.c) {
             self.begin(
                 ChipTask::Sent,
-                false,
-                &[FORMAT_TRACK, unit, key.c, key.h, key.r, key.n],
+                Command::FormatTrack {
+                    head_drive: unit,
+                    n: key.c,
+                    sc: key.h,
+                    gpl: key.r,
+                    fill: key.n,
+                },
             );
         } else {
             self.refuse(NO_KEY, mfm);
@@ -247,9 +260,9 @@ impl<D: Inspect> Chip<D> {
         self.strapped || self.settings.implies_seeks()
     }
 
-    /// Begins a command of sectors, for which the inner controller is given the bytes of another command.
+    /// Begins a command of sectors, for which the inner controller is given the one that this order spells.
     pub(crate) fn transfer(&mut self, mfm: bool, task: ChipTask, order: Order)
-        ensures { Transfers mfm task (order_bytes order) (chip_state D.state self.old) (chip_state D.state self.new) }
+        ensures { Transfers mfm task order (chip_state D.state self.old) (chip_state D.state self.new) }
     {
         let Order {
             unit,
@@ -266,7 +279,7 @@ impl<D: Inspect> Chip<D> {
         if seeks {
             self.interrupts.set_cylinder(unit, key.c);
         }
-        self.begin(task, seeks, &order.bytes());
+        self.begin_transfer(task, order.transfer(seeks));
     }
 
     /// VERIFY.

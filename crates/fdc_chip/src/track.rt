@@ -9,12 +9,9 @@ use crate::chip::Chip;
 use crate::stage::{ChipStage, ChipTask, Place, Track};
 use crate::starting::is_size;
 use drive_model::Inspect;
-use fdc_commands::Results;
+use fdc_commands::{Command, Results};
 use fdc_registers::{Flags, St0, St1};
 use flop_base::Chrn;
-
-/// READ ID with MFM.
-const READ_ID: u8 = 0x4A;
 
 /// The head and the drive in ST0.
 const UNIT: u8 = 0x07;
@@ -135,11 +132,10 @@ impl<D: Inspect> Chip<D> {
         self.tell_results(track.results());
     }
 
-    /// This READ TRACK is under way, and no seek is implied for its commands.
+    /// This READ TRACK is under way.
     fn go_on(&mut self, track: Track)
         ensures { chip_state D.state self.new ≡ track_at track (chip_state D.state self.old) }
     {
-        self.behind.imply_seeks(false);
         self.stage = ChipStage::Busy {
             task: ChipTask::Track { track },
         };
@@ -153,7 +149,9 @@ impl<D: Inspect> Chip<D> {
             place: Place::Address,
             ..track
         });
-        self.send(&[READ_ID, track.unit]);
+        self.command(Command::ReadId {
+            head_drive: track.unit,
+        });
     }
 
     /// Reads the data field of the address field that was met. The address field ended in this very device step.

@@ -76,17 +76,6 @@ impl CommandBytes {
             }
         }
     }
-
-    /// What this byte would come to. The byte isn't taken.
-    pub fn foresee(&self, byte: u8) -> Accepted
-        ensures { result ≡ answer (self.now ++ byte ∷ []) }
-    {
-        let mut next = CommandBytes {
-            bytes: self.bytes,
-            count: self.count,
-        };
-        next.accept(byte)
-    }
 }
 
 // What the bytes of a whole command come to.

@@ -16,7 +16,7 @@ use Rattle.fdc_stages.specs.declared.reading.ReadStage.TheVariants.{Search, Wait
 use Rattle.fdc_core.specs.Fields.{heard_words}
 
 -- a stage goes by the words alone
-same_words : (past other : Past) (key : Chrn) (told : List ℕ) (stage : ReadStage) → IsReading past key told stage → IsReading (record other { turns = past.turns; seen = past.seen }) key told stage
+pub same_words : (past other : Past) (key : Chrn) (told : List ℕ) (stage : ReadStage) → IsReading past key told stage → IsReading (record other { turns = past.turns; seen = past.seen }) key told stage
 same_words past other key told (Search searching) was = was
 same_words past other key told (Wait separator) ((p, at), none) = ((p, record { address = at.address; waits = at.waits; few = at.few }), none)
 same_words past other key told (Content separator deleted) (p, q, taken, at) =

@@ -17,4 +17,8 @@ pub mod Feeding
 pub mod Given
 mod Taking
 pub mod Coursing
+pub mod Quieting
+pub mod Foreseeing
+pub mod Foreseen
+pub mod ForeseenWrites
 mod AddressHeard

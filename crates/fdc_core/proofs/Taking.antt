@@ -34,7 +34,7 @@ with_more : (counted : Bool) (bytes more : List ℕ) (fifo : Fifo) → with_byte
 with_more true bytes more fifo = refl
 with_more false bytes more fifo = ap (λ b. record fifo { bytes = b }) (append_assoc fifo.bytes bytes more)
 
-with_none : (counted : Bool) (fifo : Fifo) → with_bytes counted [] fifo ≡ fifo
+pub with_none : (counted : Bool) (fifo : Fifo) → with_bytes counted [] fifo ≡ fifo
 with_none true fifo = refl
 with_none false fifo = ap (λ b. record fifo { bytes = b }) (append-nil fifo.bytes)
 
@@ -69,14 +69,14 @@ module _ (words : List ℕ) (i : ℕ) (inside : i < length words) (counted : Boo
   }
 
 -- fewer bytes find room too
-room_down : (count fewer : ℕ) (counted : Bool) (fifo : Fifo) → fewer ≤ count → HasRoom count counted fifo → HasRoom fewer counted fifo
+pub room_down : (count fewer : ℕ) (counted : Bool) (fifo : Fifo) → fewer ≤ count → HasRoom count counted fifo → HasRoom fewer counted fifo
 room_down count fewer counted fifo few room = record {
   quiet = λ bytes short. room.quiet bytes (omega arith);
   space = λ uncounted. let all = room.space uncounted in omega arith;
 }
 
 -- the room after one of the bytes
-room_behind : (count value : ℕ) (counted : Bool) (fifo : Fifo) → HasRoom (suc count) counted fifo → HasRoom count counted (with_bytes counted (value ∷ []) fifo)
+pub room_behind : (count value : ℕ) (counted : Bool) (fifo : Fifo) → HasRoom (suc count) counted fifo → HasRoom count counted (with_bytes counted (value ∷ []) fifo)
 room_behind count value counted fifo room = record {
   quiet = λ bytes short. ap (wants true false false) (with_more counted (value ∷ []) bytes fifo) ∙ room.quiet (value ∷ bytes) (omega arith);
   space = space_behind counted (suc count) count (value ∷ []) fifo (with_bytes counted (value ∷ []) fifo) refl (omega arith) room.space;
@@ -89,7 +89,7 @@ abbrev pub content_at : ℕ → Reading → Fdc → ℕ → ReadStage → Fifo �
 content_at head_drive reading old steps stage fifo = at_reading head_drive steps (at_stage reading stage) (record old { fifo = fifo })
 
 -- a step that gives no byte to the FIFO
-content_goes_on : (head_drive steps : ℕ) (reading : Reading) (next : ReadStage) (old : Fdc) → IsContent next → old.asking ≡ false → wants true false false old.fifo ≡ false → at_reading head_drive steps (at_stage reading next) old ≡ gone_on_reading head_drive steps (at_stage reading next) old
+pub content_goes_on : (head_drive steps : ℕ) (reading : Reading) (next : ReadStage) (old : Fdc) → IsContent next → old.asking ≡ false → wants true false false old.fifo ≡ false → at_reading head_drive steps (at_stage reading next) old ≡ gone_on_reading head_drive steps (at_stage reading next) old
 content_goes_on head_drive steps reading (stages.Search search) old is down low = absurd is
 content_goes_on head_drive steps reading (stages.Wait separator) old is down low = absurd is
 content_goes_on head_drive steps reading (stages.Over deleted good) old is down low = absurd is
@@ -99,14 +99,14 @@ content_goes_on head_drive steps reading (stages.Content separator deleted) old 
     ap (λ asking. record new { asking = asking }) keeps
 
 -- by whether TC came and whether the FIFO is full
-by_space : (counted full : Bool) (head_drive steps value : ℕ) (reading : Reading) (next : ReadStage) (old : Fdc) → (counted ≡ false → full ≡ false) → IsContent next → old.asking ≡ false → wants true false false (with_bytes counted (value ∷ []) old.fifo) ≡ false
+pub by_space : (counted full : Bool) (head_drive steps value : ℕ) (reading : Reading) (next : ReadStage) (old : Fdc) → (counted ≡ false → full ≡ false) → IsContent next → old.asking ≡ false → wants true false false (with_bytes counted (value ∷ []) old.fifo) ≡ false
     → at_reading head_drive steps (at_stage reading next) (record old { fifo = with_bytes counted (value ∷ []) old.fifo })
     ≡ (if counted then gone_on_reading head_drive steps (at_stage reading next) old else (if full then finished Overrun head_drive reading.wanted.key old else gone_on_reading head_drive steps (at_stage reading next) (pushed value old)))
 by_space true full head_drive steps value reading next old space is down low = content_goes_on head_drive steps reading next old is down low
 by_space false true head_drive steps value reading next old space is down low = absurd (false≢true (sym (space refl)))
 by_space false false head_drive steps value reading next old space is down low = content_goes_on head_drive steps reading next (pushed value old) is down low
 
-not_full : (fifo : Fifo) → length fifo.bytes + 1 ≤ room_of fifo.on → (length fifo.bytes == room_of fifo.on) ≡ false
+pub not_full : (fifo : Fifo) → length fifo.bytes + 1 ≤ room_of fifo.on → (length fifo.bytes == room_of fifo.on) ≡ false
 not_full fifo space = ne_eqb (length fifo.bytes) (room_of fifo.on) (λ is. omega arith)
 
 -- a word of the content, after `steps` device steps

@@ -13,3 +13,4 @@ pub mod Looks
 pub mod Late
 pub mod LateFields
 pub mod Spinning
+pub mod Certain

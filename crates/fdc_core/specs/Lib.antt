@@ -20,6 +20,7 @@ pub mod Tellings
 pub mod Whole
 pub mod Saving
 pub mod Courses
+pub mod Quiet
 pub mod Contents
 pub mod Fields
 pub mod Drives

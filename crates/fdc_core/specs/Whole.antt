@@ -1,9 +1,8 @@
 -- Whole commands and their endings, for a layer in front of the controller that collects the bytes itself.
 use Rattle.std.specs.Prelude.{ℕ, ◌%◌, Bool, not, ◌&&◌, ◌==◌, Option, Some, None, false, [], ◌∷◌, ◌++◌, if◌then◌else◌}
-use Rattle.fdc_commands.specs.Table.{answer, is_begun, whole}
+use Rattle.fdc_commands.specs.Table.{is_begun, whole}
 use Rattle.fdc_commands.specs.declared.bytes.Accepted.{Accepted}
 use Rattle.fdc_commands.specs.declared.bytes.Accepted.TheVariants.{Ready}
-use Rattle.fdc_commands.specs.declared.command.Command.TheVariants.{Configure}
 use Rattle.fdc_commands.specs.declared.motion.Motion.TheVariants.{Outward}
 use Rattle.fdc_commands.specs.Seeking.{seek_bits, has_ended_seek, pulses_within, with_motion, without_ended}
 use Rattle.fdc_stages.specs.declared.ending.Ending.{Ending}
@@ -11,22 +10,16 @@ use Rattle.fdc_core.specs.Commands.{TakesAs}
 use Rattle.fdc_core.specs.Ports.{is_taking}
 use Rattle.fdc_core.specs.declared.controller.Fdc.{Fdc}
 use Rattle.fdc_core.specs.declared.controller.Lines.{Lines}
-use Rattle.fdc_phases.specs.declared.phases.Phase.TheVariants.{Command as Taking}
+use Rattle.fdc_commands.specs.declared.results.Results.{Results}
+use Rattle.fdc_phases.specs.declared.answers.Answer.{Answer}
+use Rattle.fdc_phases.specs.declared.answers.Answer.TheVariants.{Long, Short}
+use Rattle.fdc_phases.specs.declared.phases.Phase.{Phase}
+use Rattle.fdc_phases.specs.declared.phases.Phase.TheVariants.{Command as Taking, Result as Waiting}
 use Rattle.fdc_phases.specs.Phases.{ending_of_phase, mark_of_phase}
 
 -- the data port takes a byte, and no byte of a command has come
 abbrev pub is_idle : Fdc → Bool
 is_idle fdc = is_taking fdc && not (is_begun fdc.command)
-
--- the options of a CONFIGURE
-abbrev pub options_of : Accepted → Option ℕ
-options_of (Ready (Configure _ options _)) = Some options
-options_of _ = None
-
--- the options of the CONFIGURE that a byte of a command completes, where the byte is taken and no seek bit is set
-abbrev pub options_with : ℕ → Fdc → Option ℕ
-options_with byte fdc =
-    if is_taking fdc && (seek_bits fdc.seeks == 0) then options_of (answer (fdc.command ++ byte ∷ [])) else None
 
 -- what the bytes of a command came to, once the size code of a whole command is checked
 abbrev pub looked_at : Accepted → Accepted
@@ -39,6 +32,18 @@ TakesWhole accepted lines old new = TakesAs (looked_at accepted) lines (record o
 
 abbrev pub ending_told : Fdc → Option Ending
 ending_told fdc = ending_of_phase fdc.phase
+
+-- the results of a data command, while the host may read them
+abbrev pub results_of_answer : Answer → Option Results
+results_of_answer (Long _ results _) = Some results
+results_of_answer (Short _ _) = None
+
+abbrev pub results_of_phase : Phase → Option Results
+results_of_phase (Waiting answer) = results_of_answer answer
+results_of_phase _ = None
+
+abbrev pub results_waiting : Fdc → Option Results
+results_waiting fdc = results_of_phase fdc.phase
 
 -- the results of a data command are given up: INT falls, and the controller takes commands
 abbrev pub given_up_if : Option Ending → Fdc → Fdc

@@ -31,7 +31,7 @@ const POLLING_OFF: u8 = 0x10;
 const THRESHOLD: u8 = 0x0F;
 
 /// Status register 3: the lines of the selected drive, with the head and the drive as they were sent.
-fn drive_status(lines: Lines, head_drive: u8) -> u8
+pub(crate) fn drive_status(lines: Lines, head_drive: u8) -> u8
     ensures { result ≡ status_of_lines lines head_drive }
 {
     let place = St3(head_drive & 0x07).union(St3::ALWAYS_ONE);

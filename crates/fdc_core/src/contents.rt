@@ -74,7 +74,7 @@ fn take_many<D: Drive>(
 }
 
 /// How many bytes can come with DRQ down, at most `most`. After the terminal count they are dropped.
-fn room_for(fifo: &Fifo, counted: bool, most: u32) -> u32
+pub(crate) fn room_for(fifo: &Fifo, counted: bool, most: u32) -> u32
     requires low { wants true false false fifo.now ≡ false }
     ensures few { result ≤ most }
     ensures room { HasRoom result counted fifo.now }

@@ -1,14 +1,19 @@
 // What the results of the commands mean. The bodies are empty: the contracts say what follows from what is known of a
 // command.
-ghost use Rattle.std.specs.Prelude.{◌≡◌, ℕ, Bool, false};
+ghost use Rattle.std.specs.Prelude.{◌≡◌, ℕ, Bool, false, Some};
+ghost use Rattle.drive_model.specs.Drive.{DriveState};
+ghost use Rattle.flop_base.specs.declared.key.Chrn.{Chrn};
 ghost use Rattle.track_model.specs.Fields.{IsSizeCode};
+ghost use Rattle.track_model.specs.Sectors.{IsPlain};
 ghost use Rattle.fdc_stages.specs.History.{Past};
+ghost use Rattle.fdc_core.specs.Drives.Hearing.{Outset, track_heard};
 ghost use Rattle.fdc_core.specs.Heard.{MayRead, MayReadId};
 ghost use Rattle.fdc_phases.specs.Heard.{Sent};
 ghost use Rattle.fdc_core.specs.Meaning.{ReadTells, ReadGives, IdTells, Paced};
 ghost use Rattle.fdc_stages.specs.Formats.{Numbers};
 ghost use Rattle.fdc_core.specs.Ports.{Gives, value_read, after_read};
 ghost use Rattle.fdc_core.specs.declared.controller.Lines.{Lines};
+ghost use Rattle.fdc_core.specs.Quiet.{HasSingle, HearsWhole, IsCertain, IsCertainOf};
 ghost use Rattle.fdc_core.specs.State.{asks};
 ghost use Rattle.fdc_core.specs.Tellings.{WritesWindow, WriteTells, LaysTrack, FormatTells};
 ghost use Rattle.fdc_core.specs.Waiting.{Feeds, CanWait};
@@ -59,6 +64,15 @@ pub fn format_tells()
 /// While DRQ is low the controller can wait nine device steps.
 pub fn quiet_request_waits()
     ensures { (slack : ℕ) (fdc : Fdc) → Feeds fdc → CanWait slack fdc → asks fdc ≡ false → CanWait 9 fdc }
+{}
+
+/// What has to be known for `Fdc::quiet_ahead`, of a command that has heard the words of a track: the track is Plain, and
+/// for a READ DATA it has the sector ID at most once.
+pub fn words_ahead_are_of_the_track()
+    ensures plain { (outset : Outset) (past : Past) (drive : DriveState) → HearsWhole outset past drive → drive.left ≡ Some 0
+        → IsPlain (track_heard outset) → IsCertain outset.head past.seen drive }
+    ensures single { (outset : Outset) (past : Past) (drive : DriveState) (key : Chrn) → HearsWhole outset past drive
+        → HasSingle key (track_heard outset) → IsCertainOf key outset.head past.seen drive }
 {}
 
 /// A read of the data port in the result phase gives the results byte by byte.

@@ -12,6 +12,7 @@ mod fields;
 mod formatting;
 pub mod laws;
 mod ports;
+mod quiet;
 mod reading;
 mod saving;
 mod steps;

@@ -1,13 +1,14 @@
 // Whole commands and their endings, for a layer in front of the controller that collects the bytes itself.
 ghost use Rattle.std.specs.Prelude.{◌≡◌};
 ghost use Rattle.fdc_core.specs.Listening.{is_executing};
-ghost use Rattle.fdc_core.specs.Whole.{is_idle, options_with, TakesWhole, ending_told, given_up, mark_of, recalibrated_within, without_seek};
+ghost use Rattle.fdc_core.specs.Commands.{status_of_lines};
+ghost use Rattle.fdc_core.specs.Whole.{is_idle, TakesWhole, ending_told, results_waiting, given_up, mark_of, recalibrated_within, without_seek};
 ghost use Rattle.fdc_commands.specs.Seeking.{has_ended_seek};
 
-use crate::commands::INVALID;
+use crate::commands::{INVALID, drive_status};
 use crate::controller::{Fdc, Lines};
-use fdc_commands::{Accepted, Command, CommandBytes};
-use fdc_phases::Phase;
+use fdc_commands::{Accepted, CommandBytes, Results};
+use fdc_phases::{Answer, Phase};
 use fdc_stages::Ending;
 
 impl Fdc {
@@ -18,24 +19,18 @@ impl Fdc {
         self.is_taking() && !self.command.is_begun()
     }
 
+    /// ST3, as SENSE DRIVE gives it: these lines, with the head and the drive as they were sent.
+    pub fn drive_status(lines: Lines, head_drive: u8) -> u8
+        ensures { result ≡ status_of_lines lines head_drive }
+    {
+        drive_status(lines, head_drive)
+    }
+
     /// Whether a data command is in execution.
     pub fn is_executing(&self) -> bool
         ensures { result ≡ is_executing self.now.phase }
     {
         matches!(self.phase, Phase::Execute { .. })
-    }
-
-    /// The options of the CONFIGURE that this byte of a command would complete, where it would be done.
-    pub fn options_with(&self, byte: u8) -> Option<u8>
-        ensures { result ≡ options_with byte self.now }
-    {
-        if !self.is_taking() || self.seeks.bits() != 0 {
-            return None;
-        }
-        match self.command.foresee(byte) {
-            Accepted::Ready(Command::Configure { options, .. }) => Some(options),
-            _ => None,
-        }
     }
 
     /// Takes what the bytes of a command came to elsewhere, in place of bytes that came to the data port.
@@ -60,6 +55,23 @@ impl Fdc {
         self.phase = Phase::Command;
         self.interrupt = false;
         Some(ending)
+    }
+
+    /// The results of a data command, while the host may read them. They are given up, INT falls, and the controller
+    /// takes commands.
+    pub fn take_results(&mut self) -> Option<Results>
+        ensures results { result ≡ results_waiting self.old }
+        ensures after { self.new ≡ given_up self.old }
+    {
+        let results = match &self.phase {
+            Phase::Result {
+                answer: Answer::Long { results, .. },
+            } => *results,
+            _ => return None,
+        };
+        self.phase = Phase::Command;
+        self.interrupt = false;
+        Some(results)
     }
 
     /// The mark of the data field that a READ DATA reads, once it is met: F8 is true.

@@ -1,6 +1,6 @@
 -- How the controller's own command for a sector begins.
 use Rattle.std.proofs.Common.{◌≡◌, Bool, true, false, refl}
-use Rattle.fdc_adapter.specs.Adapters.{AdapterState}
+use Rattle.fdc_sequencer.specs.Adapters.{AdapterState}
 use Rattle.fdc_sequencer.specs.Fronts.{Front, begun_if}
 use Rattle.fdc_sequencer.specs.declared.transfer.Transfer.{Transfer}
 

@@ -1,4 +1,7 @@
+pub mod AdapterRuns
+pub mod RateLemmas
+mod AdapterStanding
 mod Runs
-pub mod Codes
 mod Begun
 mod Standing
+pub mod Quieting

@@ -2,7 +2,7 @@
 use Rattle.std.proofs.Common.{◌≡◌, ℕ, zero, suc, ◌+◌, Bool, true, false, Option, None, refl, sym, ap, subst, ◌∙◌, add-suc, arith}
 use Rattle.std.proofs.lemmas.Bool.{true≢false}
 use Rattle.std.specs.Prelude.{◌&&◌, nat_lt}
-use Rattle.fdc_adapter.specs.Adapters.{AdapterState, LeapsAdapter, RunsWith, RunsTo, StepsAdapter}
+use Rattle.fdc_sequencer.specs.Adapters.{AdapterState, LeapsAdapter, RunsWith, RunsTo, StepsAdapter}
 use Rattle.fdc_core.specs.Courses.{HoldsLines}
 use Rattle.fdc_core.specs.Listening.{is_executing}
 use Rattle.fdc_phases.specs.Phases.{ending_of_phase}

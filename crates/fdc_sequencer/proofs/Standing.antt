@@ -1,20 +1,19 @@
 -- Device steps of a front in which nothing is done.
 use Rattle.std.proofs.Common.{◌≡◌, Bool, Option, true, sym, ap, ◌∙◌, subst}
 use Rattle.std.proofs.lemmas.Bool.{true≢false}
-use Rattle.fdc_adapter.specs.Adapters.{AdapterState}
-use Rattle.fdc_adapter.specs.Still.{Stands}
+use Rattle.fdc_sequencer.specs.Adapters.{AdapterState}
+use Rattle.fdc_sequencer.specs.AdapterStill.{Stands}
 use Rattle.fdc_core.specs.Whole.{mark_of}
 use Rattle.fdc_sequencer.specs.Fronts.{Front, KeepsFront}
 use Rattle.fdc_sequencer.specs.Moves.{FollowsStep, StepsFront}
 use Rattle.fdc_sequencer.specs.Still.{StandsFront, rests_at}
 use Rattle.fdc_sequencer.specs.declared.stage.FrontStage.{FrontStage}
-use Rattle.fdc_sequencer.specs.declared.stage.FrontStage.TheVariants.{Through, Collecting, Seeking, Moving, Telling}
+use Rattle.fdc_sequencer.specs.declared.stage.FrontStage.TheVariants.{Through, Seeking, Moving, Telling}
 
 -- nothing is done after the adapter's step
 follows_none : (mark : Option Bool) (stage : FrontStage) (old new : Front) → rests_at stage ≡ true → FollowsStep mark stage old new → new ≡ old
 follows_none mark Through old new rests follows = follows
-follows_none mark (Collecting opcode) old new rests follows = follows
-follows_none mark (Telling results read) old new rests follows = follows
+follows_none mark (Telling results) old new rests follows = follows
 follows_none mark (Seeking transfer counted) old new rests follows = absurd (true≢false (sym rests))
 follows_none mark (Moving moving) old new rests follows = absurd (true≢false (sym rests))
 
@@ -25,7 +24,7 @@ rests_on old new step rests = follows_none (mark_of old.adapter.controller) old.
 -- if that step leaves the controller as it is, all but the drives stays
 adapter_stands : (front old : Front) (between : AdapterState) → KeepsFront front old → between.controller ≡ front.adapter.controller → KeepsFront front (record old { adapter = between })
 adapter_stands front old between keeps same =
-    record { controller = same; stage = keeps.stage; bytes = keeps.bytes; strapped = keeps.strapped; configured = keeps.configured }
+    record { controller = same; stage = keeps.stage }
 
 pub stands_front : (front : Front) → rests_at front.stage ≡ true → Stands front.adapter.controller → StandsFront front
 stands_front front rests stands old new keeps step =

@@ -1,50 +1,41 @@
 -- A controller with its drives and what stands in front of it, as contracts see them: their state, their lines, port
--- accesses, and their side of the channel.
+-- accesses, commands, and their side of the channel.
 use Rattle.std.specs.Prelude.{◌≡◌, ℕ, ◌+◌, ◌-◌, ◌%◌, Bool, true, false, not, ◌==◌, ◌&&◌, ◌||◌, List, [], ◌∷◌, ◌++◌, Option, Some, None, if◌then◌else◌, nat_le, nat_lt, get_or, bit_and}
 use Rattle.std.specs.Int.RustNames.{bit_or}
 use Rattle.drive_model.specs.Drive.{DriveState}
 use Rattle.fdc_registers.specs.Msr.{rqm, dio, busy}
-use Rattle.fdc_commands.specs.Results.{result_bytes}
-use Rattle.fdc_commands.specs.Table.{answer, kept}
 use Rattle.fdc_commands.specs.declared.bytes.Accepted.{Accepted}
-use Rattle.fdc_commands.specs.declared.bytes.Accepted.TheVariants.{More, Ready, Invalid}
+use Rattle.fdc_commands.specs.declared.bytes.Accepted.TheVariants.{Ready}
+use Rattle.fdc_commands.specs.declared.command.Command.{Command}
 use Rattle.fdc_commands.specs.declared.command.Command.TheVariants.{Seek}
+use Rattle.fdc_commands.specs.declared.results.Results.{Results}
 use Rattle.flop_base.specs.declared.key.Chrn.{Chrn}
 use Rattle.fdc_core.specs.Dma.{byte_out, taken_out, taken_in, told_count, to_memory_of}
 use Rattle.fdc_core.specs.Fields.{ReadsField}
 use Rattle.fdc_core.specs.Listening.{is_executing}
-use Rattle.fdc_core.specs.Ports.{value_read, main_status, result_byte, given, resets}
+use Rattle.fdc_core.specs.Ports.{value_read, main_status, resets}
 use Rattle.fdc_core.specs.State.{asks, interrupts, is_gated}
-use Rattle.fdc_core.specs.Whole.{is_idle, options_with, TakesWhole}
+use Rattle.fdc_core.specs.Whole.{is_idle, TakesWhole, given_up, results_waiting}
 use Rattle.fdc_core.specs.declared.controller.Fdc.{Fdc}
-use Rattle.fdc_adapter.specs.Adapters.{AdapterState, adapter_state, adapter_with_drive, lines_at, IsNewAdapter, WritesAdapter, Takes, Gives}
-use Rattle.fdc_adapter.specs.declared.adapter.DisketteAdapter.{DisketteAdapter}
-use Rattle.fdc_sequencer.specs.Opcodes.{opcode_of, plain_code}
-use Rattle.fdc_sequencer.specs.Transfers.{transfer_of, transfer_with, command_of, size_of}
-use Rattle.fdc_sequencer.specs.declared.opcode.Opcode.{Opcode}
+use Rattle.fdc_sequencer.specs.Adapters.{AdapterState, adapter_state, adapter_with_drive, lines_at, IsNewAdapter, WritesAdapter, Takes, Gives}
+use Rattle.fdc_sequencer.specs.declared.adapter.DisketteAdapter.{DisketteAdapter}
+use Rattle.fdc_sequencer.specs.Transfers.{transfer_with, command_of, size_of}
 use Rattle.fdc_sequencer.specs.declared.opcode.Operation.TheVariants.{Read}
 use Rattle.fdc_sequencer.specs.declared.sequencer.Sequencer.{Sequencer}
 use Rattle.fdc_sequencer.specs.declared.stage.Moving.{Moving as MovingSector}
 use Rattle.fdc_sequencer.specs.declared.stage.FrontStage.{FrontStage}
-use Rattle.fdc_sequencer.specs.declared.stage.FrontStage.TheVariants.{Through, Collecting, Seeking, Moving, Telling}
+use Rattle.fdc_sequencer.specs.declared.stage.FrontStage.TheVariants.{Through, Seeking, Moving, Telling}
 use Rattle.fdc_sequencer.specs.declared.transfer.Transfer.{Transfer}
 
--- the adapter, what is done in front of it, and the bytes of the command that comes. The last two fields say whether
--- seeks are implied: by a strap, or by CONFIGURE
+-- the adapter, and what is done in front of it
 pub record Front : Type 0 where
   pub adapter : AdapterState
   pub stage : FrontStage
-  pub bytes : List ℕ
-  pub strapped : Bool
-  pub configured : Bool
 
 abbrev pub front_state : {D : Type 0} → (D → DriveState) → Sequencer D → Front
 front_state state front = record {
   adapter = adapter_state state front.adapter;
   stage = front.stage;
-  bytes = front.bytes;
-  strapped = front.strapped;
-  configured = front.configured;
 }
 
 -- the adapter of the sequencer
@@ -59,25 +50,11 @@ front_with_drive bay drive front = record front { adapter = adapter_with_drive b
 pub record IsNewFront (bay0 bay1 : DriveState) (new : Front) : Type 0 where
   pub adapter : IsNewAdapter bay0 bay1 new.adapter
   pub stage : new.stage ≡ Through
-  pub bytes : new.bytes ≡ []
-  pub strapped : new.strapped ≡ false
-  pub configured : new.configured ≡ false
-
--- seeks are implied, by the strap or by CONFIGURE
-abbrev pub implies_seeks : Front → Bool
-implies_seeks front = front.strapped || front.configured
-
--- the front with seeks implied for each command, or for none, whatever the strap or CONFIGURE has set
-abbrev pub with_seeks : Bool → Front → Front
-with_seeks on front = record front { strapped = on; configured = false }
 
 -- all but the drives stays as it was
 pub record KeepsFront (old new : Front) : Type 0 where
   pub controller : new.adapter.controller ≡ old.adapter.controller
   pub stage : new.stage ≡ old.stage
-  pub bytes : new.bytes ≡ old.bytes
-  pub strapped : new.strapped ≡ old.strapped
-  pub configured : new.configured ≡ old.configured
 
 -- the adapter with this controller
 abbrev pub with_controller : Fdc → AdapterState → AdapterState
@@ -85,14 +62,13 @@ with_controller controller old = record old { controller = controller }
 
 -- ---- the lines outside
 
--- INT falls when a command of several sectors begins. It rises with the command's results, and stays up until the first
--- of them is read
+-- INT falls when a command of several sectors begins. It rises with the command's results, and stays up until they are
+-- taken
 abbrev pub interrupts_at : FrontStage → Fdc → Bool
 interrupts_at Through fdc = interrupts fdc
-interrupts_at (Collecting _) fdc = interrupts fdc
 interrupts_at (Seeking _ _) fdc = false
 interrupts_at (Moving _) fdc = false
-interrupts_at (Telling _ read) fdc = (read == 0) && is_gated fdc
+interrupts_at (Telling _) fdc = is_gated fdc
 
 abbrev pub interrupts_outside : Front → Bool
 interrupts_outside front = interrupts_at front.stage front.adapter.controller
@@ -105,6 +81,21 @@ asks_at _ fdc = false
 
 abbrev pub asks_outside : Front → Bool
 asks_outside front = asks_at front.stage front.adapter.controller
+
+-- ---- what is under way
+
+-- each access is the controller's: no command of several sectors is under way, or has results
+abbrev pub is_through : FrontStage → Bool
+is_through Through = true
+is_through _ = false
+
+-- moreover the controller takes commands
+abbrev pub is_ready_at : FrontStage → Fdc → Bool
+is_ready_at Through fdc = is_idle fdc
+is_ready_at _ fdc = false
+
+abbrev pub is_ready : Front → Bool
+is_ready front = is_ready_at front.stage front.adapter.controller
 
 -- ---- reads of a port
 
@@ -122,31 +113,36 @@ seeking_bit _ = 0
 -- MSR: busy during a command of several sectors
 abbrev pub status_at : FrontStage → Fdc → ℕ
 status_at Through fdc = main_status fdc
-status_at (Collecting _) fdc = bit_or (main_status fdc) busy
 status_at (Seeking transfer _) fdc = bit_or busy (drive_bit transfer.head_drive)
 status_at (Moving _) fdc = busy
-status_at (Telling _ _) fdc = bit_or (bit_or rqm dio) busy
+status_at (Telling _) fdc = bit_or (bit_or rqm dio) busy
 
--- the data port: the next result byte, or FF if there is none
-abbrev pub byte_at : FrontStage → Fdc → ℕ
-byte_at Through fdc = result_byte fdc.phase
-byte_at (Telling results read) fdc = get_or (result_bytes results) read 0xFF
-byte_at _ fdc = 0xFF
-
+-- what a port gives. Nothing comes from the data port, which is the port of a layer in front
 abbrev pub value_outside : ℕ → Front → ℕ
 value_outside port front =
     if port == 0x3F4 then status_at front.stage front.adapter.controller else (
-    if port == 0x3F5 then byte_at front.stage front.adapter.controller else
+    if port == 0x3F5 then 0xFF else
     value_read port (lines_at front.adapter) front.adapter.controller)
 
--- the front after the data port was read. After the seventh result byte, each access is the controller's again
-abbrev pub byte_given : FrontStage → Front → Front
-byte_given Through old = record old { adapter = with_controller (given old.adapter.controller) old.adapter }
-byte_given (Telling results read) old = record old { stage = if nat_le 6 read then Through else Telling results (read + 1) }
-byte_given _ old = old
+-- ---- results
 
-abbrev pub after_reading : ℕ → Front → Front
-after_reading port old = if port == 0x3F5 then byte_given old.stage old else old
+-- the results of a data command, once it has ended
+abbrev pub results_at : FrontStage → Fdc → Option Results
+results_at Through fdc = results_waiting fdc
+results_at (Telling results) fdc = Some results
+results_at _ fdc = None
+
+abbrev pub results_outside : Front → Option Results
+results_outside front = results_at front.stage front.adapter.controller
+
+-- the front after these results were taken
+abbrev pub taken_at : FrontStage → Front → Front
+taken_at Through old = record old { adapter = with_controller (given_up old.adapter.controller) old.adapter }
+taken_at (Telling _) old = record old { stage = Through }
+taken_at _ old = old
+
+abbrev pub results_taken : Front → Front
+results_taken old = taken_at old.stage old
 
 -- ---- a command begins
 
@@ -204,58 +200,42 @@ pub record ReadsSector (transfer : Transfer) (old new : Front) : Type 0 where
   pub reads : ReadsAdapter transfer old.adapter between
   pub begun : new ≡ record old { adapter = between; stage = Moving (moving_of transfer false false) }
 
--- a command starts, with a seek if seeks are implied
-abbrev pub Starts : Option Transfer → Front → Front → Type 0
-Starts None old new = new ≡ record old { stage = Through }
-Starts (Some transfer) old new = StartsIf transfer.seeks transfer old new
+-- a command of several sectors starts, with a seek if a seek is implied for it
+abbrev pub Starts : Transfer → Front → Front → Type 0
+Starts transfer old new = StartsIf transfer.seeks transfer old new
 
--- the controller answers a command whose size code isn't 1 to 6
-pub record Refuses (old new : Front) : Type 0 where
+-- a command is given to the controller itself
+pub record Commands (command : Command) (old new : Front) : Type 0 where
   pub between : AdapterState
-  pub takes : TakesAdapter Invalid old.adapter between
-  pub after : new ≡ record old { adapter = between; stage = Through }
+  pub takes : TakesAdapter (Ready command) old.adapter between
+  pub after : new ≡ record old { adapter = between }
+
+-- a command is given to the controller, if the controller takes one
+abbrev pub CommandsIf : Bool → Command → Front → Front → Type 0
+CommandsIf true command old new = Commands command old new
+CommandsIf false command old new = new ≡ old
+
+abbrev pub GivesCommand : Command → Front → Front → Type 0
+GivesCommand command old new = CommandsIf (is_ready old) command old new
+
+-- a command of several sectors is given, if one may start
+abbrev pub TransfersIf : Bool → Transfer → Front → Front → Type 0
+TransfersIf true transfer old new = Starts transfer old new
+TransfersIf false transfer old new = new ≡ old
+
+abbrev pub GivesTransfer : Transfer → Front → Front → Type 0
+GivesTransfer transfer old new = TransfersIf (is_ready old) transfer old new
 
 -- ---- writes of a port
 
--- what the front does when the bytes of a command come to this
-abbrev pub CollectsAs : Opcode → Accepted → Front → Front → Type 0
-CollectsAs opcode More old new = new ≡ old
-CollectsAs opcode (Ready command) old new = Starts (transfer_of (implies_seeks old) opcode command) old new
-CollectsAs opcode Invalid old new = Refuses old new
-
-abbrev pub Collects : Opcode → ℕ → Front → Front → Type 0
-Collects opcode byte old new =
-    let bytes = old.bytes ++ byte ∷ [] in CollectsAs opcode (answer bytes) (record old { bytes = kept (answer bytes) bytes }) new
-
--- EIS after a byte: what a CONFIGURE with these options set, if the byte completed one
-abbrev pub configured_with : Option ℕ → Bool → Bool
-configured_with None was = was
-configured_with (Some options) was = not (bit_and options 0x40 == 0)
-
--- a byte that begins a command of several sectors is kept here. Any other byte is the controller's
-abbrev pub PassesAs : Option Opcode → ℕ → Front → Front → Type 0
-PassesAs (Some opcode) byte old new =
-    new ≡ record old { stage = Collecting opcode; bytes = plain_code opcode.operation ∷ [] }
-PassesAs None byte old new =
-    WritesAdapter 0x3F5 byte old.adapter new.adapter
-    × (new ≡ record old { adapter = new.adapter; configured = configured_with (options_with byte old.adapter.controller) old.configured })
-
-abbrev pub begins_with : ℕ → Fdc → Option Opcode
-begins_with byte fdc = if is_idle fdc then opcode_of byte else None
-
-abbrev pub TakesByte : FrontStage → ℕ → Front → Front → Type 0
-TakesByte Through byte old new = PassesAs (begins_with byte old.adapter.controller) byte old new
-TakesByte (Collecting opcode) byte old new = Collects opcode byte old new
-TakesByte _ byte old new = new ≡ old
-
--- a reset ends what is done in front, and clears the EIS that CONFIGURE set
+-- a reset ends what is done in front
 abbrev pub reset_if : Bool → Front → Front
-reset_if true old = record old { stage = Through; configured = false }
+reset_if true old = record old { stage = Through }
 reset_if false old = old
 
--- a byte is written to a port
+-- a byte is written to a port. The data port is the port of a layer in front
 pub record WritesFront (port value : ℕ) (old new : Front) : Type 0 where
-  pub bytes : port ≡ 0x3F5 → TakesByte old.stage value old new
+  pub bytes : port ≡ 0x3F5 → new ≡ old
   pub others : (port == 0x3F5) ≡ false → WritesAdapter port value old.adapter new.adapter × (new ≡ record (reset_if (resets port value) old) { adapter = new.adapter })
 
 -- ---- the channel

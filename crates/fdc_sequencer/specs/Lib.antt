@@ -1,3 +1,10 @@
+pub mod WordTimes
+pub mod Adapters
+pub mod Handling
+pub mod History
+pub mod AdapterSenses
+pub mod AdapterSaving
+pub mod AdapterStill
 pub mod Opcodes
 pub mod Transfers
 pub mod Fronts
@@ -6,3 +13,4 @@ pub mod Senses
 pub mod Saving
 pub mod Still
 pub mod Ranges
+pub mod Quiet

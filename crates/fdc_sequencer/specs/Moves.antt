@@ -6,7 +6,7 @@ use Rattle.fdc_stages.specs.declared.ending.Ending.{Ending}
 use Rattle.fdc_stages.specs.declared.ending.Ending.TheVariants.{Done, BadCheck, NoCount}
 use Rattle.fdc_commands.specs.declared.results.Results.{Results}
 use Rattle.fdc_core.specs.Whole.{ending_told, given_up, mark_of, without_seek}
-use Rattle.fdc_adapter.specs.Adapters.{AdapterState, StepsAdapter}
+use Rattle.fdc_sequencer.specs.Adapters.{AdapterState, StepsAdapter}
 use Rattle.fdc_sequencer.specs.Fronts.{Front, with_controller, told_if, BeginsSector, interrupts_outside, asks_outside}
 use Rattle.fdc_sequencer.specs.Transfers.{next_of, is_last, is_other, other_mark, is_skipping, results_told, size_of}
 use Rattle.fdc_sequencer.specs.declared.opcode.Operation.{Operation}
@@ -53,7 +53,7 @@ results_failed mark moving ending = results_told ending moving.transfer moving.t
 
 abbrev pub EndsIf : Bool → MovingSector → Bool → Front → Front → Type 0
 EndsIf true moving deleted old new = BeginsSector (next_of moving.transfer) false (has_met_other moving deleted) old new
-EndsIf false moving deleted old new = new ≡ record old { stage = Telling (results_behind moving deleted) 0 }
+EndsIf false moving deleted old new = new ≡ record old { stage = Telling (results_behind moving deleted) }
 
 -- the ending of the controller's own command, as the command of several sectors judges it. A field that is passed over
 -- has the mark that isn't wanted, and its CRC doesn't count
@@ -69,7 +69,7 @@ judged_if moving (Some ending) = Some (judged moving ending)
 -- field was known before that
 abbrev pub EndsSector : Option Bool → MovingSector → Ending → Front → Front → Type 0
 EndsSector mark moving (Done deleted) old new = EndsIf (goes_on moving deleted) moving deleted old new
-EndsSector mark moving ending old new = new ≡ record old { stage = Telling (results_failed mark moving ending) 0 }
+EndsSector mark moving ending old new = new ≡ record old { stage = Telling (results_failed mark moving ending) }
 
 -- ---- device steps
 

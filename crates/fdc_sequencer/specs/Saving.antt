@@ -1,8 +1,8 @@
 -- The bytes in which a sequencer is saved.
 use Rattle.std.specs.Prelude.{ℕ, List, ◌∷◌}
-use Rattle.saved_state.specs.Saved.{spelled_byte, spelled_bytes, spelled_flag, spelled_key, spelled_word}
-use Rattle.fdc_commands.specs.Saving.{spelled_results, IsPart}
-use Rattle.fdc_adapter.specs.Saving.{spelled_adapter, AdapterFits}
+use Rattle.saved_state.specs.Saved.{spelled_byte, spelled_flag, spelled_key, spelled_word}
+use Rattle.fdc_commands.specs.Saving.{spelled_results}
+use Rattle.fdc_sequencer.specs.AdapterSaving.{spelled_adapter, AdapterFits}
 use Rattle.fdc_sequencer.specs.declared.opcode.Operation.{Operation}
 use Rattle.fdc_sequencer.specs.declared.opcode.Operation.TheVariants.{Read, Write}
 use Rattle.fdc_sequencer.specs.declared.opcode.Opcode.{Opcode}
@@ -36,17 +36,14 @@ spelled_moving moving rest =
 -- what is done in front of the controller
 unfoldable pub spelled_stage : FrontStage → List ℕ → List ℕ
 spelled_stage stage.Through rest = 0 ∷ rest
-spelled_stage (stage.Collecting opcode) rest = 1 ∷ spelled_opcode opcode rest
-spelled_stage (stage.Seeking transfer counted) rest = 2 ∷ spelled_transfer transfer (spelled_flag counted rest)
-spelled_stage (stage.Moving moving) rest = 3 ∷ spelled_moving moving rest
-spelled_stage (stage.Telling results read) rest = 4 ∷ spelled_results results (spelled_byte read rest)
+spelled_stage (stage.Seeking transfer counted) rest = 1 ∷ spelled_transfer transfer (spelled_flag counted rest)
+spelled_stage (stage.Moving moving) rest = 2 ∷ spelled_moving moving rest
+spelled_stage (stage.Telling results) rest = 3 ∷ spelled_results results rest
 
--- the adapter of the sequencer and its bytes of a command fit
+-- the adapter of the sequencer fits
 abbrev pub SequencerFits : {D : Type 0} → (D → Type 0) → Sequencer D → Type 0
-SequencerFits fits sequencer = AdapterFits fits sequencer.adapter × IsPart sequencer.bytes
+SequencerFits fits sequencer = AdapterFits fits sequencer.adapter
 
--- the letter C, then the adapter, where `spelled` gives the bytes of a drive, and then what the sequencer keeps
+-- the letter D, then the adapter, where `spelled` gives the bytes of a drive, and then what the sequencer keeps
 unfoldable pub spelled_sequencer : {D : Type 0} → (D → List ℕ → List ℕ) → Sequencer D → List ℕ → List ℕ
-spelled_sequencer spelled sequencer rest =
-    67 ∷ spelled_adapter spelled sequencer.adapter (spelled_stage sequencer.stage (spelled_bytes sequencer.bytes
-    (spelled_flag sequencer.strapped (spelled_flag sequencer.configured rest))))
+spelled_sequencer spelled sequencer rest = 68 ∷ spelled_adapter spelled sequencer.adapter (spelled_stage sequencer.stage rest)

@@ -1,24 +1,11 @@
 -- The controller of the sequencer, for a layer in front of the sequencer that keeps the results of seeks itself.
-use Rattle.std.specs.Prelude.{ℕ, Bool, true, false, Option, None}
-use Rattle.fdc_adapter.specs.Senses.{pending_result, after_result}
-use Rattle.fdc_core.specs.Whole.{is_idle, recalibrated_within}
+use Rattle.std.specs.Prelude.{ℕ, Option, None}
+use Rattle.fdc_sequencer.specs.AdapterSenses.{pending_result, after_result}
+use Rattle.fdc_core.specs.Whole.{recalibrated_within}
 use Rattle.fdc_core.specs.declared.controller.Fdc.{Fdc}
 use Rattle.fdc_sequencer.specs.Fronts.{Front, with_controller}
 use Rattle.fdc_sequencer.specs.declared.stage.FrontStage.{FrontStage}
 use Rattle.fdc_sequencer.specs.declared.stage.FrontStage.TheVariants.{Through}
-
--- each access is the controller's: no command of several sectors comes, is under way or gives results
-abbrev pub is_through : FrontStage → Bool
-is_through Through = true
-is_through _ = false
-
--- no command of several sectors is under way, and the controller takes the first byte of a command
-abbrev pub is_ready_at : FrontStage → Fdc → Bool
-is_ready_at Through fdc = is_idle fdc
-is_ready_at _ fdc = false
-
-abbrev pub is_ready : Front → Bool
-is_ready front = is_ready_at front.stage front.adapter.controller
 
 -- the result that SENSE INTERRUPT would give
 abbrev pub pending_at : FrontStage → Fdc → Option (ℕ × ℕ)

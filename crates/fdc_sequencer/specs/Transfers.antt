@@ -17,7 +17,7 @@ use Rattle.fdc_sequencer.specs.declared.transfer.Transfer.{Transfer}
 
 -- ---- the controller's own commands
 
--- a command with this code, at its first sector. The Bool says whether the heads go to its cylinder first
+-- a command of several sectors, at its first sector. The Bool says whether the heads go to its cylinder first
 abbrev pub transfer_with : Bool → Opcode → ℕ → Chrn → ℕ → ℕ → ℕ → Transfer
 transfer_with seeks opcode head_drive key last_sector gap length = record {
   opcode = opcode;
@@ -28,12 +28,6 @@ transfer_with seeks opcode head_drive key last_sector gap length = record {
   length = length;
   seeks = seeks;
 }
-
-abbrev pub transfer_of : Bool → Opcode → Command → Option Transfer
-transfer_of seeks opcode (ReadData head_drive key last_sector gap length) = Some (transfer_with seeks opcode head_drive key last_sector gap length)
-transfer_of seeks opcode (WriteData head_drive key last_sector gap length) = Some (transfer_with seeks opcode head_drive key last_sector gap length)
-transfer_of seeks opcode (WriteDeleted head_drive key last_sector gap length) = Some (transfer_with seeks opcode head_drive key last_sector gap length)
-transfer_of seeks opcode _ = None
 
 -- the controller's own command for one sector
 abbrev pub command_for : Operation → ℕ → Chrn → ℕ → ℕ → ℕ → Command

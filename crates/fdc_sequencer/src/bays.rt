@@ -1,13 +1,13 @@
 // The bays, which are those of the adapter.
 ghost use Rattle.std.specs.Prelude.{◌≡◌, ◌≤◌};
 ghost use Rattle.drive_model.specs.Drive.{forgotten};
-ghost use Rattle.fdc_adapter.specs.Adapters.{drive_at};
-ghost use Rattle.fdc_adapter.specs.Handling.{PutsIn, TakesOut, Sets};
+ghost use Rattle.fdc_sequencer.specs.Adapters.{drive_at};
+ghost use Rattle.fdc_sequencer.specs.Handling.{PutsIn, TakesOut, Sets};
 ghost use Rattle.fdc_sequencer.specs.Fronts.{front_state, adapter_of, KeepsFront};
 
+use crate::adapter::DisketteAdapter;
 use crate::sequencer::Sequencer;
 use drive_model::Inspect;
-use fdc_adapter::DisketteAdapter;
 use raw_image::Medium;
 
 impl<D: Inspect> Sequencer<D> {

@@ -1,6 +1,6 @@
 // The side of the DMA channel.
 ghost use Rattle.std.specs.Prelude.{◌≡◌, ◌≤◌};
-ghost use Rattle.fdc_adapter.specs.Adapters.{controller_of, SameDrives};
+ghost use Rattle.fdc_sequencer.specs.Adapters.{controller_of, SameDrives};
 ghost use Rattle.fdc_sequencer.specs.Fronts.{front_state, adapter_of, TakesFront, TakesMoving, GivesFront, GivesMoving, passed_one, told_front};
 
 use crate::sequencer::Sequencer;

@@ -1,12 +1,14 @@
-//! Commands of several sectors (Intel 82077AA data sheet: MT, SK, EOT, implied seeks), in front of a controller that
-//! takes one sector a command. The sequencer makes single commands of each such command, sector by sector.
+//! The controller with its two drives, and commands of several sectors (Intel 82077AA data sheet: MT, SK, EOT, implied
+//! seeks) in front of it. The sequencer makes commands of one sector of each such command, sector by sector.
 //!
-//! READ DATA, READ DELETED DATA, WRITE DATA and WRITE DELETED DATA are collected here. All other commands are the
-//! controller's.
+//! The bytes of commands are collected by a layer in front, the chip. It gives whole commands here, and takes their
+//! results.
 #![tactic(auto)]
 
+mod adapter;
 mod bays;
 mod channel;
+mod commands;
 mod field;
 mod moving;
 mod opcode;
@@ -19,6 +21,7 @@ mod stage;
 mod still;
 mod transfer;
 
+pub use adapter::DisketteAdapter;
 pub use opcode::{Opcode, Operation};
 pub use sequencer::Sequencer;
 pub use stage::{FrontStage, Moving};

@@ -1,6 +1,6 @@
 // Device steps: how a sector ends and the next begins.
 ghost use Rattle.std.specs.Prelude.{◌≡◌, true};
-ghost use Rattle.fdc_adapter.specs.Adapters.{controller_of};
+ghost use Rattle.fdc_sequencer.specs.Adapters.{controller_of};
 ghost use Rattle.fdc_core.specs.Whole.{ending_told};
 ghost use Rattle.fdc_commands.specs.Seeking.{has_ended_seek};
 ghost use Rattle.fdc_core.specs.Listening.{is_executing};
@@ -89,11 +89,11 @@ impl<D: Inspect> Sequencer<D> {
         }
     }
 
-    /// Lets the host read results.
+    /// The command has ended with these results.
     fn tell(&mut self, results: Results)
-        ensures { self.new ≡ record self.old { stage = FrontStage.Telling results 0 } }
+        ensures { self.new ≡ record self.old { stage = FrontStage.Telling results } }
     {
-        self.stage = FrontStage::Telling { results, read: 0 };
+        self.stage = FrontStage::Telling { results };
     }
 
     /// The controller's own command for a sector begins.

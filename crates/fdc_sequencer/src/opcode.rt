@@ -1,6 +1,6 @@
 // The codes of the commands that are served here.
 ghost use Rattle.std.specs.Prelude.{◌≡◌};
-ghost use Rattle.fdc_sequencer.specs.Opcodes.{operation_of, opcode_of, plain_code};
+ghost use Rattle.fdc_sequencer.specs.Opcodes.{operation_with, opcode_of};
 
 /// What a command does with its sectors.
 #[derive(Clone, Copy, PartialEq, Eq, Debug)]
@@ -23,56 +23,39 @@ pub struct Opcode {
 /// MT in a code.
 const MULTITRACK: u8 = 0x80;
 
-/// All but MT.
-const WITHOUT_MULTITRACK: u8 = 0x7F;
+/// SK in a code.
+const SKIP: u8 = 0x20;
 
-/// What a code without MT asks for. MFM is set in each of these codes, and SK only in some codes of reads.
-fn operation_of(code: u8) -> Option<Operation>
-    ensures { result ≡ operation_of code }
+/// The bits that say which command a code is.
+const COMMAND: u8 = 0x1F;
+
+/// What a command with these low five bits of its code does with its sectors. SK says nothing of a write.
+fn operation_with(low: u8, skip: bool) -> Operation
+    ensures { result ≡ operation_with low skip }
 {
-    match code {
-        0x46 => Some(Operation::Read {
-            deleted: false,
-            skip: false,
-        }),
-        0x66 => Some(Operation::Read {
-            deleted: false,
-            skip: true,
-        }),
-        0x4C => Some(Operation::Read {
+    match low {
+        0x05 => Operation::Write { deleted: false },
+        0x09 => Operation::Write { deleted: true },
+        0x0C => Operation::Read {
             deleted: true,
-            skip: false,
-        }),
-        0x6C => Some(Operation::Read {
-            deleted: true,
-            skip: true,
-        }),
-        0x45 => Some(Operation::Write { deleted: false }),
-        0x49 => Some(Operation::Write { deleted: true }),
-        _ => None,
+            skip,
+        },
+        _ => Operation::Read {
+            deleted: false,
+            skip,
+        },
     }
 }
 
 impl Opcode {
-    /// What a code asks for, if it is the code of one of these commands.
-    pub(crate) fn of(code: u8) -> Option<Opcode>
+    /// What the code of one of these commands asks for. Each code that is none of a write or of a READ DELETED DATA
+    /// passes as READ DATA.
+    pub fn of(code: u8) -> Opcode
         ensures { result ≡ opcode_of code }
     {
-        let operation = operation_of(code & WITHOUT_MULTITRACK)?;
-        Some(Opcode {
-            operation,
+        Opcode {
+            operation: operation_with(code & COMMAND, code & SKIP != 0),
             multitrack: code & MULTITRACK != 0,
-        })
-    }
-
-    /// The code of the controller's own command for one sector.
-    pub(crate) fn plain(self) -> u8
-        ensures { result ≡ plain_code self.operation }
-    {
-        match self.operation {
-            Operation::Read { .. } => 0x46,
-            Operation::Write { deleted: false } => 0x45,
-            Operation::Write { deleted: true } => 0x49,
         }
     }
 }

@@ -1,16 +1,16 @@
 // A sequencer as bytes.
+use crate::adapter::DisketteAdapter;
 use crate::opcode::{Opcode, Operation};
 use crate::sequencer::Sequencer;
 use crate::stage::{FrontStage, Moving};
 use crate::transfer::Transfer;
-use fdc_adapter::DisketteAdapter;
-use fdc_commands::{CommandBytes, Results};
+use fdc_commands::Results;
 use flop_base::{Chrn, NoMemory};
 use saved_state::{Saved, SavedBytes, SavedWhole, Source};
 use std::alloc::Global;
 
 /// What the bytes of a sequencer begin with.
-const KIND: u8 = b'C';
+const KIND: u8 = b'D';
 
 impl Saved for Operation {
     ghost use Rattle.std.specs.Prelude.{⊤};
@@ -162,23 +162,18 @@ impl Saved for FrontStage {
     fn save(&self, to: &mut SavedBytes) {
         match *self {
             FrontStage::Through => to.byte(0),
-            FrontStage::Collecting { opcode } => {
-                to.byte(1);
-                opcode.save(to);
-            }
             FrontStage::Seeking { transfer, counted } => {
-                to.byte(2);
+                to.byte(1);
                 transfer.save(to);
                 counted.save(to);
             }
             FrontStage::Moving { moving } => {
-                to.byte(3);
+                to.byte(2);
                 moving.save(to);
             }
-            FrontStage::Telling { results, read } => {
-                to.byte(4);
+            FrontStage::Telling { results } => {
+                to.byte(3);
                 results.save(to);
-                read.save(to);
             }
         }
     }
@@ -187,22 +182,17 @@ impl Saved for FrontStage {
     fn load(from: &mut Source<'_>) -> FrontStage {
         match from.byte() {
             1 => {
-                let opcode = Opcode::load(from);
-                FrontStage::Collecting { opcode }
-            }
-            2 => {
                 let transfer = Transfer::load(from);
                 let counted = bool::load(from);
                 FrontStage::Seeking { transfer, counted }
             }
-            3 => {
+            2 => {
                 let moving = Moving::load(from);
                 FrontStage::Moving { moving }
             }
-            4 => {
+            3 => {
                 let results = Results::load(from);
-                let read = u8::load(from);
-                FrontStage::Telling { results, read }
+                FrontStage::Telling { results }
             }
             _ => FrontStage::Through,
         }
@@ -221,9 +211,6 @@ impl<D: SavedWhole + Drop> SavedWhole for Sequencer<D> {
         to.byte(KIND);
         self.adapter.save(alloc, to);
         self.stage.save(to);
-        self.bytes.save(to);
-        self.strapped.save(to);
-        self.configured.save(to);
     }
 
     #[tactic(auto, unfolding(crate::specs::Saving::spelled_sequencer))]
@@ -231,15 +218,6 @@ impl<D: SavedWhole + Drop> SavedWhole for Sequencer<D> {
         let _kind = from.byte();
         let adapter = DisketteAdapter::load(alloc, from)?;
         let stage = FrontStage::load(from);
-        let bytes = CommandBytes::load(from);
-        let strapped = bool::load(from);
-        let configured = bool::load(from);
-        Ok(Sequencer {
-            adapter,
-            stage,
-            bytes,
-            strapped,
-            configured,
-        })
+        Ok(Sequencer { adapter, stage })
     }
 }

@@ -1,32 +1,15 @@
 // What a layer in front of the sequencer uses that keeps the results of seeks itself.
 ghost use Rattle.std.specs.Prelude.{◌≡◌};
-ghost use Rattle.fdc_adapter.specs.Adapters.{controller_of, SameDrives};
+ghost use Rattle.fdc_sequencer.specs.Adapters.{controller_of, SameDrives};
 ghost use Rattle.fdc_core.specs.State.{is_gated};
 ghost use Rattle.fdc_sequencer.specs.Fronts.{front_state, adapter_of};
-ghost use Rattle.fdc_sequencer.specs.Senses.{is_ready, is_through, pending_outside, recalibrated_outside, sensed_outside};
+ghost use Rattle.fdc_sequencer.specs.Senses.{pending_outside, recalibrated_outside, sensed_outside};
 
 use crate::sequencer::Sequencer;
 use crate::stage::FrontStage;
 use drive_model::Inspect;
 
 impl<D: Inspect> Sequencer<D> {
-    /// Whether the first byte of a command may come.
-    pub fn is_ready(&self) -> bool
-        ensures { result ≡ is_ready (front_state D.state self.now) }
-    {
-        match self.stage {
-            FrontStage::Through => self.adapter.is_idle(),
-            _ => false,
-        }
-    }
-
-    /// Whether each access is the controller's: no command of several sectors comes, is under way or gives results.
-    pub fn is_through(&self) -> bool
-        ensures { result ≡ is_through (front_state D.state self.now).stage }
-    {
-        matches!(self.stage, FrontStage::Through)
-    }
-
     /// Whether DOR lets INT and DRQ out.
     pub fn is_gated(&self) -> bool
         ensures { result ≡ is_gated (controller_of (adapter_of self.now)) }

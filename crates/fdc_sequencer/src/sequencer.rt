@@ -1,15 +1,14 @@
 // The state, and the lines that are seen outside.
 ghost use Rattle.std.specs.Prelude.{◌≡◌, ◌≤◌, IfOk, IsTrue, IsFalse, true, false, None};
-ghost use Rattle.fdc_adapter.specs.Adapters.{controller_of, SameDrives};
+ghost use Rattle.fdc_sequencer.specs.Adapters.{controller_of, SameDrives};
 ghost use Rattle.fdc_core.specs.Dma.{to_memory_of};
 ghost use Rattle.fdc_core.specs.Whole.{ending_told, mark_of};
-ghost use Rattle.fdc_sequencer.specs.Fronts.{front_state, adapter_of, with_seeks, IsNewFront, interrupts_outside, asks_outside};
+ghost use Rattle.fdc_sequencer.specs.Fronts.{front_state, adapter_of, IsNewFront, interrupts_outside, asks_outside};
 ghost use Rattle.fdc_sequencer.specs.Moves.{HasLinesOutside, IsUnderWay, LeapsFront, RunsFront, RunsFrontWith, is_unwanted};
 
+use crate::adapter::DisketteAdapter;
 use crate::stage::{FrontStage, Moving};
 use drive_model::Inspect;
-use fdc_adapter::DisketteAdapter;
-use fdc_commands::CommandBytes;
 use flop_base::NoMemory;
 use std::alloc::Global;
 
@@ -18,12 +17,6 @@ use std::alloc::Global;
 pub struct Sequencer<D> {
     pub(crate) adapter: DisketteAdapter<D>,
     pub(crate) stage: FrontStage,
-    /// The bytes of the command that comes. They begin with the code of the controller's own command.
-    pub(crate) bytes: CommandBytes,
-    /// Whether a strap of the adapter implies seeks.
-    pub(crate) strapped: bool,
-    /// Whether CONFIGURE set EIS.
-    pub(crate) configured: bool,
 }
 
 impl<D: Inspect> Sequencer<D> {
@@ -34,28 +27,7 @@ impl<D: Inspect> Sequencer<D> {
         Ok(Sequencer {
             adapter: DisketteAdapter::new(alloc, bay0, bay1)?,
             stage: FrontStage::Through,
-            bytes: CommandBytes::new(),
-            strapped: false,
-            configured: false,
         })
-    }
-
-    /// Lets each command of several sectors seek its cylinder first, whatever CONFIGURE sets, as a strap of an adapter
-    /// would. With `on` false, this is left to CONFIGURE.
-    pub fn strap_seeks(&mut self, on: bool)
-        ensures state { front_state D.state self.new ≡ record (front_state D.state self.old) { strapped = on } }
-        ensures drives { SameDrives (adapter_of self.old) (adapter_of self.new) }
-    {
-        self.strapped = on;
-    }
-
-    /// Lets each command of several sectors seek its cylinder first, or none, whatever a strap or CONFIGURE has set.
-    pub fn imply_seeks(&mut self, on: bool)
-        ensures state { front_state D.state self.new ≡ with_seeks on (front_state D.state self.old) }
-        ensures drives { SameDrives (adapter_of self.old) (adapter_of self.new) }
-    {
-        self.strapped = on;
-        self.configured = false;
     }
 
     /// The interrupt line. It falls when a command of several sectors begins, and rises with the command's results.
@@ -63,9 +35,9 @@ impl<D: Inspect> Sequencer<D> {
         ensures { result ≡ interrupts_outside (front_state D.state self.now) }
     {
         match self.stage {
-            FrontStage::Through | FrontStage::Collecting { .. } => self.adapter.int(),
+            FrontStage::Through => self.adapter.int(),
             FrontStage::Seeking { .. } | FrontStage::Moving { .. } => false,
-            FrontStage::Telling { read, .. } => read == 0 && self.adapter.is_gated(),
+            FrontStage::Telling { .. } => self.adapter.is_gated(),
         }
     }
 
@@ -170,7 +142,7 @@ impl<D: Inspect> Sequencer<D> {
     }
 
     /// Whether the command for the sector hasn't ended, and no field with the mark that isn't wanted is met.
-    fn goes_along(&self, moving: Moving) -> bool
+    pub(crate) fn goes_along(&self, moving: Moving) -> bool
         ensures goes { result ≡ true → ending_told (controller_of (adapter_of self.now)) ≡ None }
         ensures wanted { result ≡ true → is_unwanted moving (mark_of (controller_of (adapter_of self.now))) ≡ false }
     {

@@ -1,5 +1,4 @@
 // What is done in front of the controller.
-use crate::opcode::Opcode;
 use crate::transfer::Transfer;
 use fdc_commands::Results;
 
@@ -23,12 +22,10 @@ pub struct Moving {
 pub enum FrontStage {
     /// Nothing is done: each access is the controller's.
     Through,
-    /// The bytes of a command with this code are coming.
-    Collecting { opcode: Opcode },
     /// The heads go to the cylinder of a command. `counted` says that the terminal count came.
     Seeking { transfer: Transfer, counted: bool },
     /// A sector is moved, by one of the controller's own commands.
     Moving { moving: Moving },
-    /// The host reads results. It has read this many of their bytes.
-    Telling { results: Results, read: u8 },
+    /// The command has ended, and these results wait.
+    Telling { results: Results },
 }

@@ -1,7 +1,8 @@
-// Whether anything is done, and the ranges of the numbers.
-ghost use Rattle.std.specs.Prelude.{◌≡◌, ◌<◌, true};
+// Whether anything is done, how long the lines surely stay, and the ranges of the numbers.
+ghost use Rattle.std.specs.Prelude.{◌≡◌, ◌<◌, ◌≤◌, false, true};
 ghost use Rattle.fdc_core.specs.Ranges.{IsInRange};
 ghost use Rattle.fdc_sequencer.specs.Fronts.{front_state};
+ghost use Rattle.fdc_sequencer.specs.Quiet.{ForeseesBehind, GoesAlongFor, IsInCommand, IsQuietBehind, seeks_at};
 ghost use Rattle.fdc_sequencer.specs.Ranges.{HasByteNumbers, HasByteRecords};
 ghost use Rattle.fdc_sequencer.specs.Still.{rests_at, stands_at, StandsFront};
 
@@ -9,6 +10,9 @@ use crate::sequencer::Sequencer;
 use crate::stage::FrontStage;
 use crate::transfer::Transfer;
 use drive_model::Inspect;
+
+/// Nothing is said of the next device step.
+const UNKNOWN: u32 = 0;
 
 // The numbers of two records are bytes. The function does nothing.
 fn keep_records(_record: u8, _last: u8)
@@ -67,5 +71,54 @@ impl<D: Inspect> Sequencer<D> {
             return self.adapter.is_still();
         }
         false
+    }
+
+    /// Whether the heads go to the cylinder of a command of several sectors.
+    pub fn seeks_first(&self) -> bool
+        ensures { result ≡ seeks_at (front_state D.state self.now).stage }
+    {
+        matches!(self.stage, FrontStage::Seeking { .. })
+    }
+
+    /// This many device steps, at most `most`, surely change neither line outside. The same stays under way in them,
+    /// and no results come.
+    ///
+    /// While the heads go to a command's cylinder these are the steps before their seek can end. While a READ ID, a READ
+    /// DATA or the search of a write is executed the number comes from the words that pass next, and `Fdc::quiet_ahead`
+    /// says under which premises it holds. In all else it is 0.
+    pub fn quiet_ahead(&self, most: u32) -> u32
+        ensures few { result ≤ most }
+        ensures foresees { ForeseesBehind result (front_state D.state self.now) }
+        ensures lasts { IsQuietBehind result (front_state D.state self.now) → GoesAlongFor result (front_state D.state self.now) }
+    {
+        if self.seeks_first() {
+            return self.quiet_seek(most);
+        }
+        if self.is_in_command() {
+            return self.adapter.quiet_ahead(most);
+        }
+        UNKNOWN
+    }
+
+    /// The device steps, at most `most`, before the seek to a command's cylinder can end, or 0 if there is no such seek.
+    fn quiet_seek(&self, most: u32) -> u32
+        ensures few { result ≤ most }
+        ensures lasts { seeks_at (front_state D.state self.now).stage ≡ true → GoesAlongFor result (front_state D.state self.now) }
+    {
+        if self.adapter.is_executing() {
+            return UNKNOWN;
+        }
+        most.min(u32::from(self.adapter.steps_ahead()))
+    }
+
+    /// Whether the controller executes a command, and nothing is to be done in front while the command goes on.
+    fn is_in_command(&self) -> bool
+        ensures { result ≡ true → IsInCommand (front_state D.state self.now) }
+    {
+        match self.stage {
+            FrontStage::Through => self.adapter.is_executing(),
+            FrontStage::Moving { moving } => self.goes_along(moving),
+            _ => false,
+        }
     }
 }

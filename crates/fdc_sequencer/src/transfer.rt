@@ -1,7 +1,7 @@
 // A command of several sectors, as it stands at one of them.
 ghost use Rattle.std.specs.Prelude.{◌≡◌};
 ghost use Rattle.fdc_sequencer.specs.Fronts.{drive_bit};
-ghost use Rattle.fdc_sequencer.specs.Transfers.{transfer_of, command_of, next_of, is_last, is_other, other_mark, is_skipping, results_sought, results_told, size_of};
+ghost use Rattle.fdc_sequencer.specs.Transfers.{command_of, next_of, is_last, is_other, other_mark, is_skipping, results_sought, results_told, size_of};
 
 use crate::opcode::{Opcode, Operation};
 use fdc_commands::{Command, Results};
@@ -45,45 +45,6 @@ pub struct Transfer {
 }
 
 impl Transfer {
-    /// The command of several sectors that the controller's own command for its first sector spells. `seeks` says
-    /// whether the heads go to its cylinder first.
-    pub(crate) fn of(seeks: bool, opcode: Opcode, command: Command) -> Option<Transfer>
-        ensures { result ≡ transfer_of seeks opcode command }
-    {
-        match command {
-            Command::ReadData {
-                head_drive,
-                key,
-                eot,
-                gpl,
-                dtl,
-            }
-            | Command::WriteData {
-                head_drive,
-                key,
-                eot,
-                gpl,
-                dtl,
-            }
-            | Command::WriteDeleted {
-                head_drive,
-                key,
-                eot,
-                gpl,
-                dtl,
-            } => Some(Transfer {
-                opcode,
-                head_drive,
-                key,
-                last_sector: eot,
-                gap: gpl,
-                length: dtl,
-                seeks,
-            }),
-            _ => None,
-        }
-    }
-
     /// The controller's own command for this sector.
     pub(crate) fn command(self) -> Command
         ensures { result ≡ command_of self }

@@ -1,43 +1,35 @@
 -- A whole command of a sound chip: it is done, begun or held, and the chip stays sound.
-use Rattle.std.proofs.Common.{◌≡◌, inl, inr, ℕ, ◌*◌, ◌<◌, ◌%◌, nat_le, List, Bool, true, false, ◌&&◌, ◌==◌, if◌then◌else◌, Option, Some, None, [], ◌∷◌, is_some, bit_and, refl, sym, ◌∙◌, ap, subst, arith}
-use Rattle.std.specs.Int.RustNames.{bit_or}
-use Rattle.std.proofs.lemmas.Bool.{agree_below_at, and_parts, false≢true, leb-true, or_parts}
-use Rattle.flop_base.specs.declared.key.Chrn.{Chrn}
+use Rattle.std.proofs.Common.{◌≡◌, inl, inr, ℕ, ◌*◌, ◌<◌, ◌%◌, Bool, true, false, ◌&&◌, ◌==◌, if◌then◌else◌, Option, Some, None, [], is_some, bit_and, slice_index, refl, sym, ◌∙◌, ap, subst, arith}
+use Rattle.std.proofs.lemmas.Bool.{and_parts, or_parts}
 use Rattle.fdc_commands.specs.Seeking.{pulses_within, seek_bits, with_motion}
+use Rattle.fdc_commands.specs.declared.command.Command.{Command}
 use Rattle.fdc_commands.specs.declared.command.Command.TheVariants as command
-use Rattle.fdc_commands.specs.declared.motion.Motion.TheVariants.{Outward}
-use Rattle.fdc_phases.specs.declared.phases.Phase.TheVariants.{Command as Taking}
-use Rattle.fdc_core.specs.Commands.{answered, recalibrating, seeking, status_of_lines}
-use Rattle.fdc_core.specs.Ports.{given}
+use Rattle.fdc_commands.specs.declared.motion.Motion.{Motion}
+use Rattle.fdc_commands.specs.declared.motion.Motion.TheVariants.{Outward, Toward}
 use Rattle.fdc_core.specs.Whole.{is_idle}
 use Rattle.fdc_core.specs.declared.controller.Fdc.{Fdc}
-use Rattle.fdc_sequencer.specs.Fronts.{Front, after_reading, byte_given, value_outside, with_controller}
-use Rattle.fdc_sequencer.specs.Opcodes.{opcode_of}
+use Rattle.fdc_sequencer.specs.Fronts.{Front, GivesCommand, GivesTransfer, with_controller}
 use Rattle.fdc_sequencer.specs.Senses.{recalibrated_at, recalibrated_outside}
 use Rattle.fdc_sequencer.specs.Transfers.{size_of}
-use Rattle.fdc_sequencer.specs.declared.opcode.Opcode.{Opcode}
-use Rattle.fdc_chip.specs.Chips.{ChipState, KeepsRest, with_front}
+use Rattle.fdc_chip.specs.Chips.{ChipState, KeepsRest}
 use Rattle.fdc_chip.specs.Codes.{code_of}
-use Rattle.fdc_chip.specs.Doing.{Asks, AttendsIf, AttendsTo, Begins, BeginsReadId, FormatsIf, MovesIf, Obeys, Sends, SendsOn, TransfersIf, absent_key, configured, configuring, drained, format_bytes, identifying, implies, is_moving, is_size, moves_heads, moving, needs_heads, no_key, ready, relative_target, sectors_verified, track_begun, verifying, with_keys, with_last}
+use Rattle.fdc_chip.specs.Doing.{AttendsIf, AttendsTo, Begins, BeginsReadId, FormatsIf, GivesOn, MovesIf, Obeys, Transfers, TransfersIf, absent_key, configured, configuring, drained, formatting, identifying, implies, is_moving, is_size, moves_heads, moving, needs_heads, no_key, reading_one, ready, relative_target, sectors_verified, track_begun, transfer_sent, verifying, with_keys, with_last}
 use Rattle.fdc_chip.specs.Interrupts.{cylinder_of}
-use Rattle.fdc_chip.specs.Orders.{order_bytes}
-use Rattle.fdc_chip.specs.declared.answer.ChipAnswer.TheVariants as answer
 use Rattle.fdc_chip.specs.declared.code.ChipOpcode.{ChipOpcode}
 use Rattle.fdc_chip.specs.declared.code.ChipOpcode.TheVariants.{ReadTrack, Specify, SenseDrive, Transfer, Recalibrate, SenseInterrupt, ReadId, FormatTrack, DumpRegisters, Seek, RelativeSeek, Version, Perpendicular, Configure, Lock, Verify}
 use Rattle.fdc_chip.specs.declared.order.Order.{Order}
-use Rattle.fdc_chip.specs.declared.stage.ChipStage.TheVariants.{Ready, Telling}
+use Rattle.fdc_chip.specs.declared.stage.ChipStage.TheVariants.{Ready}
 use Rattle.fdc_chip.specs.declared.stage.ChipTask.{ChipTask}
 use Rattle.fdc_chip.specs.declared.stage.ChipTask.TheVariants as task
 use Rattle.laws_chip.specs.Beginning.{IsOfFour}
 use Rattle.laws_chip.specs.Sound.{ExecutesBehind, IsBusyWith, IsSound, RestsBehind, ServesBehind}
-use Rattle.laws_chip.proofs.CommandsBegun.{IsSent, begins_sent, codes_served, configured_stands, sought_sent}
+use Rattle.laws_chip.proofs.CommandsBegun.{IsSent, begins_sent, configured_stands, sought_sent}
 use Rattle.laws_chip.proofs.FirstSectors.{IsBase}
 use Rattle.laws_chip.proofs.Rests.{IsResting, base_on, base_same, drained_rests, stands_rests}
-use Rattle.laws_chip.proofs.Sending.{IsObeyed, configure_obeyed, format_obeyed, id_obeyed, recalibrate_obeyed, seek_obeyed, sense_obeyed}
-use Rattle.laws_chip.proofs.ServedSteps.{order_serves}
+use Rattle.laws_chip.proofs.ServedSteps.{first_serves}
 use Rattle.laws_chip.proofs.Singles.{format_executes, id_executes}
-use Rattle.laws_chip.proofs.SoundParts.{IsBasis, basis_busy, basis_rests, basis_same, is_busy}
-use Rattle.laws_chip.proofs.Standing.{Stands, heads_stand}
+use Rattle.laws_chip.proofs.SoundParts.{IsBasis, basis_busy, basis_rests, basis_same, basis_set, is_busy}
+use Rattle.laws_chip.proofs.Standing.{IsObeyed, Stands, format_obeyed, given_obeyed, heads_stand}
 
 -- ---- ---- the inner controller does nothing
 
@@ -58,7 +50,7 @@ done_sound old set new basis rests stays idle is =
     let (still, behind) = stays_rests old set basis rests stays in
     subst IsSound (sym is) (basis_rests set set.stage still behind refl idle)
 
--- ---- a command of the controller's own that is done at once
+-- ---- a command of the controller's own that moves the heads
 
 pub free_stands : (chip : ChipState) → IsBasis chip → RestsBehind chip.front → is_moving chip ≡ false → Stands chip.front
 free_stands chip basis rests stands = record {
@@ -73,58 +65,33 @@ free_stands chip basis rests stands = record {
 few_four : (n : ℕ) → n % 4 < 4
 few_four n = omega arith
 
--- SENSE DRIVE, whose byte is read
-sense_rests : (unit : ℕ) (start sent : Front) → Stands start → IsObeyed (command.SenseDrive unit) start sent
-    → RestsBehind (after_reading 0x3F5 sent) × IsBase start.adapter.controller (after_reading 0x3F5 sent).adapter.controller
-sense_rests unit start sent stands obeyed =
-    let fdc = start.adapter.controller in
-    let over : Fdc = record fdc { command = []; phase = Taking } in
-    let at : after_reading 0x3F5 sent ≡ record sent { adapter = with_controller (given sent.adapter.controller) sent.adapter } = ap (λ stage. byte_given stage sent) obeyed.through in
-    let is : sent.adapter.controller ≡ answered (status_of_lines obeyed.lines unit) None (record fdc { command = [] }) = obeyed.obeys.0 stands.rests in
-    let after : given sent.adapter.controller ≡ over = ap given is in
-    let same : after_reading 0x3F5 sent ≡ record sent { adapter = with_controller over sent.adapter } = at ∙ ap (λ (c : Fdc). record sent { adapter = with_controller c sent.adapter }) after in
-    subst (λ (front : Front). RestsBehind front × IsBase fdc front.adapter.controller) (sym same) (
-      record { through = obeyed.through; takes = refl; seek = (stands_rests start stands).seek },
-      record { dor = refl; non_dma = refl; command = refl },
-    )
-
-asks_sound : (unit : ℕ) (old new : ChipState) → IsBasis old → Stands old.front → Asks (0x04 ∷ unit ∷ []) old new → IsSound new
-asks_sound unit old new basis stands asks =
-    let (sends, rest) = asks.sends in
-    let set : ChipState = with_front (after_reading 0x3F5 asks.sent.front) asks.sent in
-    let obeyed = sense_obeyed unit old.front asks.sent.front stands sends in
-    let (rests, base) = sense_rests unit old.front asks.sent.front stands obeyed in
-    let still = basis_same old set basis base (ap (λ (chip : ChipState). chip.count) rest) (ap (λ (chip : ChipState). chip.order) rest) in
-    done_sound set (record set { stage = Telling (answer.Byte (value_outside 0x3F5 asks.sent.front)) 0 }) new still rests (record { front = refl; count = refl; order = refl }) refl asks.told_is
-
 -- the heads move, and the chip stays sound
 moved_sound : (old new : ChipState) → IsBasis old → KeepsRest (ready old) new → RestsBehind new.front → IsBase old.front.adapter.controller new.front.adapter.controller → IsSound new
 moved_sound old new basis rest rests base =
     basis_rests new Ready (basis_same old new basis base (ap (λ (chip : ChipState). chip.count) rest) (ap (λ (chip : ChipState). chip.order) rest)) rests
     (ap (λ (chip : ChipState). chip.stage) rest) refl
 
+-- a seek of one of four drives begins
+seek_rests : (command : Command) (unit : ℕ) (motion : Motion) (start new : Front) → Stands start → IsObeyed command start new
+    → new.adapter.controller ≡ record start.adapter.controller { command = []; seeks = with_motion start.adapter.controller.seeks (unit % 4) motion }
+    → RestsBehind new × IsBase start.adapter.controller new.adapter.controller
+seek_rests command unit motion start new stands obeyed is = (
+  record {
+    through = obeyed.through;
+    takes = ap (λ (fdc : Fdc). fdc.phase) is ∙ stands.takes;
+    seek = subst (λ (fdc : Fdc). IsOfFour fdc.seeks.seek) (sym is) (few_four unit);
+  },
+  record { dor = ap (λ (fdc : Fdc). fdc.dor) is; non_dma = ap (λ (fdc : Fdc). fdc.non_dma) is; command = ap (λ (fdc : Fdc). fdc.command) is },
+)
+
 -- the inner controller is given a SEEK or a RECALIBRATE
-pub given_moves : (unit : ℕ) (goal : Option ℕ) (start new : Front) → Stands start → Sends (moving unit goal) start new → RestsBehind new × IsBase start.adapter.controller new.adapter.controller
-given_moves unit (Some target) start new stands sends =
-    let obeyed = seek_obeyed unit target start new stands sends in
-    let is : new.adapter.controller ≡ seeking unit target (record start.adapter.controller { command = [] }) = obeyed.obeys.0 stands.rests in (
-      record {
-        through = obeyed.through;
-        takes = ap (λ (fdc : Fdc). fdc.phase) is ∙ stands.takes;
-        seek = subst (λ (fdc : Fdc). IsOfFour fdc.seeks.seek) (sym is) (few_four unit);
-      },
-      record { dor = ap (λ (fdc : Fdc). fdc.dor) is; non_dma = ap (λ (fdc : Fdc). fdc.non_dma) is; command = ap (λ (fdc : Fdc). fdc.command) is },
-    )
-given_moves unit None start new stands sends =
-    let obeyed = recalibrate_obeyed unit start new stands sends in
-    let is : new.adapter.controller ≡ recalibrating unit (record start.adapter.controller { command = [] }) = obeyed.obeys.0 stands.rests in (
-      record {
-        through = obeyed.through;
-        takes = ap (λ (fdc : Fdc). fdc.phase) is ∙ stands.takes;
-        seek = subst (λ (fdc : Fdc). IsOfFour fdc.seeks.seek) (sym is) (few_four unit);
-      },
-      record { dor = ap (λ (fdc : Fdc). fdc.dor) is; non_dma = ap (λ (fdc : Fdc). fdc.non_dma) is; command = ap (λ (fdc : Fdc). fdc.command) is },
-    )
+pub given_moves : (unit : ℕ) (goal : Option ℕ) (start new : Front) → Stands start → GivesCommand (moving unit goal) start new → RestsBehind new × IsBase start.adapter.controller new.adapter.controller
+given_moves unit (Some target) start new stands gives =
+    let obeyed = given_obeyed (command.Seek unit target) start new stands refl gives in
+    seek_rests (command.Seek unit target) unit (Toward (slice_index start.adapter.controller.seeks.cylinders (unit % 4)) target) start new stands obeyed (obeyed.obeys.0 stands.rests)
+given_moves unit None start new stands gives =
+    let obeyed = given_obeyed (command.Recalibrate unit) start new stands refl gives in
+    seek_rests (command.Recalibrate unit) unit (Outward 79) start new stands obeyed (obeyed.obeys.0 stands.rests)
 
 -- the inner controller begins a RECALIBRATE that gives at most so many pulses
 within_rests : (b : Bool) (unit pulses : ℕ) (front : Front) → Stands front
@@ -146,96 +113,60 @@ recalibrated_rests unit pulses front stands =
 -- the inner controller moves the heads, or their pulses are to come in the time that SPECIFY sets
 moves_sound : (b : Bool) (goal : Option ℕ) (old new : ChipState) → IsBasis old → RestsBehind old.front → Stands old.front → MovesIf b goal old new → IsSound new
 moves_sound true goal old new basis rests stands is = done_sound old _ new basis rests (record { front = refl; count = refl; order = refl }) refl is
-moves_sound false goal old new basis rests stands (sends, rest) =
-    let (still, base) = given_moves old.order.unit goal old.front new.front stands sends in moved_sound old new basis rest still base
+moves_sound false goal old new basis rests stands (gives, rest) =
+    let (still, base) = given_moves old.order.unit goal old.front new.front stands gives in moved_sound old new basis rest still base
 
-configure_sound : (old new : ChipState) → IsBasis old → Stands old.front → SendsOn (configuring old.order.key.c old.order.key.h) (configured old) new → IsSound new
-configure_sound old new basis stands (sends, rest) =
-    let obeyed = configure_obeyed (bit_and old.order.key.c 0x3F) old.order.key.h old.front new.front stands sends in
+configure_sound : (old new : ChipState) → IsBasis old → Stands old.front → GivesOn (configuring old.order.key.c old.order.key.h) (configured old) new → IsSound new
+configure_sound old new basis stands (gives, rest) =
+    let obeyed = given_obeyed (configuring old.order.key.c old.order.key.h) old.front new.front stands refl gives in
     let (still, base) = configured_stands (bit_and old.order.key.c 0x3F) old.order.key.h old.front new.front stands obeyed in
     basis_rests new Ready (basis_same old new basis base (ap (λ (chip : ChipState). chip.count) rest) (ap (λ (chip : ChipState). chip.order) rest)) (stands_rests new.front still)
     (ap (λ (chip : ChipState). chip.stage) rest) refl
 
 -- ---- ---- a command that the inner controller executes
 
-busy_sound : (what : ChipTask) (seeks : Bool) (bytes : List ℕ) (old new : ChipState) → IsBasis old → (sent : IsSent what seeks bytes old new) → IsBusyWith what new.front → IsBase sent.set.adapter.controller new.front.adapter.controller → IsSound new
-busy_sound what seeks bytes old new basis sent busy base =
+busy_sound : (what : ChipTask) (Gives : Front → Front → Type 0) (old new : ChipState) → IsBasis old → (sent : IsSent what Gives old new) → IsBusyWith what new.front → IsBase sent.set.adapter.controller new.front.adapter.controller → IsSound new
+busy_sound what Gives old new basis sent busy base =
     basis_busy new what (basis_same old new basis (base_on old.front.adapter.controller sent.set.adapter.controller new.front.adapter.controller sent.base base) sent.count sent.order) busy sent.stage
 
 -- READ ID
-id_sound : (what : ChipTask) (unit : ℕ) (old new : ChipState) → IsBasis old → Stands old.front → (ExecutesBehind new.front → IsBusyWith what new.front) → Begins what false (identifying unit) old new → IsSound new
+id_sound : (what : ChipTask) (unit : ℕ) (old new : ChipState) → IsBasis old → Stands old.front → (ExecutesBehind new.front → IsBusyWith what new.front) → Begins what (GivesCommand (identifying unit)) old new → IsSound new
 id_sound what unit old new basis stands busy begins =
-    let sent = begins_sent what false (identifying unit) old new stands begins in
-    let obeyed = id_obeyed unit sent.set new.front sent.stands sent.sends in
-    let (executes, base) = id_executes unit sent.set new.front sent.stands obeyed in
-    busy_sound what false (identifying unit) old new basis sent (busy executes) base
+    let sent = begins_sent what (GivesCommand (identifying unit)) old new stands begins in
+    let (executes, base) = id_executes unit sent.set new.front sent.stands (given_obeyed (command.ReadId unit) sent.set new.front sent.stands refl sent.gives) in
+    busy_sound what (GivesCommand (identifying unit)) old new basis sent (busy executes) base
 
 read_id_sound : (mfm : Bool) (old new : ChipState) → IsBasis old → Stands old.front → BeginsReadId mfm old new → IsSound new
 read_id_sound true old new basis stands begins = id_sound task.Sent old.order.unit old new basis stands (λ executes. inr executes) begins
 read_id_sound false old new basis stands begins = id_sound (task.Refused old.order.unit no_key false) old.order.unit old new basis stands (λ executes. executes) begins
 
--- what DUMPREG reports is noted
-noted_basis : (last_sector : ℕ) (old : ChipState) → IsBasis old → IsBasis (with_last last_sector old)
-noted_basis last_sector old basis = record { by_dma = basis.by_dma; whole = basis.whole; free = basis.free; none = basis.none; gated = basis.gated; code = basis.code }
-
-keyed_basis : (sectors : ℕ) (old : ChipState) → IsBasis old → IsBasis (with_keys sectors old)
-keyed_basis sectors old basis = record { by_dma = basis.by_dma; whole = basis.whole; free = basis.free; none = basis.none; gated = basis.gated; code = basis.code }
-
 -- FORMAT TRACK
 formats_sound : (b mfm : Bool) (old new : ChipState) → IsBasis old → Stands old.front → (mfm && is_size old.order.key.c) ≡ b → FormatsIf b mfm old new → IsSound new
 formats_sound true mfm old new basis stands is begins =
     let order = old.order in
-    let sent = begins_sent task.Sent false (format_bytes order) old new stands begins in
-    let (low, high) = and_parts (nat_le 1 order.key.c) (nat_le order.key.c 6) (and_parts mfm (is_size order.key.c) is).1 in
-    let obeyed = format_obeyed order.unit order.key.c order.key.h order.key.r order.key.n sent.set new.front sent.stands (leb-true 1 order.key.c low) (leb-true order.key.c 6 high) sent.sends in
+    let sent = begins_sent task.Sent (GivesCommand (formatting order)) old new stands begins in
+    let obeyed = format_obeyed order.unit order.key.c order.key.h order.key.r order.key.n sent.set new.front sent.stands (and_parts mfm (is_size order.key.c) is).1 sent.gives in
     let (executes, base) = format_executes order.unit order.key.c order.key.h order.key.r order.key.n sent.set new.front sent.stands obeyed in
-    busy_sound task.Sent false (format_bytes order) old new basis sent (inr executes) base
+    busy_sound task.Sent (GivesCommand (formatting order)) old new basis sent (inr executes) base
 formats_sound false mfm old new basis stands is begins = id_sound (task.Refused old.order.unit no_key mfm) old.order.unit old new basis stands (λ executes. executes) begins
 
 -- a command of sectors
-transfers_sound : (b mfm : Bool) (what : ChipTask) (opcode : Opcode) (order : Order) (old new : ChipState) → IsBasis old → Stands old.front → opcode_of order.code ≡ Some opcode
-    → (is_size old.order.key.n ≡ true → is_size order.key.n ≡ true) → (ServesBehind new.front → IsBusyWith what new.front) → (mfm && is_size old.order.key.n) ≡ b → TransfersIf b mfm what (order_bytes order) old new → IsSound new
-transfers_sound true mfm what opcode order old new basis stands served sized busy is begins =
-    let sent = sought_sent (implies old) what (implies old) (order_bytes order) old new stands begins in
-    let (serves, base) = order_serves opcode order sent.set new.front sent.stands served (sized (and_parts mfm (is_size old.order.key.n) is).1) sent.sends in
-    busy_sound what (implies old) (order_bytes order) old new basis sent (busy serves) base
-transfers_sound false mfm what opcode order old new basis stands served sized busy is begins =
+transfers_sound : (b mfm : Bool) (what : ChipTask) (order : Order) (old new : ChipState) → IsBasis old → Stands old.front → (is_size old.order.key.n ≡ true → is_size order.key.n ≡ true)
+    → (ServesBehind new.front → IsBusyWith what new.front) → (mfm && is_size old.order.key.n) ≡ b → TransfersIf b mfm what order old new → IsSound new
+transfers_sound true mfm what order old new basis stands sized busy is begins =
+    let first = transfer_sent (implies old) order in
+    let sent = sought_sent (implies old) what (GivesTransfer first) old new stands begins in
+    let (serves, base) = first_serves first sent.set new.front sent.stands (sized (and_parts mfm (is_size old.order.key.n) is).1) sent.gives in
+    busy_sound what (GivesTransfer first) old new basis sent (busy serves) base
+transfers_sound false mfm what order old new basis stands sized busy is begins =
     id_sound (task.Refused old.order.unit old.order.key mfm) old.order.unit old new basis stands (λ executes. executes) begins
 
-pub some_of : (found : Option Opcode) → is_some found ≡ true → (opcode : Opcode) × (found ≡ Some opcode)
-some_of None is = absurd (false≢true is)
-some_of (Some opcode) is = (opcode, refl)
-
-transfer_sound : (mfm : Bool) (old new : ChipState) → IsBasis old → Stands old.front → code_of old.order.code ≡ Some (Transfer mfm) → Obeys (Transfer mfm) old new → IsSound new
-transfer_sound true old new basis stands is obeys =
+-- a command of sectors, which the inner controller is given as that of another order
+sectors_sound : (mfm : Bool) (what : ChipTask) (order : Order) (old new : ChipState) → IsBasis old → Stands old.front → (is_size old.order.key.n ≡ true → is_size order.key.n ≡ true)
+    → (ServesBehind new.front → IsBusyWith what new.front) → Transfers mfm what order old new → IsSound new
+sectors_sound mfm what order old new basis stands sized busy transfers =
     let noted = with_last old.order.last_sector old in
-    let (opcode, served) = some_of (opcode_of old.order.code) (codes_served old.order.code basis.code is) in
-    transfers_sound (true && is_size old.order.key.n) true task.Sent opcode old.order noted new (noted_basis old.order.last_sector old basis) stands served (λ sized. sized) (λ serves. inl serves) refl obeys
-transfer_sound false old new basis stands is obeys =
-    id_sound (task.Refused old.order.unit old.order.key false) old.order.unit (with_last old.order.last_sector old) new (noted_basis old.order.last_sector old basis) stands (λ executes. executes) obeys
-
--- VERIFY's READ DATA, whatever its code
-pub verifying_served : (code : ℕ) → code < 256 → is_some (opcode_of (bit_or 0x46 (bit_and code 0xA0))) ≡ true
-verifying_served code few = agree_below_at (λ n. is_some (opcode_of (bit_or 0x46 (bit_and n 0xA0)))) (λ _. true) 256 code refl few
-
-verify_sound : (mfm : Bool) (old new : ChipState) → IsBasis old → Stands old.front → Obeys (Verify mfm) old new → IsSound new
-verify_sound mfm old new basis stands obeys =
-    let noted = with_last old.order.last_sector old in
-    let order = verifying old.order in
-    let (opcode, served) = some_of (opcode_of order.code) (verifying_served old.order.code basis.code) in
-    transfers_sound (mfm && is_size old.order.key.n) mfm (task.Verify (sectors_verified old.order * size_of old.order.key.n)) opcode order noted new (noted_basis old.order.last_sector old basis) stands served
-    (λ sized. sized) (λ serves. serves) refl obeys
-
--- the READ DATA of one sector
-abbrev pub one_order : ℕ → Chrn → ℕ → ℕ → Order
-one_order unit key gap length = record { code = 0x46; unit = unit; key = key; last_sector = key.r; gap = gap; length = length }
-
-read_track_sound : (mfm : Bool) (old new : ChipState) → IsBasis old → Stands old.front → Obeys (ReadTrack mfm) old new → IsSound new
-read_track_sound mfm old new basis stands obeys =
-    let noted = with_last old.order.last_sector old in
-    let order = one_order old.order.unit (absent_key old.order.key.c) old.order.gap old.order.length in
-    let (opcode, served) = some_of (opcode_of 0x46) refl in
-    transfers_sound (mfm && is_size old.order.key.n) mfm (task.Track (track_begun (implies old) old.order)) opcode order noted new (noted_basis old.order.last_sector old basis) stands served (λ sized. refl) (λ serves. serves) refl obeys
+    transfers_sound (mfm && is_size old.order.key.n) mfm what order noted new (basis_set old noted basis) stands sized busy refl transfers
 
 -- ---- all commands
 
@@ -246,19 +177,21 @@ obeys_sound Version old new basis rests found free is = done_sound old _ new bas
 obeys_sound Perpendicular old new basis rests found free is = done_sound old _ new basis rests (record { front = refl; count = refl; order = refl }) refl is
 obeys_sound DumpRegisters old new basis rests found free is = done_sound old _ new basis rests (record { front = refl; count = refl; order = refl }) refl is
 obeys_sound (Lock on) old new basis rests found free is = done_sound old _ new basis rests (record { front = refl; count = refl; order = refl }) refl is
-obeys_sound SenseDrive old new basis rests found free asks = asks_sound old.order.unit old new basis (free_stands old basis rests free) asks
+obeys_sound SenseDrive old new basis rests found free is = done_sound old _ new basis rests (record { front = refl; count = refl; order = refl }) refl is
 obeys_sound Recalibrate old new basis rests found free moves = moves_sound old.paced None old new basis rests (free_stands old basis rests free) moves
 obeys_sound Seek old new basis rests found free moves = moves_sound old.paced (Some old.order.key.c) old new basis rests (free_stands old basis rests free) moves
 obeys_sound (RelativeSeek inward) old new basis rests found free moves =
     moves_sound old.paced (Some (relative_target inward (cylinder_of old.order.unit old.interrupts) old.order.key.c)) old new basis rests (free_stands old basis rests free) moves
-obeys_sound Configure old new basis rests found free sends = configure_sound old new basis (free_stands old basis rests free) sends
+obeys_sound Configure old new basis rests found free gives = configure_sound old new basis (free_stands old basis rests free) gives
 obeys_sound (ReadId mfm) old new basis rests found free begins = read_id_sound mfm old new basis (free_stands old basis rests free) begins
 obeys_sound (FormatTrack mfm) old new basis rests found free begins =
-    let noted = with_last old.order.key.h old in
-    formats_sound (mfm && is_size old.order.key.c) mfm (with_keys old.order.key.h noted) new (keyed_basis old.order.key.h noted (noted_basis old.order.key.h old basis)) (free_stands old basis rests free) refl begins
-obeys_sound (Transfer mfm) old new basis rests found free obeys = transfer_sound mfm old new basis (free_stands old basis rests free) found obeys
-obeys_sound (Verify mfm) old new basis rests found free obeys = verify_sound mfm old new basis (free_stands old basis rests free) obeys
-obeys_sound (ReadTrack mfm) old new basis rests found free obeys = read_track_sound mfm old new basis (free_stands old basis rests free) obeys
+    let set = with_keys old.order.key.h (with_last old.order.key.h old) in
+    formats_sound (mfm && is_size old.order.key.c) mfm set new (basis_set old set basis) (free_stands old basis rests free) refl begins
+obeys_sound (Transfer mfm) old new basis rests found free obeys = sectors_sound mfm task.Sent old.order old new basis (free_stands old basis rests free) (λ sized. sized) (λ serves. inl serves) obeys
+obeys_sound (Verify mfm) old new basis rests found free obeys =
+    sectors_sound mfm (task.Verify (sectors_verified old.order * size_of old.order.key.n)) (verifying old.order) old new basis (free_stands old basis rests free) (λ sized. sized) (λ serves. serves) obeys
+obeys_sound (ReadTrack mfm) old new basis rests found free obeys =
+    sectors_sound mfm (task.Track (track_begun (implies old) old.order)) (reading_one (absent_key old.order.key.c) old.order) old new basis (free_stands old basis rests free) (λ sized. refl) (λ serves. serves) obeys
 
 attends_by : (b : Bool) (code : ChipOpcode) (old new : ChipState) → IsBasis old → RestsBehind old.front → code_of old.order.code ≡ Some code → (needs_heads code && is_moving old) ≡ b → AttendsIf b code old new → IsSound new
 attends_by true code old new basis rests found moves is = done_sound old _ new basis rests (record { front = refl; count = refl; order = refl }) refl is

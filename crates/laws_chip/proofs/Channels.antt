@@ -14,15 +14,15 @@ use Rattle.fdc_core.specs.State.{is_held, reset}
 use Rattle.fdc_core.specs.Steps.{IsCounted}
 use Rattle.fdc_core.specs.declared.controller.Fdc.{Fdc}
 use Rattle.fdc_core.specs.declared.controller.Lines.{Lines}
-use Rattle.fdc_adapter.specs.Adapters.{Gives, Takes, lines_at}
+use Rattle.fdc_sequencer.specs.Adapters.{Gives, Takes, lines_at}
 use Rattle.fdc_sequencer.specs.Fronts.{Front, GivesAt, GivesFront, KeepsFront, TakesAt, TakesFront, WritesFront, count_told, passed_one, told_front, told_if}
 use Rattle.fdc_sequencer.specs.declared.stage.Moving.{Moving as MovingSector}
 use Rattle.fdc_sequencer.specs.declared.stage.FrontStage.{FrontStage}
-use Rattle.fdc_sequencer.specs.declared.stage.FrontStage.TheVariants.{Through, Collecting, Seeking, Moving, Telling}
-use Rattle.laws_sequencer.specs.Lasting.{is_under_way}
-use Rattle.laws_sequencer.specs.Serving.{KeepsServing, ServesUnless, history_counted, history_given, history_taken}
-use Rattle.laws_sequencer.proofs.Called.{media_serve}
-use Rattle.laws_sequencer.proofs.Served.{counts_serve, gives_serve, takes_serve, writes_serve}
+use Rattle.fdc_sequencer.specs.declared.stage.FrontStage.TheVariants.{Through, Seeking, Moving, Telling}
+use Rattle.laws_chip.specs.SectorLasting.{is_under_way}
+use Rattle.laws_chip.specs.Serving.{KeepsServing, ServesUnless, history_counted, history_given, history_taken}
+use Rattle.laws_chip.proofs.Called.{media_serve}
+use Rattle.laws_chip.proofs.Served.{counts_serve, gives_serve, takes_serve, writes_serve}
 use Rattle.fdc_chip.specs.declared.stage.Place.{Place}
 use Rattle.fdc_chip.specs.declared.stage.Place.TheVariants.{Index, Address, Data}
 use Rattle.fdc_chip.specs.declared.stage.ChipTask.{ChipTask}
@@ -149,9 +149,8 @@ same_base old new is none = subst (λ (front : Front). IsBase old.adapter.contro
 
 takes_base : (stage : FrontStage) (byte : Option ℕ) (old new : Front) → old.adapter.controller.command ≡ [] → TakesAt stage old byte new → IsBase old.adapter.controller new.adapter.controller
 takes_base Through byte old new none (adapter, is) = alike_base old.adapter.controller new.adapter.controller none (adapter_takes old.adapter.controller byte new.adapter.controller adapter)
-takes_base (Collecting opcode) byte old new none (nothing, is) = same_base old new is none
 takes_base (Seeking transfer counted) byte old new none (nothing, is) = same_base old new is none
-takes_base (Telling results read) byte old new none (nothing, is) = same_base old new is none
+takes_base (Telling results) byte old new none (nothing, is) = same_base old new is none
 takes_base (Moving moving) None old new none (quiet, is) = same_base old new is none
 takes_base (Moving moving) (Some byte) old new none (up, byte_is, is) =
     subst (λ (front : Front). IsBase old.adapter.controller front.adapter.controller) (sym is)
@@ -159,9 +158,8 @@ takes_base (Moving moving) (Some byte) old new none (up, byte_is, is) =
 
 gives_base : (stage : FrontStage) (byte : ℕ) (was : Bool) (old new : Front) → old.adapter.controller.command ≡ [] → GivesAt stage byte old was new → IsBase old.adapter.controller new.adapter.controller
 gives_base Through byte was old new none (adapter, is) = alike_base old.adapter.controller new.adapter.controller none (adapter_gives byte old.adapter.controller was new.adapter.controller adapter)
-gives_base (Collecting opcode) byte was old new none (nothing, is) = same_base old new is none
 gives_base (Seeking transfer counted) byte was old new none (nothing, is) = same_base old new is none
-gives_base (Telling results read) byte was old new none (nothing, is) = same_base old new is none
+gives_base (Telling results) byte was old new none (nothing, is) = same_base old new is none
 gives_base (Moving moving) byte false old new none (quiet, is) = same_base old new is none
 gives_base (Moving moving) byte true old new none (up, is) =
     subst (λ (front : Front). IsBase old.adapter.controller front.adapter.controller) (sym is)
@@ -169,11 +167,10 @@ gives_base (Moving moving) byte true old new none (up, is) =
 
 counts_base : (stage : FrontStage) (old new : Front) → old.adapter.controller.command ≡ [] → new ≡ count_told stage old → IsBase old.adapter.controller new.adapter.controller
 counts_base Through old new none is = subst (λ (front : Front). IsBase old.adapter.controller front.adapter.controller) (sym is) (told_base old.adapter.controller none)
-counts_base (Collecting opcode) old new none is = same_base old new is none
 counts_base (Seeking transfer counted) old new none is =
     subst (λ (front : Front). IsBase old.adapter.controller front.adapter.controller) (sym is) (record { dor = refl; non_dma = refl; command = none })
 counts_base (Moving moving) old new none is = subst (λ (front : Front). IsBase old.adapter.controller front.adapter.controller) (sym is) (told_base old.adapter.controller none)
-counts_base (Telling results read) old new none is = same_base old new is none
+counts_base (Telling results) old new none is = same_base old new is none
 
 -- while the heads seek first, the controller goes on waiting
 waits_same : (old new : Front) → new ≡ old → WaitsForHeads old.stage old.adapter.controller.phase → WaitsForHeads new.stage new.adapter.controller.phase
@@ -184,28 +181,25 @@ moving_waits moving new is = subst (λ stage. WaitsForHeads stage new.adapter.co
 
 takes_waits : (stage : FrontStage) (byte : Option ℕ) (old new : Front) → old.stage ≡ stage → WaitsForHeads old.stage old.adapter.controller.phase → TakesAt stage old byte new → WaitsForHeads new.stage new.adapter.controller.phase
 takes_waits Through byte old new at waits (adapter, is) = subst (λ stage. WaitsForHeads stage new.adapter.controller.phase) (sym (ap (λ (front : Front). front.stage) is ∙ at)) tt
-takes_waits (Collecting opcode) byte old new at waits (nothing, is) = waits_same old new is waits
 takes_waits (Seeking transfer counted) byte old new at waits (nothing, is) = waits_same old new is waits
-takes_waits (Telling results read) byte old new at waits (nothing, is) = waits_same old new is waits
+takes_waits (Telling results) byte old new at waits (nothing, is) = waits_same old new is waits
 takes_waits (Moving moving) None old new at waits (quiet, is) = waits_same old new is waits
 takes_waits (Moving moving) (Some byte) old new at waits (up, byte_is, is) = moving_waits (record moving { left = moving.left - 1 }) new (ap (λ (front : Front). front.stage) is)
 
 gives_waits : (stage : FrontStage) (byte : ℕ) (was : Bool) (old new : Front) → old.stage ≡ stage → WaitsForHeads old.stage old.adapter.controller.phase → GivesAt stage byte old was new → WaitsForHeads new.stage new.adapter.controller.phase
 gives_waits Through byte was old new at waits (adapter, is) = subst (λ stage. WaitsForHeads stage new.adapter.controller.phase) (sym (ap (λ (front : Front). front.stage) is ∙ at)) tt
-gives_waits (Collecting opcode) byte was old new at waits (nothing, is) = waits_same old new is waits
 gives_waits (Seeking transfer counted) byte was old new at waits (nothing, is) = waits_same old new is waits
-gives_waits (Telling results read) byte was old new at waits (nothing, is) = waits_same old new is waits
+gives_waits (Telling results) byte was old new at waits (nothing, is) = waits_same old new is waits
 gives_waits (Moving moving) byte false old new at waits (quiet, is) = waits_same old new is waits
 gives_waits (Moving moving) byte true old new at waits (up, is) = moving_waits (record moving { left = moving.left - 1 }) new (ap (λ (front : Front). front.stage) is)
 
 counts_waits : (stage : FrontStage) (old new : Front) → old.stage ≡ stage → WaitsForHeads old.stage old.adapter.controller.phase → new ≡ count_told stage old → WaitsForHeads new.stage new.adapter.controller.phase
 counts_waits Through old new at waits is = subst (λ stage. WaitsForHeads stage new.adapter.controller.phase) (sym (ap (λ (front : Front). front.stage) is ∙ at)) tt
-counts_waits (Collecting opcode) old new at waits is = waits_same old new is waits
 counts_waits (Seeking transfer counted) old new at waits is =
     let held : old.adapter.controller.phase ≡ Taking = subst (λ stage. WaitsForHeads stage old.adapter.controller.phase) at waits in
     subst (λ (front : Front). WaitsForHeads front.stage front.adapter.controller.phase) (sym is) held
 counts_waits (Moving moving) old new at waits is = moving_waits (record moving { counted = true }) new (ap (λ (front : Front). front.stage) is)
-counts_waits (Telling results read) old new at waits is = waits_same old new is waits
+counts_waits (Telling results) old new at waits is = waits_same old new is waits
 
 -- ---- what is executed goes on
 

@@ -1,38 +1,34 @@
 -- How the chip begins a command in the inner controller: the inner controller is free for it, what LOCK kept is given
--- again, and the command's bytes are given.
-use Rattle.std.proofs.Common.{◌≡◌, ℕ, ◌<◌, Bool, true, false, not, ◌||◌, Option, Some, List, [], ◌∷◌, ◌++◌, is_some, bit_and, refl, sym, ◌∙◌, ap, subst}
-use Rattle.std.proofs.lemmas.Bool.{agree_below_at}
+-- again, and the command is given.
+use Rattle.std.proofs.Common.{◌≡◌, ℕ, ◌<◌, Bool, true, false, not, ◌||◌, ◌==◌, Option, Some, List, [], ◌∷◌, ◌++◌, bit_and, refl, sym, ◌∙◌, ap, subst}
+use Rattle.std.proofs.lemmas.Bool.{agree_below_at, eqb-true}
 use Rattle.fdc_commands.specs.declared.results.Results.{Results}
 use Rattle.fdc_commands.specs.declared.command.Command.TheVariants.{Configure}
 use Rattle.fdc_commands.specs.Seeking.{seek_bits}
 use Rattle.fdc_core.specs.Commands.{configured}
 use Rattle.fdc_core.specs.State.{is_held}
 use Rattle.fdc_core.specs.declared.controller.Fdc.{Fdc}
-use Rattle.fdc_sequencer.specs.Fronts.{Front, implies_seeks, with_seeks}
+use Rattle.fdc_sequencer.specs.Fronts.{Front, GivesTransfer}
 use Rattle.fdc_sequencer.specs.Opcodes.{opcode_of}
-use Rattle.fdc_sequencer.specs.declared.opcode.Opcode.{Opcode}
 use Rattle.fdc_sequencer.specs.declared.stage.FrontStage.TheVariants as behind
 use Rattle.fdc_sequencer.specs.declared.transfer.Transfer.{Transfer}
-use Rattle.laws_sequencer.specs.Calls as call
-use Rattle.laws_sequencer.proofs.Called.{both_within}
-use Rattle.laws_sequencer.proofs.Whole.{command_served}
+use Rattle.laws_chip.specs.SectorCalls as call
+use Rattle.laws_chip.proofs.Called.{both_within}
+use Rattle.laws_chip.proofs.Whole.{command_served}
 use Rattle.fdc_chip.specs.Chips.{ChipState}
 use Rattle.fdc_chip.specs.Codes.{code_of}
-use Rattle.fdc_chip.specs.Doing.{Begins, Obeys, RemembersIf, Sends, TransfersIf, begun, implies, is_size, sought_if, with_last}
-use Rattle.fdc_chip.specs.Orders.{order_bytes}
+use Rattle.fdc_chip.specs.Doing.{Begins, Obeys, RemembersIf, TransfersIf, begun, configuring, implies, is_size, sought_if, transfer_sent, with_last}
 use Rattle.fdc_chip.specs.Steps.{StepsChip}
 use Rattle.fdc_chip.specs.declared.code.ChipOpcode.{ChipOpcode}
 use Rattle.fdc_chip.specs.declared.code.ChipOpcode.TheVariants.{Transfer as TransferCode}
 use Rattle.fdc_chip.specs.declared.stage.ChipStage.TheVariants.{Busy}
 use Rattle.fdc_chip.specs.declared.stage.ChipTask.{ChipTask}
 use Rattle.fdc_chip.specs.declared.stage.ChipTask.TheVariants.{Sent}
-use Rattle.laws_chip.specs.Beginning.{IsBegun, IsFreeBehind, IsServed, transfer_sent}
+use Rattle.laws_chip.specs.Beginning.{IsBegun, IsFreeBehind, IsServed, spelled_opcode}
 use Rattle.laws_chip.specs.Calls.{AreServed, Call}
-use Rattle.laws_chip.proofs.FirstSectors.{IsBase}
-use Rattle.laws_chip.proofs.NineBytes.{order_begins}
+use Rattle.laws_chip.proofs.FirstSectors.{IsBase, first_begins}
 use Rattle.laws_chip.proofs.PassedOn.{all_passed}
-use Rattle.laws_chip.proofs.Sending.{IsObeyed, configure_obeyed}
-use Rattle.laws_chip.proofs.Standing.{Stands, stands_free}
+use Rattle.laws_chip.proofs.Standing.{IsObeyed, Stands, given_obeyed, stands_free}
 
 -- ---- ---- the inner controller goes on standing free
 
@@ -55,20 +51,14 @@ configured_stands options precompensation start new stands obeyed =
       record { dor = ap (λ (fdc : Fdc). fdc.dor) is; non_dma = ap (λ (fdc : Fdc). fdc.non_dma) is; command = ap (λ (fdc : Fdc). fdc.command) is },
     )
 
--- seeks may be implied or not
-pub sought_stands : (on : Bool) (front : Front) → Stands front → Stands (with_seeks on front)
-sought_stands on front stands =
-    record { through = stands.through; takes = stands.takes; none = stands.none; free = stands.free; rests = stands.rests; by_dma = stands.by_dma }
-
 -- ---- a command begins
 
--- the inner controller was given these bytes for this task. The Bool says whether a seek was implied for them
-pub record IsSent (task : ChipTask) (seeks : Bool) (bytes : List ℕ) (old new : ChipState) : Type 0 where
+-- the inner controller was given something for this task
+pub record IsSent (task : ChipTask) (Gives : Front → Front → Type 0) (old new : ChipState) : Type 0 where
   pub set : Front
-  pub implied : implies_seeks set ≡ seeks
   pub stands : Stands set
   pub base : IsBase old.front.adapter.controller set.adapter.controller
-  pub sends : Sends bytes set new.front
+  pub gives : Gives set new.front
   pub stage : new.stage ≡ Busy task
   pub count : new.count ≡ old.count
   pub order : new.order ≡ old.order
@@ -82,8 +72,8 @@ record IsSet (old new : ChipState) : Type 0 where
   order : new.order ≡ old.order
 
 remembers_stands : (b : Bool) (old new : ChipState) → Stands old.front → RemembersIf b old new → IsSet old new
-remembers_stands true old new stands (sends, rest) =
-    let obeyed = configure_obeyed (bit_and old.settings.options 0x3F) old.settings.precompensation old.front new.front stands sends in
+remembers_stands true old new stands (gives, rest) =
+    let obeyed = given_obeyed (configuring old.settings.options old.settings.precompensation) old.front new.front stands refl gives in
     let (still, base) = configured_stands (bit_and old.settings.options 0x3F) old.settings.precompensation old.front new.front stands obeyed in
     record {
       stands = still;
@@ -95,31 +85,26 @@ remembers_stands true old new stands (sends, rest) =
 remembers_stands false old new stands is =
     subst (IsSet old) (sym is) (record { stands = stands; base = same_base old.front stands; stage = refl; count = refl; order = refl })
 
-only_strapped : (on : Bool) → (on || false) ≡ on
-only_strapped true = refl
-only_strapped false = refl
-
-pub begins_sent : (task : ChipTask) (seeks : Bool) (bytes : List ℕ) (old new : ChipState) → Stands old.front → Begins task seeks bytes old new → IsSent task seeks bytes old new
-begins_sent task seeks bytes old new stands begins =
+pub begins_sent : (task : ChipTask) (Gives : Front → Front → Type 0) (old new : ChipState) → Stands old.front → Begins task Gives old new → IsSent task Gives old new
+begins_sent task Gives old new stands begins =
     let start = begun task old in
-    let ready = remembers_stands old.settings.forgotten start begins.set stands begins.remembers in
+    let ready = remembers_stands old.settings.forgotten start begins.set stands begins.opens in
     record {
-      set = with_seeks seeks begins.set.front;
-      implied = only_strapped seeks;
-      stands = sought_stands seeks begins.set.front ready.stands;
-      base = record { dor = ready.base.dor; non_dma = ready.base.non_dma; command = ready.base.command };
-      sends = begins.sends.0;
-      stage = ap (λ (chip : ChipState). chip.stage) begins.sends.1 ∙ ready.stage;
-      count = ap (λ (chip : ChipState). chip.count) begins.sends.1 ∙ ready.count;
-      order = ap (λ (chip : ChipState). chip.order) begins.sends.1 ∙ ready.order;
+      set = begins.set.front;
+      stands = ready.stands;
+      base = ready.base;
+      gives = begins.gives;
+      stage = ap (λ (chip : ChipState). chip.stage) begins.rest ∙ ready.stage;
+      count = ap (λ (chip : ChipState). chip.count) begins.rest ∙ ready.count;
+      order = ap (λ (chip : ChipState). chip.order) begins.rest ∙ ready.order;
     }
 
 -- a seek is implied, or not
-pub sought_sent : (b : Bool) (task : ChipTask) (seeks : Bool) (bytes : List ℕ) (old new : ChipState) → Stands old.front → Begins task seeks bytes (sought_if b old) new → IsSent task seeks bytes old new
-sought_sent true task seeks bytes old new stands begins =
-    let sent = begins_sent task seeks bytes (sought_if true old) new stands begins in
-    record { set = sent.set; implied = sent.implied; stands = sent.stands; base = sent.base; sends = sent.sends; stage = sent.stage; count = sent.count; order = sent.order }
-sought_sent false task seeks bytes old new stands begins = begins_sent task seeks bytes old new stands begins
+pub sought_sent : (b : Bool) (task : ChipTask) (Gives : Front → Front → Type 0) (old new : ChipState) → Stands old.front → Begins task Gives (sought_if b old) new → IsSent task Gives old new
+sought_sent true task Gives old new stands begins =
+    let sent = begins_sent task Gives (sought_if true old) new stands begins in
+    record { set = sent.set; stands = sent.stands; base = sent.base; gives = sent.gives; stage = sent.stage; count = sent.count; order = sent.order }
+sought_sent false task Gives old new stands begins = begins_sent task Gives old new stands begins
 
 -- ---- the codes
 
@@ -127,29 +112,29 @@ abbrev is_transfer : Option ChipOpcode → Bool
 is_transfer (Some (TransferCode true)) = true
 is_transfer _ = false
 
-abbrev is_served : ℕ → Bool
-is_served code = not (is_transfer (code_of code)) || is_some (opcode_of code)
+abbrev is_spelled : ℕ → Bool
+is_spelled code = not (is_transfer (code_of code)) || spelled_opcode (opcode_of code) == code
 
--- each of these codes is one that the sequencer serves
-pub codes_served : (code : ℕ) → code < 256 → code_of code ≡ Some (TransferCode true) → is_some (opcode_of code) ≡ true
-codes_served code few is =
-    sym (ap (λ found. not (is_transfer found) || is_some (opcode_of code)) is) ∙ agree_below_at is_served (λ _. true) 256 code refl few
+-- what the sequencer makes of such a code spells it again
+pub codes_spelled : (code : ℕ) → code < 256 → code_of code ≡ Some (TransferCode true) → spelled_opcode (opcode_of code) ≡ code
+codes_spelled code few is =
+    eqb-true (spelled_opcode (opcode_of code)) code
+    (sym (ap (λ found. not (is_transfer found) || spelled_opcode (opcode_of code) == code) is) ∙ agree_below_at is_spelled (λ _. true) 256 code refl few)
 
 -- ---- a command of sectors
 
-pub transfer_begun : (opcode : Opcode) (old new : ChipState) → opcode_of old.order.code ≡ Some opcode → is_size old.order.key.n ≡ true → IsFreeBehind old.front → Obeys (TransferCode true) old new
-    → IsBegun (transfer_sent (implies old) opcode old.order) new
-transfer_begun opcode old new is size free obeys =
+pub transfer_begun : (old new : ChipState) → is_size old.order.key.n ≡ true → IsFreeBehind old.front → Obeys (TransferCode true) old new → IsBegun (transfer_sent (implies old) old.order) new
+transfer_begun old new size free obeys =
     let noted = with_last old.order.last_sector old in
-    let begins : TransfersIf true true Sent (order_bytes old.order) noted new = subst (λ b. TransfersIf b true Sent (order_bytes old.order) noted new) size obeys in
-    let sent = sought_sent (implies noted) Sent (implies noted) (order_bytes old.order) noted new (stands_free old.front free) begins in
-    let (serves, carried, starts) = order_begins opcode old.order sent.set new.front sent.stands is size sent.sends in
-    subst (λ seeks. IsBegun (transfer_sent seeks opcode old.order) new) sent.implied
-    (record { begins = serves; serving = record { sent = sent.stage; under_way = carried.under_way } })
+    let first = transfer_sent (implies old) old.order in
+    let begins : TransfersIf true true Sent old.order noted new = subst (λ b. TransfersIf b true Sent old.order noted new) size obeys in
+    let sent = sought_sent (implies old) Sent (GivesTransfer first) noted new (stands_free old.front free) begins in
+    let (serves, carried, starts) = first_begins first sent.set new.front sent.stands size sent.gives in
+    record { begins = serves; serving = record { sent = sent.stage; under_way = carried.under_way } }
 
 -- what passes from the beginning of the command to its results
 pub transfer_served : (first : Transfer) (calls : List Call) (begun last new : ChipState) (served : AreServed calls begun last) (step : StepsChip last new) (results : Results)
-    → IsBegun first begun → step.between.stage ≡ behind.Telling results 0 → IsServed first calls begun last new served step results
+    → IsBegun first begun → step.between.stage ≡ behind.Telling results → IsServed first calls begun last new served step results
 transfer_served first calls begun last new served step results is told =
     let passed = all_passed calls begun last served is.serving in
     let one : call.AreWithin (call.Steps ∷ []) last.front step.between = (step.between, step.steps, (λ through. cc (told, through)), refl) in
@@ -158,5 +143,5 @@ transfer_served first calls begun last new served step results is told =
       all = passed.all;
       makes = passed.makes;
       within = within;
-      moved = command_served is.begins.byte first is.begins.start begun.front step.between (passed.all ++ call.Steps ∷ []) results 0 is.begins.last is.begins.writes is.begins.stays within told;
+      moved = command_served first is.begins.start begun.front step.between (passed.all ++ call.Steps ∷ []) results is.begins.begins within told;
     }

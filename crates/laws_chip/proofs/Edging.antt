@@ -1,5 +1,5 @@
 -- INT after the calls of a chip.
-use Rattle.std.proofs.Common.{◌≡◌, ℕ, ◌+◌, Bool, true, false, not, ◌&&◌, ◌||◌, ◌==◌, nat_le, nat_lt, if◌then◌else◌, Option, Some, None, is_some, List, length, slice_index, refl, sym, ◌∙◌, ap, subst}
+use Rattle.std.proofs.Common.{◌≡◌, ℕ, ◌+◌, Bool, true, false, not, ◌&&◌, ◌||◌, ◌==◌, nat_le, nat_lt, if◌then◌else◌, Option, Some, None, is_some, length, slice_index, refl, sym, ◌∙◌, ap, subst}
 use Rattle.std.specs.Option.{option_map_or}
 use Rattle.std.specs.Prelude.{option_map, slice_set}
 use Rattle.std.proofs.lemmas.Bool.{and_from, and_left, and_parts, and_right, eqb-true, false≢true}
@@ -7,13 +7,13 @@ use Rattle.fdc_commands.specs.declared.results.Results.{Results}
 use Rattle.fdc_core.specs.Dma.{to_memory_of}
 use Rattle.fdc_core.specs.State.{asks}
 use Rattle.fdc_core.specs.declared.controller.Fdc.{Fdc}
-use Rattle.fdc_adapter.specs.Adapters.{Takes}
+use Rattle.fdc_sequencer.specs.Adapters.{Takes}
 use Rattle.fdc_sequencer.specs.Fronts.{Front, TakesAt, asks_at, asks_outside, interrupts_outside, told_front, with_controller}
 use Rattle.fdc_sequencer.specs.declared.stage.FrontStage.{FrontStage}
 use Rattle.fdc_sequencer.specs.declared.stage.FrontStage.TheVariants as behind
 use Rattle.fdc_chip.specs.Answers.{answer_bytes, is_of_data}
 use Rattle.fdc_chip.specs.Chips.{ChipState, KeepsRest, interrupts_chip, is_data, passes, passes_at, passes_by_channel, passes_by_port, shows_behind, with_front}
-use Rattle.fdc_chip.specs.Doing.{Begins, RemembersIf, begun, sensing}
+use Rattle.fdc_chip.specs.Doing.{Opens, RemembersIf, begun, sensing}
 use Rattle.fdc_chip.specs.Interrupts.{Interrupting, first_pending, sensed, status_of}
 use Rattle.fdc_chip.specs.Orders.{is_format}
 use Rattle.fdc_chip.specs.Ports.{GivesChipIf, ReadsAt, ReadsChip, ReadsIf, TakesIf, byte_told, count_told, counted_if, given_one, quieted_if, told_chip}
@@ -57,9 +57,7 @@ no_bytes chip none =
 -- while a command is executed, INT of the inner controller doesn't show
 shows_none : (stage : ChipStage) (behind_it : Front) → passes_at stage ≡ true → shows_behind stage behind_it ≡ false
 shows_none Ready behind_it passing = absurd (false≢true passing)
-shows_none Held behind_it passing = refl
-shows_none (Busy what) behind_it passing = refl
-shows_none (Telling told read) behind_it passing = refl
+shows_none _ behind_it passing = refl
 
 line_alone : (chip : ChipState) → shows_behind chip.stage chip.front ≡ false → by_line chip ≡ (chip.gated && chip.interrupts.line)
 line_alone chip none = ap (λ b. chip.gated && (chip.interrupts.line || b)) none ∙ ap (λ b. chip.gated && b) (or_none chip.interrupts.line)
@@ -96,13 +94,7 @@ gives_same false byte was old new passing (none, is) = int_same old new is
 pub channel_leaves : (made : Call) (old new : ChipState) → is_of_channel made ≡ true → Does made old new → interrupts_chip new ≡ interrupts_chip old
 channel_leaves (call.Takes byte) old new is does = takes_same (passes_by_channel old) byte old new refl does
 channel_leaves (call.Gives byte was) old new is does = gives_same (passes_by_channel old) byte was old new refl does
-channel_leaves call.Steps old new is does = absurd (false≢true is)
-channel_leaves call.Counts old new is does = absurd (false≢true is)
-channel_leaves (call.Reads port value) old new is does = absurd (false≢true is)
-channel_leaves (call.Writes port value) old new is does = absurd (false≢true is)
-channel_leaves call.Changes old new is does = absurd (false≢true is)
-channel_leaves (call.Straps on) old new is does = absurd (false≢true is)
-channel_leaves (call.StrapsSteps on) old new is does = absurd (false≢true is)
+channel_leaves _ old new is does = absurd (false≢true is)
 
 -- ---- the terminal count
 
@@ -121,16 +113,12 @@ task_told false chip one other dma = task_line chip other chip.front dma ∙ sym
 
 busy_told : (what : ChipTask) (chip : ChipState) → is_by_port chip.settings ≡ false → interrupts_chip (count_told (Busy what) (at_task chip what chip.front)) ≡ interrupts_chip (at_task chip what chip.front)
 busy_told task.Sent chip dma = task_told true chip task.Sent task.Sent dma
-busy_told (task.Sought first) chip dma = refl
-busy_told (task.Refused unit key mfm) chip dma = refl
-busy_told (task.Verify left) chip dma = refl
 busy_told (task.Track track) chip dma = task_told (is_data track.place) chip (task.Track track) (task.Track (record track { counted = true })) dma
+busy_told _ chip dma = refl
 
 stage_told : (stage : ChipStage) (chip : ChipState) → is_by_port chip.settings ≡ false → interrupts_chip (count_told stage (record chip { stage = stage })) ≡ interrupts_chip (record chip { stage = stage })
-stage_told Ready chip dma = refl
-stage_told Held chip dma = refl
-stage_told (Telling told read) chip dma = refl
 stage_told (Busy what) chip dma = busy_told what chip dma
+stage_told _ chip dma = refl
 
 pub count_leaves : (chip : ChipState) → is_by_port chip.settings ≡ false → interrupts_chip (told_chip chip) ≡ interrupts_chip chip
 count_leaves chip dma = stage_told chip.stage chip dma
@@ -153,9 +141,8 @@ takes_none (behind.Moving moving) (Some byte) old new quiet (up, byte_is, is) =
     let (left, both) = and_parts (nat_lt 0 moving.left) (asks fdc && to_memory_of fdc) up in
     clash (nat_lt 0 moving.left && asks fdc) quiet (and_from (nat_lt 0 moving.left) (asks fdc) left (and_parts (asks fdc) (to_memory_of fdc) both).0)
 takes_none (behind.Moving moving) None old new quiet (none, is) = is
-takes_none (behind.Collecting opcode) byte old new quiet (none, is) = is
 takes_none (behind.Seeking transfer counted) byte old new quiet (none, is) = is
-takes_none (behind.Telling results read) byte old new quiet (none, is) = is
+takes_none (behind.Telling results) byte old new quiet (none, is) = is
 
 -- where bytes pass at the data port, INT that DOR lets out goes by the request
 asks_none : (gate asked : Bool) → gate ≡ true → (gate && asked) ≡ false → asked ≡ false
@@ -226,9 +213,7 @@ answer_read false first told read old new tells is down up =
 data_read : (stage : ChipStage) (old : ChipState) (value : ℕ) (new : ChipState) → old.stage ≡ stage → ReadsAt stage old value new → interrupts_chip old ≡ false → interrupts_chip new ≡ true → EndsAnswer old new
 data_read (Telling told read) old value new at (value_is, is) down up =
     answer_read (nat_le (length (answer_bytes told)) (read + 1)) (is_of_data told && read == 0) told read old new at is down up
-data_read Ready old value new at reads down up = port_read (passes_by_port old) old value new refl reads down up
-data_read Held old value new at reads down up = port_read (passes_by_port old) old value new refl reads down up
-data_read (Busy what) old value new at reads down up = port_read (passes_by_port old) old value new refl reads down up
+data_read _ old value new at reads down up = port_read (passes_by_port old) old value new refl reads down up
 
 pub read_raises : (port value : ℕ) (old new : ChipState) → ReadsChip port old value new → interrupts_chip old ≡ false → interrupts_chip new ≡ true → EndsAnswer old new
 read_raises port value old new reads down up = either_way (port == 0x3F4)
@@ -272,11 +257,11 @@ down_kept what old new down rest = record {
 }
 
 remembers_down : (b : Bool) (what : ChipTask) (old new : ChipState) → IsDown what old → RemembersIf b old new → IsDown what new
-remembers_down true what old new down (sends, rest) =
+remembers_down true what old new down (gives, rest) =
     down_kept what (record old { settings = record old.settings { forgotten = false } }) new (record { dma = down.dma; line = down.line; stage = down.stage }) rest
 remembers_down false what old new down is = subst (λ (chip : ChipState). IsDown what chip) (sym is) down
 
-pub begins_down : (what : ChipTask) (seeks : Bool) (bytes : List ℕ) (old new : ChipState) → is_by_port old.settings ≡ false → Begins what seeks bytes old new → interrupts_chip new ≡ false
-begins_down what seeks bytes old new dma begins =
+pub begins_down : (what : ChipTask) (old set new : ChipState) → is_by_port old.settings ≡ false → Opens what old set → KeepsRest set new → interrupts_chip new ≡ false
+begins_down what old set new dma opens rest =
     let start : IsDown what (begun what old) = record { dma = dma; line = refl; stage = refl } in
-    down_int what new (down_kept what begins.set new (remembers_down old.settings.forgotten what (begun what old) begins.set start begins.remembers) begins.sends.1)
+    down_int what new (down_kept what set new (remembers_down old.settings.forgotten what (begun what old) set start opens) rest)

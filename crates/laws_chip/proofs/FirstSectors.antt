@@ -1,34 +1,38 @@
 -- A sector of a command of several sectors begins, or the seek before it: what the beginning leaves of the inner
--- controller.
-use Rattle.std.proofs.Common.{◌≡◌, ℕ, nat_le, Bool, true, false, not, ◌&&◌, if◌then◌else◌, [], refl, sym, ◌∙◌, ap, subst}
-use Rattle.std.proofs.lemmas.Bool.{and_from, and_parts, le-leb}
+-- controller. The sequencer serves a command that it is given.
+use Rattle.std.proofs.Common.{◌≡◌, ℕ, nat_le, Bool, true, false, ◌&&◌, if◌then◌else◌, [], refl, sym, ◌∙◌, ap, subst}
+use Rattle.std.proofs.lemmas.Bool.{and_from, le-leb}
 use Rattle.flop_base.specs.declared.key.Chrn.{Chrn}
 use Rattle.track_model.specs.Fields.{IsSizeCode}
 use Rattle.fdc_registers.specs.declared.drive_lines.Dor.{Dor}
-use Rattle.fdc_commands.specs.Seeking.{seek_bits}
-use Rattle.fdc_commands.specs.Table.{is_begun}
 use Rattle.fdc_commands.specs.declared.bytes.Accepted.TheVariants.{Invalid, Ready}
 use Rattle.fdc_commands.specs.declared.command.Command.{Command}
 use Rattle.fdc_commands.specs.declared.command.Command.TheVariants.{ReadData, WriteData, WriteDeleted}
-use Rattle.fdc_phases.specs.declared.phases.Phase.TheVariants.{Command as Taking}
 use Rattle.fdc_core.specs.Commands.{BeginsData, Obeys, TakesAs, seeking}
 use Rattle.fdc_core.specs.Ports.{is_taking}
 use Rattle.fdc_core.specs.State.{is_gated, is_held}
 use Rattle.fdc_core.specs.Whole.{TakesWhole, is_idle}
 use Rattle.fdc_core.specs.declared.controller.Fdc.{Fdc}
 use Rattle.fdc_core.specs.declared.controller.Lines.{Lines}
-use Rattle.fdc_adapter.specs.Adapters.{AdapterState, lines_at}
-use Rattle.fdc_sequencer.specs.Fronts.{BeginsSector, Front, SeeksFirst, StartsIf, begun_if, moving_of, told_if}
+use Rattle.fdc_sequencer.specs.Adapters.{AdapterState, lines_at}
+use Rattle.fdc_sequencer.specs.Fronts.{BeginsSector, Front, GivesTransfer, SeeksFirst, Starts, StartsIf, TransfersIf, begun_if, moving_of, told_if}
 use Rattle.fdc_sequencer.specs.Transfers.{command_for}
 use Rattle.fdc_sequencer.specs.declared.opcode.Operation.{Operation}
 use Rattle.fdc_sequencer.specs.declared.opcode.Operation.TheVariants.{Read, Write}
 use Rattle.fdc_sequencer.specs.declared.stage.FrontStage.{FrontStage}
 use Rattle.fdc_sequencer.specs.declared.stage.FrontStage.TheVariants.{Through, Moving, Seeking}
 use Rattle.fdc_sequencer.specs.declared.transfer.Transfer.{Transfer}
-use Rattle.laws_sequencer.specs.Lasting.{is_under_way}
-use Rattle.laws_sequencer.specs.Serving.{IsFree}
-use Rattle.laws_sequencer.proofs.Free.{free_executes}
+use Rattle.laws_chip.specs.SectorCalls.{Begins}
+use Rattle.laws_chip.specs.SectorLasting.{is_under_way}
+use Rattle.laws_chip.specs.Serving.{IsFree}
+use Rattle.laws_chip.proofs.Free.{free_executes}
+use Rattle.laws_chip.proofs.Started.{in_range}
+use Rattle.laws_chip.proofs.Whole.{begins_served}
+use Rattle.fdc_chip.specs.Doing.{is_size}
+use Rattle.laws_chip.specs.Beginning.{BeginsBehind}
 use Rattle.laws_chip.specs.Sound.{WaitsForHeads}
+use Rattle.laws_chip.proofs.Standing.{Stands, stands_ready, stands_taking}
+use Rattle.laws_chip.proofs.UnderWay.{not_through}
 
 -- ---- what every command leaves
 
@@ -112,20 +116,29 @@ sector_carried at counted passed_over old new sized free begins =
 
 -- ---- or the heads go to its cylinder
 
-seeks_carried : (first : Transfer) (old new : Front) → old.adapter.controller.phase ≡ Taking → is_idle old.adapter.controller ≡ true → seek_bits old.adapter.controller.seeks ≡ 0 → SeeksFirst first old new → IsCarried old new
-seeks_carried first old new takes idle rests seeks =
+seeks_carried : (first : Transfer) (old new : Front) → Stands old → SeeksFirst first old new → IsCarried old new
+seeks_carried first old new stands seeks =
     let fdc = old.adapter.controller in
     let between = seeks.between in
-    let is : between.controller ≡ seeking first.head_drive first.key.c (record fdc { command = [] }) = seeks.takes.takes.0 rests in
-    let (taking, none) = and_parts (is_taking fdc) (not (is_begun fdc.command)) idle in
-    let again : is_idle between.controller ≡ true = ap is_idle is ∙ and_from (is_taking fdc) true taking refl in
+    let is : between.controller ≡ seeking first.head_drive first.key.c (record fdc { command = [] }) = seeks.takes.takes.0 stands.rests in
+    let again : is_idle between.controller ≡ true = ap is_idle is ∙ and_from (is_taking fdc) true (stands_taking old stands) refl in
     let same : new ≡ record old { adapter = between; stage = Seeking first false } =
     seeks.begun ∙ ap (λ b. record old { adapter = between; stage = if b then Seeking first false else Through }) again in
     carried_at (Seeking first false) old new (ap (λ front. front.stage) same) refl
-    (ap (λ (front : Front). front.adapter.controller.phase) same ∙ (ap (λ (fdc : Fdc). fdc.phase) is ∙ takes))
+    (ap (λ (front : Front). front.adapter.controller.phase) same ∙ (ap (λ (fdc : Fdc). fdc.phase) is ∙ stands.takes))
     (subst (λ (front : Front). IsBase fdc front.adapter.controller) (sym same) (base_as fdc _ between.controller (record { dor = refl; non_dma = refl; command = refl }) is))
 
-pub starts_carried : (b : Bool) (first : Transfer) (old new : Front) → IsSizeCode first.key.n → old.adapter.controller.phase ≡ Taking → is_idle old.adapter.controller ≡ true → IsFree old.adapter.controller
-    → StartsIf b first old new → IsCarried old new
-starts_carried true first old new sized takes idle free seeks = seeks_carried first old new takes idle free.rests seeks
-starts_carried false first old new sized takes idle free begins = sector_carried first false false old new sized free begins
+starts_carried : (b : Bool) (first : Transfer) (old new : Front) → IsSizeCode first.key.n → Stands old → StartsIf b first old new → IsCarried old new
+starts_carried true first old new sized stands seeks = seeks_carried first old new stands seeks
+starts_carried false first old new sized stands begins = sector_carried first false false old new sized (record { rests = stands.rests; by_dma = stands.by_dma }) begins
+
+-- ---- a command that is given
+
+pub first_begins : (first : Transfer) (start new : Front) → Stands start → is_size first.key.n ≡ true → GivesTransfer first start new → BeginsBehind first new × IsCarried start new × Starts first start new
+first_begins first start new stands size gives =
+    let ready = stands_ready start stands in
+    let starts : Starts first start new = subst (λ b. TransfersIf b first start new) ready gives in
+    let sized = in_range first.key.n size in
+    let carried = starts_carried first.seeks first start new sized stands starts in
+    let begins : Begins first start new = record { ready = ready; sized = λ seeks. sized; gives = gives; stays = not_through new carried.under_way } in
+    (record { start = start; begins = begins; serves = begins_served first start new begins }, carried, starts)

@@ -1,6 +1,6 @@
 -- FORMAT TRACK over a medium at speed: the sector IDs that were given are laid.
-use Rattle.std.proofs.Common.{◌≡◌, inl, inr, ℕ, zero, suc, ◌+◌, ◌%◌, ◌≤◌, nat_le, Bool, true, false, not, ◌&&◌, ◌==◌, if◌then◌else◌, Option, Some, None, List, [], ◌∷◌, ◌++◌, length, refl, sym, ◌∙◌, ap, subst, arith, length-append}
-use Rattle.std.proofs.lemmas.Bool.{and_parts, eqb-true, false≢true, leb-true}
+use Rattle.std.proofs.Common.{◌≡◌, inl, inr, ℕ, zero, suc, ◌+◌, ◌%◌, ◌≤◌, Bool, true, false, not, ◌&&◌, ◌==◌, if◌then◌else◌, Option, Some, None, List, [], ◌∷◌, ◌++◌, length, refl, sym, ◌∙◌, ap, subst, arith, length-append}
+use Rattle.std.proofs.lemmas.Bool.{and_parts, eqb-true, false≢true}
 use Rattle.raw_image.specs.Disk.{IsDisk}
 use Rattle.drive_model.specs.Drive.{DriveState, is_protected, rate_of}
 use Rattle.fdc_registers.specs.declared.drive_lines.Dor.{Dor}
@@ -42,8 +42,8 @@ use Rattle.fdc_core.specs.declared.controller.Fdc.{Fdc}
 use Rattle.fdc_core.proofs.MayWrite.{in_formats, told_formats}
 use Rattle.fdc_core.proofs.Tellings.{format_tells, lays_track}
 use Rattle.fdc_core.proofs.drives.Writing.{drive_less, kept_on, saw_on, still_unprotected, stopped_on, wrote_on}
-use Rattle.fdc_adapter.specs.Adapters.{AdapterState, StepsAdapter, drive_at, selected_at}
-use Rattle.fdc_sequencer.specs.Fronts.{Front, GivesAt, GivesFront, TakesAt, TakesFront, told_front, told_if, with_controller}
+use Rattle.fdc_sequencer.specs.Adapters.{AdapterState, StepsAdapter, drive_at, selected_at}
+use Rattle.fdc_sequencer.specs.Fronts.{Front, GivesAt, GivesFront, TakesAt, TakesFront, told_front, told_if, with_controller, GivesCommand}
 use Rattle.fdc_sequencer.specs.Fronts as fronts
 use Rattle.fdc_sequencer.specs.Moves.{StepsFront}
 use Rattle.fdc_sequencer.specs.declared.stage.FrontStage.TheVariants.{Through}
@@ -55,8 +55,8 @@ use Rattle.fdc_chip.specs.Steps.{StepsChip}
 use Rattle.fdc_chip.specs.declared.code.ChipOpcode.TheVariants as code
 use Rattle.fdc_chip.specs.declared.stage.ChipStage.TheVariants.{Busy}
 use Rattle.fdc_chip.specs.declared.stage.ChipTask.TheVariants.{Sent}
-use Rattle.laws_sequencer.specs.Serving.{passed_in}
-use Rattle.laws_sequencer.proofs.LateWriting.{window_none}
+use Rattle.laws_chip.specs.Serving.{passed_in}
+use Rattle.laws_chip.proofs.LateWriting.{window_none}
 use Rattle.laws_chip.specs.Beginning.{IsFreeBehind}
 use Rattle.laws_chip.specs.Calls as made
 use Rattle.laws_chip.specs.Calls.{Call, Does}
@@ -66,39 +66,31 @@ use Rattle.laws_chip.specs.Sound.{ExecutesBehind, IsSound, executes_single}
 use Rattle.laws_chip.proofs.Channels.{counts_executes, gives_executes}
 use Rattle.laws_chip.proofs.CommandsBegun.{begins_sent}
 use Rattle.laws_chip.proofs.PassedOn.{no_results, other_read, step_same}
-use Rattle.laws_chip.proofs.FirstSectors.{base_held}
 use Rattle.laws_chip.proofs.Rests.{adapter_stays, through_step}
-use Rattle.laws_chip.proofs.Sending.{format_obeyed}
 use Rattle.laws_chip.proofs.Singles.{executes_step, format_executes, waits_shown}
 use Rattle.laws_chip.proofs.SoundCalls.{call_sound}
-use Rattle.laws_chip.proofs.SoundParts as parts
-use Rattle.laws_chip.proofs.SoundParts.{sound_basis}
-use Rattle.laws_chip.proofs.Standing.{stands_free}
+use Rattle.laws_chip.proofs.Standing.{format_obeyed, stands_free}
 use Rattle.laws_chip.proofs.UnderWay.{either_way}
 
 -- ---- parts of a FORMAT
 
 due_words : (turns : List (List ℕ)) (seen : List ℕ) (place : ℕ) (words : List ℕ) (barred : Bool) (part : FormatPart) → IsAtPart turns seen place words barred part → is_next part ≡ false → words ≡ []
-due_words turns seen place words barred Await was due = was.1
 due_words turns seen place words barred Due was due = absurd (false≢true (sym due))
 due_words turns seen place words barred Lay was due = absurd (false≢true (sym due))
-due_words turns seen place words barred Barred was due = was.1
+due_words turns seen place words barred _ was due = was.1
 
 record IsDueNow (words : List ℕ) (part : FormatPart) : Type 0 where
   first : is_first part ≡ true → words ≡ []
   later : is_first part ≡ false → 1 ≤ length words
 
 due_now : (turns : List (List ℕ)) (seen : List ℕ) (place : ℕ) (words : List ℕ) (barred : Bool) (part : FormatPart) → IsAtPart turns seen place words barred part → is_next part ≡ true → IsDueNow words part
-due_now turns seen place words barred Await was due = absurd (false≢true due)
 due_now turns seen place words barred Due was due = record { first = λ _. was.2; later = λ no. absurd (false≢true (sym no)) }
 due_now turns seen place words barred Lay was due = record { first = λ no. absurd (false≢true no); later = λ _. was.2 }
-due_now turns seen place words barred Barred was due = absurd (false≢true due)
+due_now turns seen place words barred _ was due = absurd (false≢true due)
 
 first_words : (turns : List (List ℕ)) (seen : List ℕ) (place : ℕ) (words : List ℕ) (barred : Bool) (part : FormatPart) → IsAtPart turns seen place words barred part → is_first part ≡ true → words ≡ []
-first_words turns seen place words barred Await was first = absurd (false≢true first)
 first_words turns seen place words barred Due was first = was.2
-first_words turns seen place words barred Lay was first = absurd (false≢true first)
-first_words turns seen place words barred Barred was first = absurd (false≢true first)
+first_words turns seen place words barred _ was first = absurd (false≢true first)
 
 record IsInExecution (past : Past) : Type 0 where
   place : 1 ≤ length past.words → past.place ≡ length past.words
@@ -252,9 +244,8 @@ known_busy : (front : Front) → ExecutesBehind front → is_executing front.ada
 known_busy front executes = by_phase front.adapter.controller.phase executes.executes
   where
     by_phase : (phase : Phase) → executes_single phase ≡ true → is_executing phase ≡ true
-    by_phase Taking is = absurd (false≢true is)
-    by_phase (Result told) is = absurd (false≢true is)
     by_phase (Execute execution) is = refl
+    by_phase _ is = absurd (false≢true is)
 
 bay_steps : (outset : Outset) (bay unit : ℕ) (numbers : Numbers) (given : List ℕ) (front : Front) (new : AdapterState) → bay ≤ 1 → IsDisk outset.disk → outset.head ≡ head_of unit → IsFormattingAt outset bay unit numbers given front
     → StepsAdapter front.adapter new → Stepped outset unit numbers given new.controller (drive_at new bay)
@@ -286,11 +277,9 @@ stepped_lays outset unit numbers given new drive is = record {
 -- if the chip is busy after the step too, the FORMAT goes on
 still_executes : (old new : ChipState) (step : StepsChip old new) → IsSound old → old.stage ≡ Busy Sent → new.stage ≡ Busy Sent → ExecutesBehind old.front → ExecutesBehind step.between
 still_executes old new step sound at stays was =
-    let (goes, base) = executes_step old.front step.between step.steps sound.whole was in
-    let free = base_held old.front.adapter.controller step.between.adapter.controller base ∙ (sound_basis old (ap parts.is_ready at) sound).free in
-    elim goes [
+    elim (executes_step old.front step.between step.steps sound.whole was).0 [
       | inl executes ↦ executes
-      | inr waits ↦ absurd (no_results old new step at stays (waits_shown step.between free waits))
+      | inr waits ↦ absurd (no_results old new step at stays waits.results (waits_shown step.between waits))
     ]
 
 -- ---- the channel
@@ -303,9 +292,7 @@ reads_none past unit numbers (Execute execution) asking fifo known = by_task exe
   where
     by_task : (chosen : Task) → MayFormatTask past unit numbers execution.head_drive execution.steps chosen asking fifo → is_reading (Execute (record execution { task = chosen })) ≡ false
     by_task (task.Format formatting) known = refl
-    by_task (task.ReadId search) known = absurd known
-    by_task (task.Read reading) known = absurd known
-    by_task (task.Write writing) known = absurd known
+    by_task _ known = absurd known
 
 module _ (outset : Outset) (bay unit : ℕ) (numbers : Numbers) where
   abbrev Going : List ℕ → Front → Type 0
@@ -470,9 +457,8 @@ begun_known unit numbers chosen on threshold is = is (emptied on threshold) fals
 
 begun_going : (outset : Outset) (bay unit : ℕ) (numbers : Numbers) (chip : ChipState) → IsFormatBegun unit numbers chip → TurnsAtSpeed outset bay unit chip → IsFormattingAt outset bay unit numbers [] chip.front × (chip.stage ≡ Busy Sent)
 begun_going outset bay unit numbers chip is turns =
-    let sent = begins_sent Sent false (0x4D ∷ unit ∷ numbers.n ∷ numbers.sectors ∷ numbers.gap3 ∷ numbers.fill ∷ []) is.set chip (stands_free is.set.front is.free) is.begins in
-    let (low, high) = and_parts (nat_le 1 numbers.n) (nat_le numbers.n 6) is.sized in
-    let obeyed = format_obeyed unit numbers.n numbers.sectors numbers.gap3 numbers.fill sent.set chip.front sent.stands (leb-true 1 numbers.n low) (leb-true numbers.n 6 high) sent.sends in
+    let sent = begins_sent Sent (GivesCommand (FormatTrack unit numbers.n numbers.sectors numbers.gap3 numbers.fill)) is.set chip (stands_free is.set.front is.free) is.begins in
+    let obeyed = format_obeyed unit numbers.n numbers.sectors numbers.gap3 numbers.fill sent.set chip.front sent.stands is.sized sent.gives in
     let fdc = sent.set.adapter.controller in
     let begins : BeginsData (FormatTrack unit numbers.n numbers.sectors numbers.gap3 numbers.fill) (record fdc { command = [] }) chip.front.adapter.controller = (obeyed.obeys.0 sent.stands.rests).1 sent.stands.by_dma in
     let drive = drive_at chip.front.adapter bay in

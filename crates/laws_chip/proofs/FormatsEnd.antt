@@ -27,11 +27,11 @@ use Rattle.fdc_core.specs.Times.{WordTime, Saw, KeptOut, Wrote, Stopped}
 use Rattle.fdc_core.specs.Writes.{WritesIn, WritesTask}
 use Rattle.fdc_core.specs.Writing.{Stops, without_byte}
 use Rattle.fdc_core.specs.declared.controller.Fdc.{Fdc}
-use Rattle.fdc_adapter.specs.Adapters.{AdapterState, StepsAdapter, selected_at}
+use Rattle.fdc_sequencer.specs.Adapters.{AdapterState, StepsAdapter, selected_at}
 use Rattle.fdc_sequencer.specs.Fronts.{Front}
 use Rattle.fdc_sequencer.specs.Moves.{StepsFront}
 use Rattle.fdc_sequencer.specs.declared.stage.FrontStage.TheVariants.{Through}
-use Rattle.laws_sequencer.proofs.Known.{which_drive}
+use Rattle.laws_chip.proofs.Known.{which_drive}
 use Rattle.fdc_chip.specs.Ending.{is_not_found}
 use Rattle.laws_chip.proofs.Rests.{through_step}
 
@@ -51,9 +51,8 @@ FormatsOn (Result (Long ending results taken)) = is_not_found results ≡ false
 FormatsOn _ = ⊥
 
 pub formats_on : (phase : Phase) → formats phase ≡ true → FormatsOn phase
-formats_on Taking is = absurd (false≢true is)
-formats_on (Result answer) is = absurd (false≢true is)
 formats_on (Execute execution) is = is
+formats_on _ is = absurd (false≢true is)
 
 -- ---- ---- endings
 
@@ -62,15 +61,8 @@ finds_none NoSector = true
 finds_none _ = false
 
 ends_formats : (ending : Ending) (head_drive : ℕ) (key : Chrn) (old : Fdc) → finds_none ending ≡ false → FormatsOn (finished ending head_drive key old).phase
-ends_formats (Done deleted) head_drive key old other = refl
-ends_formats NoMark head_drive key old other = refl
 ends_formats NoSector head_drive key old other = absurd (false≢true (sym other))
-ends_formats NoField head_drive key old other = refl
-ends_formats BadCheck head_drive key old other = refl
-ends_formats Overrun head_drive key old other = refl
-ends_formats NoCount head_drive key old other = refl
-ends_formats Protected head_drive key old other = refl
-ends_formats Late head_drive key old other = refl
+ends_formats _ head_drive key old other = refl
 
 abbrev EndsOther : FormatNext → Type 0
 EndsOther (laid.Ended ending key) = finds_none ending ≡ false
@@ -82,26 +74,12 @@ fails_other (laid.Ended ending key) fails = ap finds_none fails
 
 ends_other : (next : FormatNext) → EndsWell next → EndsOther next
 ends_other (laid.On stage) ends = tt
-ends_other (laid.Ended (Done deleted) key) ends = refl
-ends_other (laid.Ended NoMark key) ends = refl
 ends_other (laid.Ended NoSector key) ends = absurd ends
-ends_other (laid.Ended NoField key) ends = refl
-ends_other (laid.Ended BadCheck key) ends = refl
-ends_other (laid.Ended Overrun key) ends = refl
-ends_other (laid.Ended NoCount key) ends = refl
-ends_other (laid.Ended Protected key) ends = refl
-ends_other (laid.Ended Late key) ends = refl
+ends_other _ ends = refl
 
 stops_other : (steps : ℕ) (guarded : Bool) (byte : Option ℕ) (ending : Ending) → Stops steps guarded byte ending → finds_none ending ≡ false
-stops_other steps guarded byte (Done deleted) stops = refl
-stops_other steps guarded byte NoMark stops = refl
 stops_other steps guarded byte NoSector stops = absurd stops
-stops_other steps guarded byte NoField stops = refl
-stops_other steps guarded byte BadCheck stops = refl
-stops_other steps guarded byte Overrun stops = refl
-stops_other steps guarded byte NoCount stops = refl
-stops_other steps guarded byte Protected stops = refl
-stops_other steps guarded byte Late stops = refl
+stops_other steps guarded byte _ stops = refl
 
 -- ---- ---- a device step
 
@@ -113,14 +91,12 @@ laid_on head_drive steps formatting (laid.On stage) old other = refl
 laid_on head_drive steps formatting (laid.Ended ending key) old other = ends_formats ending head_drive key old other
 
 format_on : (time : WordTime) (head_drive steps : ℕ) (formatting : Formatting) (old : Fdc) (before : DriveState) (new : Fdc) → FormatDoes time head_drive steps formatting old before new → FormatsOn new.phase
-format_on (Saw index word) head_drive steps formatting old before new (due, does) =
-    phase_as _ new (laid_on head_drive (steps + 1) formatting does.next old (fails_other does.next does.hears.1)) does.after_is
-format_on (KeptOut index word) head_drive steps formatting old before new (due, does) =
-    phase_as _ new (laid_on head_drive (steps + 1) formatting does.next old (fails_other does.next does.hears.1)) does.after_is
 format_on (Wrote opened closed index word) head_drive steps formatting old before new does =
     phase_as _ new (laid_on head_drive (steps + 1) formatting does.next (without_byte does.needs old) (ends_other does.next does.lays.well)) does.after_is
 format_on Stopped head_drive steps formatting old before new does =
     phase_as _ new (ends_formats does.ending head_drive no_key old (stops_other _ _ _ does.ending does.stops)) does.after_is
+format_on _ head_drive steps formatting old before new (due, does) =
+    phase_as _ new (laid_on head_drive (steps + 1) formatting does.next old (fails_other does.next does.hears.1)) does.after_is
 
 nowhere_on : (head_drive steps : ℕ) (formatting : Formatting) (old new : Fdc) → FormatsNowhere head_drive steps formatting old new → FormatsOn new.phase
 nowhere_on head_drive steps formatting old new (inl (last, is)) = phase_as _ new (ends_formats Late head_drive no_key old refl) is
@@ -130,27 +106,21 @@ nowhere_on head_drive steps formatting old new (inr (few, (next, hears, is))) =
 module _ (polls new : Fdc) where
   task_on : (begins : Task) (head_drive steps : ℕ) (asking : Bool) (fifo : Fifo) (before after : DriveState) → is_format begins ≡ true
       → WritesTask begins head_drive steps asking fifo polls before after new → FormatsOn new.phase
-  task_on (task.ReadId search) head_drive steps asking fifo before after is writes = absurd (false≢true is)
   task_on (task.Format formatting) head_drive steps asking fifo before after is writes =
       format_on writes.step.does.time head_drive steps formatting polls before new writes.step.does.does
-  task_on (task.Read reading) head_drive steps asking fifo before after is writes = absurd (false≢true is)
-  task_on (task.Write writing) head_drive steps asking fifo before after is writes = absurd (false≢true is)
+  task_on _ head_drive steps asking fifo before after is writes = absurd (false≢true is)
 
   phase_on : (phase : Phase) (asking : Bool) (fifo : Fifo) (before after : DriveState) → formats phase ≡ true → WritesIn phase asking fifo polls before after new → FormatsOn new.phase
-  phase_on Taking asking fifo before after is writes = absurd (false≢true is)
-  phase_on (Result ended) asking fifo before after is writes = absurd (false≢true is)
   phase_on (Execute execution) asking fifo before after is writes = task_on execution.task execution.head_drive execution.steps asking fifo before after is writes
+  phase_on _ asking fifo before after is writes = absurd (false≢true is)
 
   task_alone : (begins : Task) (head_drive steps : ℕ) → is_format begins ≡ true → TaskStepsNowhere begins head_drive steps polls new → FormatsOn new.phase
-  task_alone (task.ReadId search) head_drive steps is does = absurd (false≢true is)
   task_alone (task.Format formatting) head_drive steps is does = nowhere_on head_drive steps formatting polls new does
-  task_alone (task.Read reading) head_drive steps is does = absurd (false≢true is)
-  task_alone (task.Write writing) head_drive steps is does = absurd (false≢true is)
+  task_alone _ head_drive steps is does = absurd (false≢true is)
 
   phase_alone : (phase : Phase) → formats phase ≡ true → StepsNowhere phase polls new → FormatsOn new.phase
-  phase_alone Taking is does = absurd (false≢true is)
-  phase_alone (Result ended) is does = absurd (false≢true is)
   phase_alone (Execute execution) is does = task_alone execution.task execution.head_drive execution.steps is does
+  phase_alone _ is does = absurd (false≢true is)
 
 adapter_on : (old new : AdapterState) → StepsAdapter old new → formats old.controller.phase ≡ true → FormatsOn new.controller.phase
 adapter_on old new steps is =
@@ -167,15 +137,12 @@ formats_step old new step through is =
 
 -- the terminal count comes
 pub told_formats : (phase : Phase) → formats phase ≡ true → formats (phase_told phase) ≡ true
-told_formats Taking is = is
-told_formats (Result answer) is = is
 told_formats (Execute execution) is = by_task execution.head_drive execution.steps execution.task is
   where
     by_task : (head_drive steps : ℕ) (what : Task) → is_format what ≡ true → formats (phase_told (Execute (record { head_drive = head_drive; steps = steps; task = what }))) ≡ true
-    by_task head_drive steps (task.ReadId search) is = absurd (false≢true is)
     by_task head_drive steps (task.Format formatting) is = refl
-    by_task head_drive steps (task.Read reading) is = absurd (false≢true is)
-    by_task head_drive steps (task.Write writing) is = absurd (false≢true is)
+    by_task head_drive steps _ is = absurd (false≢true is)
+told_formats _ is = is
 
 -- it begins
 pub begins_formats : (unit : ℕ) (numbers : Numbers) (begins : Task) → IsFormattingTrack unit numbers begins → is_format begins ≡ true

@@ -16,7 +16,7 @@ use Rattle.fdc_core.specs.Drives.Lines.{absent_lines, lines_of_drive, lines_of_s
 use Rattle.fdc_core.specs.State.{is_gated, is_held}
 use Rattle.fdc_core.specs.Steps.{Rests, polled, seek_stepped}
 use Rattle.fdc_core.specs.declared.controller.Fdc.{Fdc}
-use Rattle.fdc_adapter.specs.Adapters.{AdapterState, StepsAdapter, lines_at, selected_at}
+use Rattle.fdc_sequencer.specs.Adapters.{AdapterState, StepsAdapter, lines_at, selected_at}
 use Rattle.fdc_sequencer.specs.Fronts.{Front, interrupts_at, interrupts_outside}
 use Rattle.fdc_sequencer.specs.Moves.{StepsFront}
 use Rattle.fdc_sequencer.specs.declared.stage.FrontStage.TheVariants.{Through}
@@ -27,7 +27,7 @@ use Rattle.fdc_chip.specs.Steps.{StepsChip}
 use Rattle.fdc_chip.specs.declared.pace.PacedSeek.{PacedSeek}
 use Rattle.fdc_chip.specs.declared.stage.ChipStage.{ChipStage}
 use Rattle.fdc_chip.specs.declared.stage.ChipStage.TheVariants.{Ready}
-use Rattle.laws_sequencer.proofs.Known.{which_drive}
+use Rattle.laws_chip.proofs.Known.{which_drive}
 use Rattle.laws_chip.specs.Seeks.{EndsBySignal, GoesTo, HeadsGo, HeadsStand, SeeksBehind, status_at_end, steps_left}
 use Rattle.laws_chip.specs.Sound.{IsSound}
 use Rattle.laws_chip.proofs.Polled.{and_true, build, built, ready_interrupts, ready_step}
@@ -61,16 +61,14 @@ motion_steps left drive (Some target) (Toward cylinder to) track0 old goes few =
         → OnOrEnds left drive (Some target) track0 old (if b then ended old drive to (sought drive) else with_motion old drive (Toward (neighbour cylinder to) to))
     by_there true is = inr (ap (λ t. ended old drive t (sought drive)) goes)
     by_there false is = inl (Toward (neighbour cylinder to) to, refl, goes, (let nearer = neighbour_left cylinder to (nat_lt cylinder to) refl is in omega arith))
-motion_steps left drive None (Toward cylinder to) track0 old goes few = absurd goes
-motion_steps left drive None Ended track0 old goes few = absurd goes
 motion_steps left drive (Some target) (Outward pulses) track0 old goes few = absurd goes
 motion_steps left drive (Some target) Ended track0 old goes few = absurd goes
+motion_steps left drive None _ track0 old goes few = absurd goes
 
 runs : (goal : Option ℕ) (motion : Motion) → GoesTo goal motion → not (has_ended motion) ≡ true
-runs goal (Outward pulses) goes = refl
-runs goal (Toward cylinder to) goes = refl
 runs None Ended goes = absurd goes
 runs (Some target) Ended goes = absurd goes
+runs goal _ goes = refl
 
 -- ---- the controller
 
@@ -227,11 +225,8 @@ unpaced_told pace status none = ap (λ p. is_told p status) none ∙ or_right (b
 
 ends_one : (drive status : ℕ) (cylinders : List ℕ) (chip : ChipState) → drive ≤ 3 → is_held chip.front.adapter.controller ≡ false → is_told chip.pace status ≡ true
     → drained_one (ending drive status cylinders chip) ≡ stood status (slice_index cylinders drive) cylinders chip
-ends_one zero status cylinders chip few free told = rw (free, told) refl
-ends_one (suc zero) status cylinders chip few free told = rw (free, told) refl
-ends_one (suc (suc zero)) status cylinders chip few free told = rw (free, told) refl
-ends_one (suc (suc (suc zero))) status cylinders chip few free told = rw (free, told) refl
 ends_one (suc (suc (suc (suc drive)))) status cylinders chip few free told = absurd (omega arith)
+ends_one _ status cylinders chip few free told = rw (free, told) refl
 
 ends_drained : (drive status : ℕ) (cylinders : List ℕ) (chip : ChipState) → drive ≤ 3 → is_held chip.front.adapter.controller ≡ false → chip.pace ≡ None
     → drained (ending drive status cylinders chip) ≡ stood status (slice_index cylinders drive) cylinders chip
@@ -244,11 +239,8 @@ ends_drained drive status cylinders chip few free unpaced =
 -- the result isn't reported while pulses are to come in the time that SPECIFY sets
 untold_one : (drive status : ℕ) (cylinders : List ℕ) (chip : ChipState) → drive ≤ 3 → is_held chip.front.adapter.controller ≡ false → is_told chip.pace status ≡ false
     → drained_one (ending drive status cylinders chip) ≡ bare cylinders None false false chip
-untold_one zero status cylinders chip few free untold = rw (free, untold) refl
-untold_one (suc zero) status cylinders chip few free untold = rw (free, untold) refl
-untold_one (suc (suc zero)) status cylinders chip few free untold = rw (free, untold) refl
-untold_one (suc (suc (suc zero))) status cylinders chip few free untold = rw (free, untold) refl
 untold_one (suc (suc (suc (suc drive)))) status cylinders chip few free untold = absurd (omega arith)
+untold_one _ status cylinders chip few free untold = rw (free, untold) refl
 
 untold_drained : (drive status : ℕ) (cylinders : List ℕ) (chip : ChipState) → drive ≤ 3 → is_held chip.front.adapter.controller ≡ false → is_told chip.pace status ≡ false
     → drained (ending drive status cylinders chip) ≡ bare cylinders None false false chip
@@ -264,11 +256,7 @@ told_at (suc zero) target (a ∷ b ∷ c ∷ d ∷ []) few four = refl
 told_at (suc (suc zero)) target (a ∷ b ∷ c ∷ d ∷ []) few four = refl
 told_at (suc (suc (suc zero))) target (a ∷ b ∷ c ∷ d ∷ []) few four = refl
 told_at (suc (suc (suc (suc drive)))) target (a ∷ b ∷ c ∷ d ∷ []) few four = absurd (omega arith)
-told_at drive target [] few four = absurd (omega arith)
-told_at drive target (a ∷ []) few four = absurd (omega arith)
-told_at drive target (a ∷ b ∷ []) few four = absurd (omega arith)
-told_at drive target (a ∷ b ∷ c ∷ []) few four = absurd (omega arith)
-told_at drive target (a ∷ b ∷ c ∷ d ∷ e ∷ rest) few four = absurd (omega arith)
+told_at drive target _ few four = absurd (omega arith)
 
 pub stood_stands : (status cylinder : ℕ) (cylinders : List ℕ) (chip : ChipState) → is_held chip.front.adapter.controller ≡ false → HeadsStand (stood status cylinder cylinders chip).front
 stood_stands status cylinder cylinders chip free = record {
@@ -339,10 +327,9 @@ pub heads_some : (drive : ℕ) (goal : Option ℕ) (stage : ChipStage) (chip : C
 heads_some drive goal stage chip was = none goal was.going.motion was.going.goes was.going.within
   where
     none : (goal : Option ℕ) (motion : Motion) → GoesTo goal motion → steps_left motion ≤ 0 → ⊥
-    none goal (Outward pulses) goes few = absurd (omega arith)
-    none goal (Toward cylinder to) goes few = absurd (omega arith)
     none None Ended goes few = goes
     none (Some target) Ended goes few = goes
+    none goal _ goes few = absurd (omega arith)
 
 -- INT is up
 pub ends_interrupt : (drive : ℕ) (goal : Option ℕ) (old new : ChipState) → old.stage ≡ Ready → EndsBySignal drive goal old new → interrupts_chip new ≡ new.gated

@@ -1,24 +1,22 @@
 -- How many device steps heads still move at most: each device step leaves fewer, also while pulses come in the time that
 -- SPECIFY sets.
-use Rattle.std.proofs.Common.{◌≡◌, inl, inr, ℕ, zero, suc, ◌+◌, ◌-◌, ◌*◌, ◌%◌, ◌^◌, ◌<◌, ◌≤◌, max, nat_le, nat_lt, Bool, true, false, not, ◌&&◌, ◌||◌, ◌==◌, if◌then◌else◌, Option, Some, None, is_some, List, [], ◌∷◌, length, slice_index, bit_and, bit_or, refl, sym, ◌∙◌, ap, subst, arith}
+use Rattle.std.proofs.Common.{◌≡◌, ℕ, suc, ◌+◌, ◌-◌, ◌*◌, ◌%◌, ◌^◌, ◌<◌, ◌≤◌, max, nat_le, nat_lt, Bool, true, false, not, ◌&&◌, ◌==◌, if◌then◌else◌, Option, Some, None, List, [], length, bit_and, bit_or, refl, sym, ◌∙◌, ap, subst, arith}
 use Rattle.std.specs.Option.{option_map_or}
 use Rattle.std.proofs.Math.Nat.{mul-le-mul_right, suc-mul}
 use Rattle.std.proofs.lemmas.Bool.{and_from, and_parts, false≢true, leb-false, leb-true, not-true}
 use Rattle.std.proofs.lemmas.Bool.Decides.{nat_tests}
-use Rattle.fdc_commands.specs.Seeking.{Seeking, has_ended_seek, pulses_within, seek_bits, with_motion}
+use Rattle.fdc_commands.specs.Seeking.{has_ended_seek, pulses_within, seek_bits, with_motion}
 use Rattle.fdc_commands.specs.declared.motion.Motion.{Motion}
-use Rattle.fdc_commands.specs.declared.motion.Motion.TheVariants.{Outward, Toward, Ended}
+use Rattle.fdc_commands.specs.declared.motion.Motion.TheVariants.{Outward, Ended}
 use Rattle.fdc_commands.specs.declared.motion.Seek.{Seek as DriveSeek}
-use Rattle.fdc_core.specs.Commands.{seeking as seeking_to}
 use Rattle.fdc_core.specs.State.{is_held}
 use Rattle.fdc_core.specs.Whole.{is_idle}
 use Rattle.fdc_core.specs.declared.controller.Fdc.{Fdc}
-use Rattle.fdc_sequencer.specs.Fronts.{Front, status_at, with_controller}
+use Rattle.fdc_sequencer.specs.Fronts.{Front, GivesCommand, is_ready, is_ready_at, status_at, with_controller}
 use Rattle.fdc_sequencer.specs.Moves.{StepsFront}
-use Rattle.fdc_sequencer.specs.Senses.{is_ready, is_ready_at, pending_outside, recalibrated_at, recalibrated_outside, sensed_outside}
+use Rattle.fdc_sequencer.specs.Senses.{recalibrated_at, recalibrated_outside}
 use Rattle.fdc_chip.specs.Chips.{ChipState, with_front}
-use Rattle.fdc_chip.specs.Doing.{Sends, drained, drained_by, is_told, kept, moves_heads, moving}
-use Rattle.fdc_chip.specs.Interrupts.{with_result}
+use Rattle.fdc_chip.specs.Doing.{drained, drained_by, moves_heads, moving}
 use Rattle.fdc_chip.specs.Paces.{EndsAt, GoesOnIf, Paces, PulsesIf, is_due, is_over, stepped}
 use Rattle.fdc_chip.specs.Settings.{step_words}
 use Rattle.fdc_chip.specs.declared.pace.PacedSeek.{PacedSeek}
@@ -32,34 +30,19 @@ use Rattle.laws_chip.proofs.HeadsGoing.{none_pending}
 use Rattle.laws_chip.proofs.HeadsTold.{TellsEnd, drained_left, drained_runs, front_nearer, runs_tells}
 use Rattle.laws_chip.proofs.PulsesGoing.{fewer_left}
 use Rattle.laws_chip.proofs.Rests.{front_rests, drained_rests}
-use Rattle.laws_chip.proofs.SeeksBegun.{IsIdleAt, all_taken, idle_takes, seek_sent}
-use Rattle.laws_chip.proofs.SoundParts.{at_rest}
+use Rattle.laws_chip.proofs.SeeksBegun.{IsIdleAt, all_taken, idle_takes, seek_sent, drained_rest}
 use Rattle.laws_chip.proofs.Standing.{Stands, heads_stand, stands_idle, status_free}
-use Rattle.laws_chip.proofs.WholeTransfers.{drained_pace}
 
 -- ---- results that are taken over leave the settings
 
-kept_settings : (result : Option (ℕ × ℕ)) (old : ChipState) → (kept result old).settings ≡ old.settings
-kept_settings None old = refl
-kept_settings (Some (status, cylinder)) old = by_told (is_told old.pace status)
-  where
-    by_told : (b : Bool) → (if b then record old { interrupts = with_result status cylinder old.interrupts } else old).settings ≡ old.settings
-    by_told true = refl
-    by_told false = refl
-
 pub drained_settings : (n : ℕ) (chip : ChipState) → (drained_by n chip).settings ≡ chip.settings
-unfolding drained_by
-drained_settings zero chip = refl
-drained_settings (suc n) chip =
-    let before = drained_by n chip in
-    kept_settings (pending_outside before.front) (with_front (sensed_outside before.front) before) ∙ drained_settings n chip
+drained_settings n chip = ap (λ (set : ChipState). set.settings) (drained_rest n chip).2
 
 -- ---- heads that move
 
 motion_some : (motion : Motion) → has_ended_seek (record { cylinders = []; seek = Some (record { drive = 0; motion = motion }); pending = [] }) ≡ false → 1 ≤ steps_left motion
-motion_some (Outward pulses) runs = omega arith
-motion_some (Toward cylinder target) runs = omega arith
 motion_some Ended runs = absurd (false≢true (sym runs))
+motion_some _ runs = omega arith
 
 none_moves : (front : Front) → IsIdleAt front → front.adapter.controller.seeks.seek ≡ None → moves_heads front ≡ false
 none_moves front idle none =
@@ -134,9 +117,9 @@ pub record IsSoughtBy (start : Front) (new : ChipState) : Type 0 where
   pub runs : has_ended_seek new.front.adapter.controller.seeks ≡ false
   pub pending : new.front.adapter.controller.seeks.pending ≡ start.adapter.controller.seeks.pending
 
-pub seek_given : (unit target : ℕ) (start : Front) (new : ChipState) → Stands start → Sends (moving unit (Some target)) start new.front → IsSoughtBy start new
-seek_given unit target start new stands sends =
-    let (through, is) = seek_sent unit target start new.front stands sends in
+pub seek_given : (unit target : ℕ) (start : Front) (new : ChipState) → Stands start → GivesCommand (moving unit (Some target)) start new.front → IsSoughtBy start new
+seek_given unit target start new stands gives =
+    let (through, is) = seek_sent unit target start new.front stands gives in
     record {
       idle = record {
         through = through;
@@ -178,8 +161,8 @@ within_all pulses = by_few (nat_lt pulses 79) refl
 
 module _ (words n : ℕ) (old : Front) (pace : PacedSeek) (chip new : ChipState) (was : IsFreed old chip) (stands : Stands chip.front) (few : max pace.wait (seek_steps old.adapter.controller.seeks.seek) + (pulses_left pace * (max words 256 + 1) + 257) ≤ n) (later : IsFewLater new) where
   ends_paced : (goal : Option ℕ) → EndsAt goal pace (record chip { pace = None }) new → IsPaced words (n - 1) new
-  ends_paced (Some target) (sends, rest) =
-      let sought = seek_given pace.unit target chip.front new stands sends in
+  ends_paced (Some target) (gives, rest) =
+      let sought = seek_given pace.unit target chip.front new stands gives in
       let seek = new.front.adapter.controller.seeks.seek in
       let steps = end_on (pulses_left pace * (max words 256 + 1)) pace.wait (seek_steps old.adapter.controller.seeks.seek) (seek_steps seek) n (later sought.runs sought.idle) few in
       sought_paced words (n - 1) chip.front new sought was.none
@@ -203,9 +186,9 @@ module _ (words n : ℕ) (old : Front) (pace : PacedSeek) (chip new : ChipState)
 
   pulses_paced : (b : Bool) → is_over pace ≡ b → step_words chip.settings ≤ words → PulsesIf b pace chip new → IsPaced words (n - 1) new
   pulses_paced true over some ends = ends_paced pace.goal ends
-  pulses_paced false goes some (sends, rest) =
+  pulses_paced false goes some (gives, rest) =
       let next = stepped (step_words chip.settings) pace in
-      let sought = seek_given pace.unit next.cylinder chip.front new stands sends in
+      let sought = seek_given pace.unit next.cylinder chip.front new stands gives in
       let seek = new.front.adapter.controller.seeks.seek in
       let steps = pulse_on (pulses_left next) (pulses_left pace) words (step_words chip.settings) pace.wait (seek_steps old.adapter.controller.seeks.seek) (seek_steps seek) n
       (fewer_left (step_words chip.settings) pace goes) some (later sought.runs sought.idle) few in

@@ -12,8 +12,8 @@ use Rattle.fdc_commands.specs.declared.motion.Seek.{Seek as DriveSeek}
 use Rattle.fdc_core.specs.State.{is_held}
 use Rattle.fdc_core.specs.Steps.{polled, seek_stepped}
 use Rattle.fdc_core.specs.declared.controller.Fdc.{Fdc}
-use Rattle.fdc_adapter.specs.Adapters.{lines_at}
-use Rattle.fdc_adapter.specs.Senses.{after_result, without_result}
+use Rattle.fdc_sequencer.specs.Adapters.{lines_at}
+use Rattle.fdc_sequencer.specs.AdapterSenses.{after_result, without_result}
 use Rattle.fdc_sequencer.specs.Fronts.{Front, with_controller}
 use Rattle.fdc_sequencer.specs.Moves.{StepsFront}
 use Rattle.fdc_sequencer.specs.Senses.{pending_outside, sensed_at, sensed_outside}
@@ -252,11 +252,8 @@ polls_tell : (old : Seeking) → IsOfFour old.seek → TellsEnd (with_polls old)
 polls_tell old few = by_seek old.seek few
   where
     by_drive : (drive : ℕ) → drive < 4 → is_some (slice_index_or (with_polls old).pending drive None) ≡ true
-    by_drive zero few = refl
-    by_drive (suc zero) few = refl
-    by_drive (suc (suc zero)) few = refl
-    by_drive (suc (suc (suc zero))) few = refl
     by_drive (suc (suc (suc (suc drive)))) few = absurd (omega arith)
+    by_drive _ few = refl
 
     by_seek : (seek : Option DriveSeek) → IsOfFour seek → HasResult seek (with_polls old).pending
     by_seek None few = tt

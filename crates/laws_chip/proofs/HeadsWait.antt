@@ -1,17 +1,14 @@
 -- A held command waits for heads, whatever seek they make: each device step leaves fewer, and other calls leave as many.
-use Rattle.std.proofs.Common.{◌≡◌, ◌⊎◌, inl, inr, ℕ, zero, suc, ◌+◌, ◌-◌, ◌*◌, ◌<◌, ◌≤◌, max, Bool, true, false, ◌&&◌, ◌||◌, ◌==◌, Option, Some, None, is_some, [], length, refl, sym, ◌∙◌, ap, subst, arith}
-use Rattle.std.proofs.lemmas.Bool.{and_from, eqb-true, false≢true}
+use Rattle.std.proofs.Common.{◌≡◌, ◌⊎◌, inl, inr, ℕ, ◌+◌, ◌-◌, ◌*◌, ◌≤◌, max, Bool, true, false, ◌||◌, Option, Some, None, is_some, [], length, refl, sym, ◌∙◌, ap, subst, arith}
+use Rattle.std.proofs.lemmas.Bool.{and_from}
 use Rattle.fdc_commands.specs.Seeking.{Seeking, has_ended_seek}
 use Rattle.fdc_commands.specs.declared.motion.Seek.{Seek as DriveSeek}
-use Rattle.fdc_core.specs.Ports.{resets}
 use Rattle.fdc_core.specs.Ranges.{IsInRange}
 use Rattle.fdc_core.specs.declared.controller.Fdc.{Fdc}
-use Rattle.fdc_sequencer.specs.Fronts.{Front}
-use Rattle.fdc_chip.specs.Chips.{ChipState, passes_by_channel, with_front}
+use Rattle.fdc_chip.specs.Chips.{ChipState, with_front}
 use Rattle.fdc_chip.specs.Codes.{code_of}
 use Rattle.fdc_chip.specs.Doing.{AttendsIf, drained, implies, is_moving, moves_heads, needs_heads}
 use Rattle.fdc_chip.specs.Paces.{EndsAt, GoesOnIf, Paces, PulsesIf, is_due, is_over}
-use Rattle.fdc_chip.specs.Ports.{GivesChipIf, TakesIf, WritesChip, count_told, latched_by, reset_if, value_behind}
 use Rattle.fdc_chip.specs.Settings.{step_words}
 use Rattle.fdc_chip.specs.Steps.{StepsChip}
 use Rattle.fdc_chip.specs.declared.code.ChipOpcode.{ChipOpcode}
@@ -19,23 +16,21 @@ use Rattle.fdc_chip.specs.declared.order.Order.{Order}
 use Rattle.fdc_chip.specs.declared.pace.PacedSeek.{PacedSeek}
 use Rattle.fdc_chip.specs.declared.settings.Settings.{Settings}
 use Rattle.fdc_chip.specs.declared.stage.ChipStage.TheVariants.{Held}
-use Rattle.laws_chip.specs.Beginning.{IsDoneFree, IsHeldFor, still_moves}
+use Rattle.laws_chip.specs.Beginning.{IsDoneFree, IsHeldFor}
 use Rattle.laws_chip.specs.Bounds.{HeadsMove, heads_of, heads_steps, seek_steps}
-use Rattle.laws_chip.specs.Calls as made
 use Rattle.laws_chip.specs.Calls.{Call, Does, is_reset, is_step}
 use Rattle.laws_chip.specs.PacedSeeks.{pulses_left}
 use Rattle.laws_chip.specs.Resets.{is_of_data_port}
 use Rattle.laws_chip.specs.Sound.{IsSound, RestsBehind}
-use Rattle.laws_chip.proofs.Channels.{front_left}
 use Rattle.laws_chip.proofs.HeadsLeft.{IsFewLater, IsPaced, drained_settings, moves_some, paces_on}
 use Rattle.laws_chip.proofs.HeadsTold.{drained_left, drained_runs, drained_same, runs_tells}
-use Rattle.laws_chip.proofs.PassedOn.{other_read}
 use Rattle.laws_chip.proofs.Rests.{drained_rests}
 use Rattle.laws_chip.proofs.SeeksBegun.{IsIdleAt, all_taken, motion_within}
-use Rattle.laws_chip.proofs.SeeksHeld.{no_channel, not_counted}
 use Rattle.laws_chip.proofs.SoundParts.{at_rest, is_busy, is_ready, sound_basis}
 use Rattle.laws_chip.proofs.UnderWay.{either_way}
 use Rattle.laws_chip.proofs.WholeTransfers.{attended_free, drained_pace, follows_held, step_attends, step_rests}
+use Rattle.laws_chip.proofs.HeadsKept.{KeepsHeads, call_heads}
+use Rattle.laws_chip.specs.Seeks.{waits_for_heads}
 
 -- ---- numbers
 
@@ -63,67 +58,31 @@ pace_some all wait now = omega arith
 
 -- ---- calls that leave the heads as they are
 
-record KeepsHeads (old new : ChipState) : Type 0 where
-  seeks : new.front.adapter.controller.seeks ≡ old.front.adapter.controller.seeks
-  pace : new.pace ≡ old.pace
-  settings : new.settings ≡ old.settings
-
-keeps_same : (old new : ChipState) → new ≡ old → KeepsHeads old new
-keeps_same old new is =
-    record { seeks = ap (λ (chip : ChipState). chip.front.adapter.controller.seeks) is; pace = ap (λ (chip : ChipState). chip.pace) is; settings = ap (λ (chip : ChipState). chip.settings) is }
-
 heads_are : (old new : ChipState) → KeepsHeads old new → heads_of new ≡ heads_of old
 heads_are old new keeps =
     ap (λ (s : Settings). heads_steps (step_words s) new.pace new.front.adapter.controller.seeks.seek) keeps.settings
     ∙ (ap (λ (p : Option PacedSeek). heads_steps (step_words old.settings) p new.front.adapter.controller.seeks.seek) keeps.pace
-    ∙ ap (λ (s : Seeking). heads_steps (step_words old.settings) old.pace s.seek) keeps.seeks)
+    ∙ ap (λ (s : Seeking). heads_steps (step_words old.settings) old.pace s.seek) keeps.left.seeks)
 
 keeps_move : (left : ℕ) (old new : ChipState) → KeepsHeads old new → HeadsMove left old → HeadsMove left new
 keeps_move left old new keeps was = record {
-  runs = ap has_ended_seek keeps.seeks ∙ was.runs;
+  runs = ap has_ended_seek keeps.left.seeks ∙ was.runs;
   some = subst (λ n. 1 ≤ n) (sym (heads_are old new keeps)) was.some;
   within = subst (λ n. n ≤ left) (sym (heads_are old new keeps)) was.within;
 }
 
-port_heads : (port value : ℕ) (old new : ChipState) → WritesChip port value old new → (port == 0x3F5) ≡ false → resets port (value_behind port value) ≡ false → KeepsHeads old new
-port_heads port value old new writes no_data quiet =
-    let (front, rest) = writes.others no_data in
-    let set : new ≡ with_front new.front (latched_by port value old) = subst (λ b. new ≡ with_front new.front (reset_if b (latched_by port value old))) quiet rest in
-    record {
-      seeks = (front_left port (value_behind port value) old.front new.front front no_data quiet).seeks;
-      pace = ap (λ (chip : ChipState). chip.pace) set;
-      settings = ap (λ (chip : ChipState). chip.settings) set;
-    }
-
-held_heads : (call : Call) (old new : ChipState) → old.stage ≡ Held → Does call old new → is_step call ≡ false → is_reset call ≡ false → is_of_data_port call ≡ false → KeepsHeads old new
-held_heads made.Steps old new at does no_step quiet other = absurd (false≢true (sym no_step))
-held_heads (made.Takes byte) old new at does no_step quiet other = keeps_same old new (subst (λ b. TakesIf b old byte new) (no_channel Held old refl at) does).1
-held_heads (made.Gives byte given) old new at does no_step quiet other = keeps_same old new (subst (λ b. GivesChipIf b byte old given new) (no_channel Held old refl at) does).1
-held_heads made.Counts old new at does no_step quiet other = keeps_same old new (subst (λ s. new ≡ count_told s old) at does ∙ not_counted Held old refl)
-held_heads (made.Reads port value) old new at does no_step quiet other = keeps_same old new (other_read port value old new other does)
-held_heads (made.Writes port value) old new at does no_step quiet other = port_heads port value old new does other quiet
-held_heads made.Changes old new at does no_step quiet other = record {
-  seeks = ap (λ (fdc : Fdc). fdc.seeks) does.front.controller;
-  pace = ap (λ (chip : ChipState). chip.pace) does.rest;
-  settings = ap (λ (chip : ChipState). chip.settings) does.rest;
-}
-held_heads (made.Straps on) old new at does no_step quiet other =
-    record { seeks = ap (λ (chip : ChipState). chip.front.adapter.controller.seeks) does; pace = ap (λ (chip : ChipState). chip.pace) does; settings = ap (λ (chip : ChipState). chip.settings) does }
-held_heads (made.StrapsSteps on) old new at does no_step quiet other =
-    record { seeks = ap (λ (chip : ChipState). chip.front.adapter.controller.seeks) does; pace = ap (λ (chip : ChipState). chip.pace) does; settings = ap (λ (chip : ChipState). chip.settings) does }
-
 pub move_call : (left : ℕ) (call : Call) (old new : ChipState) → old.stage ≡ Held → Does call old new → is_step call ≡ false → is_reset call ≡ false → is_of_data_port call ≡ false → HeadsMove left old → HeadsMove left new
-move_call left call old new at does no_step quiet other was = keeps_move left old new (held_heads call old new at does no_step quiet other) was
+move_call left call old new at does no_step quiet other was = keeps_move left old new (call_heads call old new (ap waits_for_heads at) does no_step quiet other) was
 
 -- ---- pulses leave the settings
 
 ends_settings : (goal : Option ℕ) (pace : PacedSeek) (old new : ChipState) → EndsAt goal pace old new → new.settings ≡ old.settings
-ends_settings (Some target) pace old new (sends, rest) = ap (λ (chip : ChipState). chip.settings) rest
+ends_settings (Some target) pace old new (gives, rest) = ap (λ (chip : ChipState). chip.settings) rest
 ends_settings None pace old new is = ap (λ (chip : ChipState). chip.settings) is
 
 pulses_settings : (b : Bool) (pace : PacedSeek) (old new : ChipState) → PulsesIf b pace old new → new.settings ≡ old.settings
 pulses_settings true pace old new ends = ends_settings pace.goal pace (record old { pace = None }) new ends
-pulses_settings false pace old new (sends, rest) = ap (λ (chip : ChipState). chip.settings) rest
+pulses_settings false pace old new (gives, rest) = ap (λ (chip : ChipState). chip.settings) rest
 
 goes_settings : (b : Bool) (pace : PacedSeek) (old new : ChipState) → GoesOnIf b pace old new → new.settings ≡ old.settings
 goes_settings true pace old new pulses = pulses_settings (is_over pace) pace old new pulses

@@ -10,7 +10,7 @@ use Rattle.fdc_commands.specs.declared.results.Results.{Results}
 use Rattle.fdc_stages.specs.Findings.{HasAddress, HasIdentified}
 use Rattle.fdc_stages.specs.History.{Past, begun as new_past, heard}
 use Rattle.fdc_stages.specs.declared.ending.Ending.{Ending}
-use Rattle.fdc_stages.specs.declared.ending.Ending.TheVariants.{Done, NoMark, NoSector, NoField, BadCheck, Overrun, NoCount, Protected, Late}
+use Rattle.fdc_stages.specs.declared.ending.Ending.TheVariants.{Done, NoMark, NoSector, Late}
 use Rattle.fdc_phases.specs.Answers.{results_of}
 use Rattle.fdc_phases.specs.Commands.{IsReadingId}
 use Rattle.fdc_phases.specs.Dma.{phase_told}
@@ -18,7 +18,7 @@ use Rattle.fdc_phases.specs.Heard.{MayReadIdIn, MayReadIdTask, key_met, stepped}
 use Rattle.fdc_phases.specs.Phases.{head_of, is_listening}
 use Rattle.fdc_phases.specs.declared.answers.Answer.TheVariants.{Long}
 use Rattle.fdc_phases.specs.declared.phases.Phase.{Phase}
-use Rattle.fdc_phases.specs.declared.phases.Phase.TheVariants.{Command as Taking, Execute, Result}
+use Rattle.fdc_phases.specs.declared.phases.Phase.TheVariants.{Execute, Result}
 use Rattle.fdc_phases.specs.declared.phases.Task.{Task}
 use Rattle.fdc_phases.specs.declared.phases.Task.TheVariants as phase_task
 use Rattle.fdc_phases.specs.declared.rates.DataRate.{DataRate}
@@ -26,30 +26,26 @@ use Rattle.fdc_core.specs.Commands.{BeginsData}
 use Rattle.fdc_core.specs.Courses.{Works}
 use Rattle.fdc_core.specs.Listening.{SeesTask, SeesUnder, SeesWord, after_step, is_executing}
 use Rattle.fdc_core.specs.Ports.{resets}
-use Rattle.fdc_core.specs.State.{is_held}
 use Rattle.fdc_core.specs.Steps.{MovesIn, MovesTask, let_pass, polled}
 use Rattle.fdc_core.specs.declared.controller.Fdc.{Fdc}
 use Rattle.fdc_core.specs.Drives.Heard.{IsHeardFrom}
 use Rattle.fdc_core.proofs.drives.Fields.{address_heard}
 use Rattle.fdc_core.proofs.drives.LateFields.{address_late}
 use Rattle.fdc_core.proofs.drives.Turns.{turn_heard}
-use Rattle.fdc_adapter.specs.Adapters.{AdapterState, StepsAdapter, drive_at, selected_at}
-use Rattle.fdc_sequencer.specs.Fronts.{Front, GivesAt, GivesFront, TakesAt, TakesFront, WritesFront, count_told, told_front, told_if}
+use Rattle.fdc_sequencer.specs.Adapters.{AdapterState, StepsAdapter, drive_at, selected_at}
+use Rattle.fdc_sequencer.specs.Fronts.{Front, GivesAt, GivesCommand, GivesFront, TakesAt, TakesFront, WritesFront, count_told, results_outside, results_taken, told_front, told_if}
 use Rattle.fdc_sequencer.specs.Moves.{StepsFront}
 use Rattle.fdc_sequencer.specs.declared.opcode.Operation.TheVariants.{Read}
-use Rattle.fdc_sequencer.specs.declared.stage.FrontStage.TheVariants.{Through}
 use Rattle.fdc_sequencer.specs.declared.transfer.Transfer.{Transfer}
-use Rattle.laws_sequencer.specs.Media.{IsAt, Place, TurnsOn, track_at}
-use Rattle.laws_sequencer.proofs.LateHearing.{hearing_led}
-use Rattle.laws_sequencer.proofs.Medium.{IsHearingAt, adapter_turns, fresh_hearing, kept_hearing, outset_at}
-use Rattle.laws_sequencer.proofs.Resting.{polled_phase}
-use Rattle.fdc_chip.specs.Chips.{ChipState, passes_by_channel, passes_by_port, with_front}
+use Rattle.laws_chip.specs.Media.{IsAt, Place, TurnsOn, track_at}
+use Rattle.laws_chip.proofs.LateHearing.{hearing_led}
+use Rattle.laws_chip.proofs.Medium.{IsHearingAt, adapter_turns, fresh_hearing, kept_hearing, outset_at}
+use Rattle.laws_chip.proofs.Resting.{polled_phase}
+use Rattle.fdc_chip.specs.Chips.{ChipState, with_front}
 use Rattle.fdc_chip.specs.Codes.{code_of}
 use Rattle.fdc_chip.specs.Doing.{Obeys, identifying}
 use Rattle.fdc_chip.specs.Orders.{is_format}
-use Rattle.fdc_chip.specs.Ending.{EndsIf, EndsSent, MayEnd, is_not_found, looks_for_cylinder, results_behind, results_taken, told_results}
-use Rattle.fdc_chip.specs.Ports as ports
-use Rattle.fdc_chip.specs.Ports.{GivesChipIf, GivesIf, ReadsAt, ReadsIf, TakesByte, TakesIf, latched_by, value_behind}
+use Rattle.fdc_chip.specs.Ending.{EndsAs, EndsSent, MayEnd, is_not_found, looks_for_cylinder, told_results}
 use Rattle.fdc_chip.specs.Steps.{Follows, StepsChip}
 use Rattle.fdc_chip.specs.declared.answer.ChipAnswer.TheVariants as answer
 use Rattle.fdc_chip.specs.declared.code.ChipOpcode.{ChipOpcode}
@@ -68,16 +64,14 @@ use Rattle.laws_chip.specs.Told.{Tells}
 use Rattle.laws_chip.proofs.Tellings.{judged_other}
 use Rattle.laws_chip.proofs.Channels.{counts_executes, front_gives, front_left, front_takes, gives_executes, keeps_executes, port_executes, takes_executes}
 use Rattle.laws_chip.proofs.CommandsBegun.{begins_sent}
-use Rattle.laws_chip.proofs.FirstSectors.{IsBase, base_held}
-use Rattle.laws_chip.proofs.PassedOn.{other_read}
 use Rattle.laws_chip.proofs.Rests.{through_step}
-use Rattle.laws_chip.proofs.Sending.{id_obeyed}
 use Rattle.laws_chip.proofs.Singles.{executes_none, executes_step, id_executes, waits_shown}
 use Rattle.laws_chip.proofs.SoundCalls.{call_sound}
-use Rattle.laws_chip.proofs.SoundParts as parts
-use Rattle.laws_chip.proofs.SoundParts.{sound_basis}
-use Rattle.laws_chip.proofs.Standing.{stands_free}
+use Rattle.laws_chip.proofs.Standing.{given_obeyed, stands_free}
 use Rattle.laws_chip.proofs.UnderWay.{either_way}
+use Rattle.laws_chip.proofs.NextStages as makes
+use Rattle.laws_chip.proofs.NextStages.{Makes, call_stays, is_change}
+use Rattle.laws_chip.specs.Bounds.{has_command}
 
 -- the head that listens, in the form that it has for a sector
 abbrev id_at : ℕ → Transfer
@@ -107,8 +101,8 @@ begun_known unit chosen is = is
 
 begun_identifies : (place : Place) (unit : ℕ) (chip : ChipState) → IsIdBegun unit chip → IsAt place chip.front → Identifying place unit chip
 begun_identifies place unit chip is at =
-    let sent = begins_sent Sent false (identifying unit) is.set chip (stands_free is.set.front is.free) is.begins in
-    let obeyed = id_obeyed unit sent.set chip.front sent.stands sent.sends in
+    let sent = begins_sent Sent (GivesCommand (identifying unit)) is.set chip (stands_free is.set.front is.free) is.begins in
+    let obeyed = given_obeyed (ReadId unit) sent.set chip.front sent.stands refl sent.gives in
     let begins : BeginsData (ReadId unit) (record sent.set.adapter.controller { command = [] }) chip.front.adapter.controller = (obeyed.obeys.0 sent.stands.rests).1 sent.stands.by_dma in
     record {
       stage = sent.stage;
@@ -131,17 +125,14 @@ task_hears : (past : Past) (unit head_drive steps : ℕ) (chosen : Task) (rate :
     → SeesTask (is_listening chosen) (head_of head_drive) rate before word after → MovesTask (is_listening chosen) before after → SeesUnder rate (head_of unit) before word after × Becomes (let_pass before) before after
 task_hears past unit head_drive steps (phase_task.ReadId search) rate before word after known sees moves =
     (subst (λ h. SeesUnder rate (head_of h) before word after) known.sent_is sees, moves)
-task_hears past unit head_drive steps (phase_task.Read reading) rate before word after known sees moves = absurd known
-task_hears past unit head_drive steps (phase_task.Write writing) rate before word after known sees moves = absurd known
-task_hears past unit head_drive steps (phase_task.Format formatting) rate before word after known sees moves = absurd known
+task_hears past unit head_drive steps _ rate before word after known sees moves = absurd known
 
 phase_hears : (past : Past) (unit : ℕ) (phase : Phase) (rate : DataRate) (polls : Fdc) (before : DriveState) (word : ℕ) (after : DriveState) → executes_single phase ≡ true → MayReadIdIn past unit phase
     → SeesWord phase rate before word after → MovesIn phase polls before after → HearsWord past unit phase rate before word after
-phase_hears past unit Taking rate polls before word after single known sees moves = absurd (false≢true single)
-phase_hears past unit (Result told) rate polls before word after single known sees moves = absurd (false≢true single)
 phase_hears past unit (Execute execution) rate polls before word after single known sees moves =
     let (saw, passed) = task_hears past unit execution.head_drive execution.steps execution.task rate before word after known sees moves in
     record { sees = saw; passes = passed; executing = refl }
+phase_hears past unit _ rate polls before word after single known sees moves = absurd (false≢true single)
 
 -- what is known after the device step
 record HeardMore (place : Place) (unit : ℕ) (between : AdapterState) : Type 0 where
@@ -181,21 +172,12 @@ step_hears place unit chip new step was at =
 
 -- ---- ---- what the device step leads to
 
-free_of : (chip : ChipState) → IsSound chip → chip.stage ≡ Busy Sent → is_held chip.front.adapter.controller ≡ false
-free_of chip sound at = (sound_basis chip (ap parts.is_ready at) sound).free
-
-pub results_are : (front : Front) (ending : Ending) (results : Results) → front.stage ≡ Through → front.adapter.controller.phase ≡ Result (Long ending results 0) → results_behind front ≡ results
-results_are front ending results through at =
-    let fdc = front.adapter.controller in
-    ap (λ stage. results_behind (record front { stage = stage })) through
-    ∙ ap (λ phase. results_behind (record front { stage = Through; adapter = record front.adapter { controller = record fdc { phase = phase } } })) at
-
 abbrev is_telling : ChipStage → Bool
 is_telling (Telling told read) = true
 is_telling _ = false
 
 -- READ ID asks for no sector ID, and so the chip doesn't look which cylinder passes
-no_look : (order : Order) (results : Results) → is_read_id order ≡ true → looks_for_cylinder order results ≡ false
+pub no_look : (order : Order) (results : Results) → is_read_id order ≡ true → looks_for_cylinder order results ≡ false
 no_look order results is = ap (λ b. not b && is_not_found results) is
 
 -- a READ ID is no FORMAT TRACK
@@ -213,28 +195,16 @@ step_goes : (place : Place) (unit : ℕ) (old new : ChipState) (step : StepsChip
     → (new ≡ with_front step.between old × ExecutesBehind step.between) ⊎ TellsId place unit step.between new
 step_goes place unit old new step sound was at =
     let set = with_front step.between old in
-    let (goes, base) = executes_step old.front step.between step.steps sound.whole was.executes in
-    let free = base_free base in
     let may : MayEnd Sent set new = subst (λ stage. Follows stage set new) was.stage step.follows in
-    elim goes [
-      | inl executes ↦ inl (subst (λ b. EndsIf b Sent set new) (executes_none step.between free executes) may, executes)
+    let ends : EndsAs (results_outside step.between) Sent set new = subst (λ r. EndsAs r Sent set new) (judged_other set (read_id_other old.order was.order)) may in
+    elim (executes_step old.front step.between step.steps sound.whole was.executes).0 [
+      | inl executes ↦ inl (subst (λ r. EndsAs r Sent set new) (executes_none step.between executes) ends, executes)
       | inr waits ↦
-          let same = judged_other set (read_id_other old.order was.order) in
-          let ends : EndsSent (looks_for_cylinder old.order (results_behind step.between)) (results_behind step.between) (with_front (results_taken step.between) set) new =
-          subst (λ r. EndsSent (looks_for_cylinder old.order r) r (with_front (results_taken step.between) set) new) same
-          (subst (λ b. EndsIf b Sent set new) (waits_shown step.between free waits) may) in
-          let is : new ≡ told_results (results_behind step.between) (with_front (results_taken step.between) set) =
-          subst (λ b. EndsSent b (results_behind step.between) (with_front (results_taken step.between) set) new) (no_look old.order (results_behind step.between) was.order) ends in
-          inr (record {
-            ending = waits.ending;
-            results = waits.results;
-            at = waits.at;
-            told = ap (λ (chip : ChipState). chip.stage) is ∙ ap (λ r. Telling (answer.Results r) 0) (results_are step.between waits.ending waits.results waits.through waits.at);
-          })
+          let taken = with_front (results_taken step.between) set in
+          let told : EndsSent (looks_for_cylinder old.order waits.results) waits.results taken new = subst (λ r. EndsAs r Sent set new) (waits_shown step.between waits) ends in
+          let is : new ≡ told_results waits.results taken = subst (λ b. EndsSent b waits.results taken new) (no_look old.order waits.results was.order) told in
+          inr (record { ending = waits.ending; results = waits.results; at = waits.at; told = ap (λ (chip : ChipState). chip.stage) is })
     ]
-  where
-    base_free : IsBase old.front.adapter.controller step.between.adapter.controller → is_held step.between.adapter.controller ≡ false
-    base_free base = base_held old.front.adapter.controller step.between.adapter.controller base ∙ free_of old sound was.stage
 
 step_identifies : (place : Place) (unit : ℕ) (old new : ChipState) → StepsChip old new → IsSound old → Identifying place unit old → IsAt place old.front → new.stage ≡ Busy Sent → Identifying place unit new
 step_identifies place unit old new step sound was at stays = elim (step_goes place unit old new step sound was at) [
@@ -283,15 +253,12 @@ gives_keeps place byte old given new gives was =
     }
 
 told_known : (phase : Phase) (past : Past) (unit : ℕ) → MayReadIdIn past unit phase → MayReadIdIn past unit (phase_told phase)
-told_known Taking past unit known = known
-told_known (Result told) past unit known = known
 told_known (Execute execution) past unit known = by_task execution.task known
   where
     by_task : (chosen : Task) → MayReadIdTask past unit execution.head_drive execution.steps chosen → MayReadIdIn past unit (phase_told (Execute (record execution { task = chosen })))
     by_task (phase_task.ReadId search) known = known
-    by_task (phase_task.Read reading) known = absurd known
-    by_task (phase_task.Write writing) known = absurd known
-    by_task (phase_task.Format formatting) known = absurd known
+    by_task _ known = absurd known
+told_known _ past unit known = known
 
 counts_keep : (place : Place) (old new : Front) → new ≡ told_front old → ExecutesBehind old → KeepsId place old new
 counts_keep place old new is was =
@@ -309,87 +276,40 @@ port_keeps place port value old new writes no_data quiet was = record {
   turns = λ at. adapter_turns place (id_at 0) false false refl port value place.bay old.adapter new.adapter (writes.others no_data).0 at.motor;
 }
 
--- the same of the chip: its order stays too
-record KeepsOn (place : Place) (old new : ChipState) : Type 0 where
-  front : KeepsId place old.front new.front
-  order : new.order ≡ old.order
-
-same_on : (place : Place) (old new : ChipState) → new ≡ old → ExecutesBehind old.front → KeepsOn place old new
-same_on place old new is was = record { front = same_keeps place old.front new.front (ap (λ (chip : ChipState). chip.front) is) was; order = ap (λ (chip : ChipState). chip.order) is }
-
-takes_on : (b : Bool) (place : Place) (byte : Option ℕ) (old new : ChipState) → TakesIf b old byte new → ExecutesBehind old.front → KeepsOn place old new
-takes_on true place byte old new (takes, rest) was = record { front = takes_keeps place old.front byte new.front takes was; order = ap (λ (chip : ChipState). chip.order) rest }
-takes_on false place byte old new (none, is) was = same_on place old new is was
-
-gives_on : (b : Bool) (place : Place) (byte : ℕ) (given : Bool) (old new : ChipState) → GivesChipIf b byte old given new → ExecutesBehind old.front → KeepsOn place old new
-gives_on true place byte given old new (gives, rest) was = record { front = gives_keeps place byte old.front given new.front gives was; order = ap (λ (chip : ChipState). chip.order) rest }
-gives_on false place byte given old new (none, is) was = same_on place old new is was
-
-read_on : (b : Bool) (place : Place) (value : ℕ) (old new : ChipState) → ReadsIf b old value new → ExecutesBehind old.front → KeepsOn place old new
-read_on true place value old new reads was = record { front = takes_keeps place old.front reads.byte new.front reads.takes was; order = ap (λ (chip : ChipState). chip.order) reads.rest }
-read_on false place value old new (none, is) was = same_on place old new is was
-
-write_on : (b : Bool) (place : Place) (value : ℕ) (old new : ChipState) → GivesIf b value old new → ExecutesBehind old.front → KeepsOn place old new
-write_on true place value old new gives was = record { front = gives_keeps place value old.front gives.was new.front gives.gives was; order = ap (λ (chip : ChipState). chip.order) gives.rest }
-write_on false place value old new is was = same_on place old new is was
-
-port_on : (b : Bool) (place : Place) (port value : ℕ) (old new : ChipState) → resets port (value_behind port value) ≡ b → (port == 0x3F5) ≡ false → WritesFront port (value_behind port value) old.front new.front
-    → new ≡ with_front new.front (ports.reset_if b (latched_by port value old)) → new.stage ≡ Busy Sent → ExecutesBehind old.front → KeepsOn place old new
-port_on true place port value old new anew no_data writes rest stays was = absurd (false≢true (sym (ap parts.is_ready stays) ∙ ap (λ (chip : ChipState). parts.is_ready chip.stage) rest))
-port_on false place port value old new quiet no_data writes rest stays was =
-    record { front = port_keeps place port (value_behind port value) old.front new.front writes no_data quiet was; order = ap (λ (chip : ChipState). chip.order) rest }
-
-call_on : (place : Place) (call : Call) (old new : ChipState) → is_step call ≡ false → Does call old new → TurnsOnBy call (drive_at old.front.adapter place.bay) (drive_at new.front.adapter place.bay) → old.stage ≡ Busy Sent
-    → new.stage ≡ Busy Sent → ExecutesBehind old.front → KeepsOn place old new
-call_on place made.Steps old new other does turns at stays was = absurd (false≢true (sym other))
-call_on place (made.Takes byte) old new other does turns at stays was = takes_on (passes_by_channel old) place byte old new does was
-call_on place (made.Gives byte given) old new other does turns at stays was = gives_on (passes_by_channel old) place byte given old new does was
-call_on place made.Counts old new other does turns at stays was =
-    let is : new ≡ with_front (told_front old.front) old = subst (λ stage. new ≡ ports.count_told stage old) at does in
-    record { front = counts_keep place old.front new.front (ap (λ (chip : ChipState). chip.front) is) was; order = ap (λ (chip : ChipState). chip.order) is }
-call_on place (made.Reads port value) old new other does turns at stays was = either_way (port == 0x3F5)
-    (λ here. read_on (passes_by_port old) place value old new (subst (λ stage. ReadsAt stage old value new) at (does.byte (eqb-true port 0x3F5 here))) was)
-    (λ no_data. same_on place old new (other_read port value old new no_data does) was)
-call_on place (made.Writes port value) old new other does turns at stays was = either_way (port == 0x3F5)
-    (λ here. write_on (passes_by_port old) place value old new (subst (λ stage. TakesByte stage value old new) at (does.bytes (eqb-true port 0x3F5 here))) was)
-    (λ no_data. let (front, rest) = does.others no_data in port_on (resets port (value_behind port value)) place port value old new refl no_data front rest stays was)
-call_on place made.Changes old new other does turns at stays was = record {
-  front = record {
-    executes = keeps_executes old.front new.front does.front was;
-    known = known_as old.front.adapter.controller.phase new.front.adapter.controller.phase (ap (λ (fdc : Fdc). fdc.phase) does.front.controller);
-    turns = λ there. turns;
-  };
-  order = ap (λ (chip : ChipState). chip.order) does.rest;
+makes_id : (b : Bool) (place : Place) (old new : Front) → (b ≡ true → TurnsOn (drive_at old.adapter place.bay) (drive_at new.adapter place.bay)) → Makes b old new → ExecutesBehind old → KeepsId place old new
+makes_id b place old new turns (makes.Same is) was = same_keeps place old new is was
+makes_id b place old new turns (makes.Takes byte takes) was = takes_keeps place old byte new takes was
+makes_id b place old new turns (makes.Gives byte given gives) was = gives_keeps place byte old given new gives was
+makes_id b place old new turns (makes.Counts is) was = counts_keep place old new is was
+makes_id b place old new turns (makes.Writes port value writes no_data quiet) was = port_keeps place port value old new writes no_data quiet was
+makes_id b place old new turns (makes.Changes changes keeps) was = record {
+  executes = keeps_executes old new keeps was;
+  known = known_as old.adapter.controller.phase new.adapter.controller.phase (ap (λ (fdc : Fdc). fdc.phase) keeps.controller);
+  turns = λ there. turns changes;
 }
-call_on place (made.Straps on) old new other does turns at stays was =
-    record { front = same_keeps place old.front new.front (ap (λ (chip : ChipState). chip.front) does) was; order = ap (λ (chip : ChipState). chip.order) does }
-call_on place (made.StrapsSteps on) old new other does turns at stays was =
-    record { front = same_keeps place old.front new.front (ap (λ (chip : ChipState). chip.front) does) was; order = ap (λ (chip : ChipState). chip.order) does }
+
+turns_by : (call : Call) (old new : DriveState) → TurnsOnBy call old new → is_change call ≡ true → TurnsOn old new
+turns_by made.Changes old new turns is = turns
+turns_by _ old new turns is = absurd (false≢true is)
 
 as_step : (call : Call) (old new : ChipState) → is_step call ≡ true → Does call old new → StepsChip old new
 as_step made.Steps old new is does = does
-as_step (made.Takes byte) old new is does = absurd (false≢true is)
-as_step (made.Gives byte given) old new is does = absurd (false≢true is)
-as_step made.Counts old new is does = absurd (false≢true is)
-as_step (made.Reads port value) old new is does = absurd (false≢true is)
-as_step (made.Writes port value) old new is does = absurd (false≢true is)
-as_step made.Changes old new is does = absurd (false≢true is)
-as_step (made.Straps on) old new is does = absurd (false≢true is)
-as_step (made.StrapsSteps on) old new is does = absurd (false≢true is)
+as_step _ old new is does = absurd (false≢true is)
 
 call_identifies : (place : Place) (unit : ℕ) (call : Call) (old new : ChipState) → Does call old new → TurnsOnBy call (drive_at old.front.adapter place.bay) (drive_at new.front.adapter place.bay) → IsSound old
     → Identifying place unit old → IsAt place old.front → IsAt place new.front → new.stage ≡ Busy Sent → Identifying place unit new
 call_identifies place unit call old new does turns sound was at after stays = either_way (is_step call)
     (λ steps. step_identifies place unit old new (as_step call old new steps does) sound was at stays)
     (λ other.
-    let keeps = call_on place call old new other does turns was.stage stays was.executes in
+    let keeps = call_stays call Sent old new does was.stage other (ap has_command stays) in
+    let front = makes_id (is_change call) place old.front new.front (turns_by call (drive_at old.front.adapter place.bay) (drive_at new.front.adapter place.bay) turns) keeps.front was.executes in
     record {
       stage = stays;
       order = ap is_read_id keeps.order ∙ was.order;
-      executes = keeps.front.executes;
+      executes = front.executes;
       past = was.past;
-      known = keeps.front.known was.past unit was.known;
-      hearing = kept_hearing place new.front (id_at unit) was.past (drive_at old.front.adapter place.bay) after (keeps.front.turns after) was.hearing;
+      known = front.known was.past unit was.known;
+      hearing = kept_hearing place new.front (id_at unit) was.past (drive_at old.front.adapter place.bay) after (front.turns after) was.hearing;
     })
 
 -- ---- ---- all calls
@@ -419,15 +339,11 @@ found_key unit past NoSector results are has none = absurd (wrong (sym (ap (λ (
   where
     wrong : ◌≡◌ {A = ℕ} 4 0 → ⊥
     wrong is = absurd (omega arith)
-found_key unit past NoField results are has none = absurd has
-found_key unit past BadCheck results are has none = absurd has
-found_key unit past Overrun results are has none = absurd has
-found_key unit past NoCount results are has none = absurd has
-found_key unit past Protected results are has none = absurd has
 found_key unit past Late results are has none = absurd (wrong (sym (ap (λ (r : Results). r.st1.0) are) ∙ none))
   where
     wrong : ◌≡◌ {A = ℕ} 1 0 → ⊥
     wrong is = absurd (omega arith)
+found_key unit past _ results are has none = absurd has
 
 on_track : (track : List ℕ) (from : ℕ) (late : Past) (key : Chrn) → IsHeardFrom track from late.turns late.seen → HasAddress late key → (spot : ℕ) × IsAddressAt track spot key
 on_track track from late key heard (turn, p, has) =
@@ -483,5 +399,5 @@ id_code byte few is = by_bool (is_id (code_of byte)) (bit_and byte 0x1F == 0x0A)
 
 pub id_begins : (old new : ChipState) → IsSound new → code_of old.order.code ≡ Some (code.ReadId true) → IsFreeBehind old.front → Obeys (code.ReadId true) old new → IsIdBegun old.order.unit new
 id_begins old new sound is free begins =
-    let sent = begins_sent Sent false (identifying old.order.unit) old new (stands_free old.front free) begins in
+    let sent = begins_sent Sent (GivesCommand (identifying old.order.unit)) old new (stands_free old.front free) begins in
     record { order = id_code new.order.code sound.code (ap (λ (order : Order). code_of order.code) sent.order ∙ is); set = old; free = free; begins = begins }

@@ -1,40 +1,35 @@
 -- In a chip that isn't busy, a seek that has ended has its result in the inner controller: through all calls.
-use Rattle.std.proofs.Common.{◌≡◌, ◌⊎◌, inl, inr, ℕ, zero, suc, ◌%◌, ◌<◌, Bool, true, false, not, ◌&&◌, ◌||◌, ◌==◌, if◌then◌else◌, nat_le, Option, Some, None, is_some, List, [], ◌∷◌, length, bit_and, refl, sym, ◌∙◌, ap, subst}
+use Rattle.std.proofs.Common.{◌≡◌, inl, inr, ℕ, zero, suc, ◌%◌, ◌<◌, Bool, true, false, not, ◌&&◌, ◌==◌, if◌then◌else◌, nat_le, Option, Some, None, option_map, [], bit_and, refl, sym, ◌∙◌, ap, subst}
 use Rattle.std.proofs.lemmas.Bool.{and_from, and_left, and_parts, and_right, eqb-true, false≢true, not-true}
-use Rattle.fdc_registers.specs.St1.{missing_mark}
-use Rattle.fdc_commands.specs.Seeking.{Seeking, has_ended_seek, pulses_within, seek_bits, sensed, with_motion}
+use Rattle.fdc_commands.specs.Seeking.{has_ended_seek, pulses_within, seek_bits, sensed, with_motion}
 use Rattle.fdc_commands.specs.declared.command.Command.TheVariants as command
 use Rattle.fdc_commands.specs.declared.motion.Motion.TheVariants.{Outward}
 use Rattle.fdc_commands.specs.declared.motion.Seek.{Seek as DriveSeek}
 use Rattle.fdc_commands.specs.declared.results.Results.{Results}
-use Rattle.fdc_phases.specs.declared.phases.Phase.TheVariants.{Command as Taking}
-use Rattle.fdc_core.specs.Commands.{answered, recalibrating, status_of_lines}
+use Rattle.fdc_core.specs.Commands.{recalibrating}
 use Rattle.fdc_core.specs.Ports.{given, resets}
 use Rattle.fdc_core.specs.Ranges.{IsInRange}
 use Rattle.fdc_core.specs.State.{is_held}
 use Rattle.fdc_core.specs.Whole.{is_idle}
 use Rattle.fdc_core.specs.declared.controller.Fdc.{Fdc}
-use Rattle.fdc_adapter.specs.Senses.{after_result, without_result}
-use Rattle.fdc_sequencer.specs.Fronts.{Front, WritesFront, after_reading, byte_given, interrupts_outside, with_controller}
+use Rattle.fdc_sequencer.specs.AdapterSenses.{after_result, without_result}
+use Rattle.fdc_sequencer.specs.Fronts.{Front, GivesCommand, WritesFront, interrupts_outside, is_ready, results_outside, results_taken, with_controller}
 use Rattle.fdc_sequencer.specs.Moves.{StepsFront}
-use Rattle.fdc_sequencer.specs.Senses.{is_ready, pending_outside, recalibrated_at, recalibrated_outside, sensed_at, sensed_outside}
+use Rattle.fdc_sequencer.specs.Senses.{pending_outside, recalibrated_at, recalibrated_outside, sensed_at, sensed_outside}
 use Rattle.fdc_chip.specs.Chips.{ChipState, passes, passes_at, passes_by_channel, passes_by_port, with_front}
 use Rattle.fdc_chip.specs.Codes.{code_of}
-use Rattle.fdc_chip.specs.Doing.{Asks, AttendsIf, AttendsTo, MovesIf, Obeys, Sends, SendsOn, configured as chip_configured, configuring, drained, drained_by, drained_one, is_moving, is_size, moves_heads, moving, needs_heads, ready, relative_target}
-use Rattle.fdc_chip.specs.Ending.{Ends, EndsAddress, EndsAddressIf, EndsAt, EndsData, EndsIf, EndsIndex, EndsSent, MayEnd, has_results, is_over, looks_for_cylinder, results_taken, verified, without_one, results_judged}
+use Rattle.fdc_chip.specs.Doing.{AttendsIf, AttendsTo, MovesIf, GivesOn, Obeys, configured as chip_configured, configuring, drained, drained_by, drained_one, is_moving, moves_heads, moving, needs_heads, relative_target}
+use Rattle.fdc_chip.specs.Ending.{Ends, EndsAt, EndsAs, MayEnd, is_over, judged}
 use Rattle.fdc_chip.specs.Interrupts.{cylinder_of}
 use Rattle.fdc_chip.specs.Orders.{is_format}
 use Rattle.fdc_chip.specs.Paces as paces
 use Rattle.fdc_chip.specs.Paces.{GoesOnIf, Paces, PulsesIf, is_due, stepped}
-use Rattle.fdc_chip.specs.Ports.{CollectsIf, ComesIf, GivesChipIf, GivesIf, ReadsAt, ReadsIf, TakesByte, TakesIf, WritesChip, byte_told, count_told, latched_by, is_whole, may_come, reset_if, value_behind, with_next}
+use Rattle.fdc_chip.specs.Ports.{CollectsIf, ComesIf, GivesChipIf, GivesIf, ReadsAt, ReadsIf, TakesByte, TakesIf, WritesChip, count_told, latched_by, is_whole, may_come, reset_if, value_behind, with_next}
 use Rattle.fdc_chip.specs.Settings.{is_by_port, step_words}
-use Rattle.fdc_chip.specs.Steps.{Follows, FollowsTask, StepsChip}
+use Rattle.fdc_chip.specs.Steps.{Follows, FollowsTask}
 use Rattle.fdc_chip.specs.declared.code.ChipOpcode.{ChipOpcode}
 use Rattle.fdc_chip.specs.declared.code.ChipOpcode.TheVariants as code
-use Rattle.fdc_chip.specs.declared.order.Order.{Order}
 use Rattle.fdc_chip.specs.declared.pace.PacedSeek.{PacedSeek}
-use Rattle.fdc_chip.specs.declared.stage.Place.{Place}
-use Rattle.fdc_chip.specs.declared.stage.Place.TheVariants.{Index, Address, Data}
 use Rattle.fdc_chip.specs.declared.stage.ChipStage.{ChipStage}
 use Rattle.fdc_chip.specs.declared.stage.ChipStage.TheVariants.{Ready, Held, Busy, Telling}
 use Rattle.fdc_chip.specs.declared.stage.ChipTask.{ChipTask}
@@ -46,25 +41,24 @@ use Rattle.laws_chip.specs.Sound.{IsSound, RestsBehind}
 use Rattle.laws_chip.proofs.Attended.{free_stands}
 use Rattle.laws_chip.proofs.Channels.{front_left}
 use Rattle.laws_chip.proofs.CommandsBegun.{configured_stands}
-use Rattle.laws_chip.proofs.FirstSectors.{IsBase}
 use Rattle.laws_chip.proofs.HeadsLeft.{seek_given}
 use Rattle.laws_chip.proofs.HeadsTold.{HasResult, TellsEnd, front_nearer, runs_tells, sense_tells, taken_seeks}
 use Rattle.laws_chip.proofs.NextStages.{IsAtTask, call_keeps, data_quiet}
 use Rattle.laws_chip.proofs.PassedOn.{other_read}
 use Rattle.laws_chip.proofs.Rests.{IsResting, drained_rests, front_rests}
 use Rattle.laws_chip.proofs.SeeksBegun.{none_kept}
-use Rattle.laws_chip.proofs.Sending.{configure_obeyed, recalibrate_obeyed, sense_obeyed}
 use Rattle.laws_chip.proofs.ServedSteps.{tells_shown, tells_taken}
 use Rattle.laws_chip.proofs.Singles.{waits_shown, waits_taken}
 use Rattle.laws_chip.proofs.SoundCalls.{byte_stays, code_few, comes_free, front_anew}
 use Rattle.laws_chip.proofs.SoundParts as parts
 use Rattle.laws_chip.proofs.SoundParts.{IsBasis, at_rest, basis_front, basis_same, busy_at, is_busy, sound_basis}
 use Rattle.laws_chip.proofs.SoundSteps.{IsAtStep, IsStepped, busy_none, front_stepped, set_basis, stepped_rests, swallows_many}
-use Rattle.laws_chip.proofs.Standing.{Stands, heads_stand, ready_free, stands_idle}
+use Rattle.laws_chip.proofs.Standing.{Stands, given_obeyed, heads_stand, ready_free, stands_idle}
 use Rattle.laws_chip.proofs.UnderWay.{clash, either_way}
 use Rattle.laws_chip.proofs.WholeTransfers.{kept_front}
-use Rattle.laws_chip.proofs.WorkBegins.{is_data}
 use Rattle.laws_chip.proofs.WorkEnds.{obeys_busy}
+use Rattle.laws_chip.proofs.Silences as outcome
+use Rattle.laws_chip.proofs.Silences.{Comes, ends_come}
 
 -- a chip that isn't busy has the result of a seek that has ended
 pub record KnowsEnd (chip : ChipState) : Type 0 where
@@ -112,56 +106,40 @@ drains_tell (suc n) chip none rests tells = one_tells (drained_by n chip) (drain
 
 -- ---- ---- the inner controller is given a command
 
-sought_tells : (unit target : ℕ) (start : Front) (new : ChipState) → Stands start → Sends (moving unit (Some target)) start new.front → Tells new
-sought_tells unit target start new stands sends = runs_tells new.front.adapter.controller.seeks (seek_given unit target start new stands sends).runs
+sought_tells : (unit target : ℕ) (start : Front) (new : ChipState) → Stands start → GivesCommand (moving unit (Some target)) start new.front → Tells new
+sought_tells unit target start new stands gives = runs_tells new.front.adapter.controller.seeks (seek_given unit target start new stands gives).runs
 
-recalibrated_tells : (unit : ℕ) (start new : Front) → Stands start → Sends (moving unit None) start new → TellsEnd new.adapter.controller.seeks
-recalibrated_tells unit start new stands sends =
-    let obeyed = recalibrate_obeyed unit start new stands sends in
+recalibrated_tells : (unit : ℕ) (start new : Front) → Stands start → GivesCommand (moving unit None) start new → TellsEnd new.adapter.controller.seeks
+recalibrated_tells unit start new stands gives =
+    let obeyed = given_obeyed (command.Recalibrate unit) start new stands refl gives in
     let is : new.adapter.controller ≡ recalibrating unit (record start.adapter.controller { command = [] }) = obeyed.obeys.0 stands.rests in
     runs_tells new.adapter.controller.seeks (ap (λ (fdc : Fdc). has_ended_seek fdc.seeks) is)
 
 moves_tell : (b : Bool) (goal : Option ℕ) (old new : ChipState) → Stands old.front → MovesIf b goal old new → Tells new
 moves_tell true goal old new stands is = front_tells old new (ap (λ (chip : ChipState). chip.front) is) (stands_tell old.front stands)
-moves_tell false (Some target) old new stands (sends, rest) = sought_tells old.order.unit target old.front new stands sends
-moves_tell false None old new stands (sends, rest) = recalibrated_tells old.order.unit old.front new.front stands sends
+moves_tell false (Some target) old new stands (gives, rest) = sought_tells old.order.unit target old.front new stands gives
+moves_tell false None old new stands (gives, rest) = recalibrated_tells old.order.unit old.front new.front stands gives
 
-configure_tells : (old new : ChipState) → Stands old.front → SendsOn (configuring old.order.key.c old.order.key.h) (chip_configured old) new → Tells new
-configure_tells old new stands (sends, rest) =
-    let obeyed = configure_obeyed (bit_and old.order.key.c 0x3F) old.order.key.h old.front new.front stands sends in
-    stands_tell new.front (configured_stands (bit_and old.order.key.c 0x3F) old.order.key.h old.front new.front stands obeyed).0
-
-asks_tell : (unit : ℕ) (old new : ChipState) → Stands old.front → Asks (0x04 ∷ unit ∷ []) old new → Tells new
-asks_tell unit old new stands asks =
-    let (sends, rest) = asks.sends in
-    let sent = asks.sent.front in
-    let fdc = old.front.adapter.controller in
-    let obeyed = sense_obeyed unit old.front sent stands sends in
-    let at : after_reading 0x3F5 sent ≡ record sent { adapter = with_controller (given sent.adapter.controller) sent.adapter } = ap (λ stage. byte_given stage sent) obeyed.through in
-    let is : sent.adapter.controller ≡ answered (status_of_lines obeyed.lines unit) None (record fdc { command = [] }) = obeyed.obeys.0 stands.rests in
-    let seeks : (after_reading 0x3F5 sent).adapter.controller.seeks ≡ fdc.seeks = ap (λ (f : Front). f.adapter.controller.seeks) at ∙ ap (λ (c : Fdc). (given c).seeks) is in
-    front_tells (with_front (after_reading 0x3F5 sent) asks.sent) new (ap (λ (chip : ChipState). chip.front) asks.told_is) (subst TellsEnd (sym seeks) (stands_tell old.front stands))
+configure_tells : (old new : ChipState) → Stands old.front → GivesOn (configuring old.order.key.c old.order.key.h) (chip_configured old) new → Tells new
+configure_tells old new stands (gives, rest) =
+    let options = bit_and old.order.key.c 0x3F in
+    let obeyed = given_obeyed (command.Configure 0 options old.order.key.h) old.front new.front stands refl gives in
+    stands_tell new.front (configured_stands options old.order.key.h old.front new.front stands obeyed).0
 
 -- ---- ---- a whole command
 
 obeys_known : (found : ChipOpcode) (old new : ChipState) → IsBasis old → RestsBehind old.front → Tells old → (needs_heads found && is_moving old) ≡ false → Obeys found old new → KnowsEnd new
-obeys_known code.Specify old new basis rests tells free is = knows new (front_tells old new (ap (λ (chip : ChipState). chip.front) is) tells)
-obeys_known code.SenseInterrupt old new basis rests tells free is = knows new (front_tells old new (ap (λ (chip : ChipState). chip.front) is) tells)
-obeys_known code.Version old new basis rests tells free is = knows new (front_tells old new (ap (λ (chip : ChipState). chip.front) is) tells)
-obeys_known code.Perpendicular old new basis rests tells free is = knows new (front_tells old new (ap (λ (chip : ChipState). chip.front) is) tells)
-obeys_known code.DumpRegisters old new basis rests tells free is = knows new (front_tells old new (ap (λ (chip : ChipState). chip.front) is) tells)
-obeys_known (code.Lock on) old new basis rests tells free is = knows new (front_tells old new (ap (λ (chip : ChipState). chip.front) is) tells)
-obeys_known code.SenseDrive old new basis rests tells free asks = knows new (asks_tell old.order.unit old new (free_stands old basis rests free) asks)
 obeys_known code.Recalibrate old new basis rests tells free moves = knows new (moves_tell old.paced None old new (free_stands old basis rests free) moves)
 obeys_known code.Seek old new basis rests tells free moves = knows new (moves_tell old.paced (Some old.order.key.c) old new (free_stands old basis rests free) moves)
 obeys_known (code.RelativeSeek inward) old new basis rests tells free moves =
     knows new (moves_tell old.paced (Some (relative_target inward (cylinder_of old.order.unit old.interrupts) old.order.key.c)) old new (free_stands old basis rests free) moves)
-obeys_known code.Configure old new basis rests tells free sends = knows new (configure_tells old new (free_stands old basis rests free) sends)
+obeys_known code.Configure old new basis rests tells free gives = knows new (configure_tells old new (free_stands old basis rests free) gives)
 obeys_known (code.ReadId mfm) old new basis rests tells free obeys = knows_busy new (obeys_busy (code.ReadId mfm) old new refl obeys)
 obeys_known (code.FormatTrack mfm) old new basis rests tells free obeys = knows_busy new (obeys_busy (code.FormatTrack mfm) old new refl obeys)
 obeys_known (code.Transfer mfm) old new basis rests tells free obeys = knows_busy new (obeys_busy (code.Transfer mfm) old new refl obeys)
 obeys_known (code.Verify mfm) old new basis rests tells free obeys = knows_busy new (obeys_busy (code.Verify mfm) old new refl obeys)
 obeys_known (code.ReadTrack mfm) old new basis rests tells free obeys = knows_busy new (obeys_busy (code.ReadTrack mfm) old new refl obeys)
+obeys_known _ old new basis rests tells free is = knows new (front_tells old new (ap (λ (chip : ChipState). chip.front) is) tells)
 
 attends_known : (b : Bool) (found : ChipOpcode) (old new : ChipState) → IsBasis old → RestsBehind old.front → Tells old → (needs_heads found && is_moving old) ≡ b → AttendsIf b found old new → KnowsEnd new
 attends_known true found old new basis rests tells moves is = knows new (front_tells old new (ap (λ (chip : ChipState). chip.front) is) tells)
@@ -177,7 +155,7 @@ attended_known (Some found) old new basis rests tells attends =
 -- ---- ---- pulses that come in the time that SPECIFY sets
 
 ends_tell : (goal : Option ℕ) (pace : PacedSeek) (old new : ChipState) → Stands old.front → paces.EndsAt goal pace (record old { pace = None }) new → Tells new
-ends_tell (Some target) pace old new stands (sends, rest) = sought_tells pace.unit target old.front new stands sends
+ends_tell (Some target) pace old new stands (gives, rest) = sought_tells pace.unit target old.front new stands gives
 ends_tell None pace old new stands is =
     let fdc = old.front.adapter.controller in
     let may : (is_idle fdc && (seek_bits fdc.seeks == 0)) ≡ true = and_from (is_idle fdc) (seek_bits fdc.seeks == 0) (stands_idle old.front stands) (ap (λ n. n == 0) stands.rests) in
@@ -190,7 +168,7 @@ ends_tell None pace old new stands is =
 
 pulses_tell : (b : Bool) (pace : PacedSeek) (old new : ChipState) → Stands old.front → PulsesIf b pace old new → Tells new
 pulses_tell true pace old new stands ends = ends_tell pace.goal pace old new stands ends
-pulses_tell false pace old new stands (sends, rest) = sought_tells pace.unit (stepped (step_words old.settings) pace).cylinder old.front new stands sends
+pulses_tell false pace old new stands (gives, rest) = sought_tells pace.unit (stepped (step_words old.settings) pace).cylinder old.front new stands gives
 
 goes_tell : (b : Bool) (pace : PacedSeek) (old new : ChipState) → old.front.adapter.controller.non_dma ≡ false → old.front.adapter.controller.command ≡ [] → RestsBehind old.front → Tells old → is_due pace old ≡ b → GoesOnIf b pace old new → Tells new
 goes_tell true pace old new by_dma none rests tells due pulses =
@@ -241,51 +219,25 @@ idle_step (Busy what) old between new at idle sound range tells step follows = a
 -- ---- a device step of a chip that is busy
 
 -- the host reads the results, which were taken from the inner controller
-sent_front : (b : Bool) (results : Results) (old new : ChipState) → is_busy new.stage ≡ false → EndsSent b results old new → new.front ≡ old.front
-sent_front true results old new idle (sends, rest) = clash (is_busy new.stage) idle (ap (λ (chip : ChipState). is_busy chip.stage) rest)
-sent_front false results old new idle is = ap (λ (chip : ChipState). chip.front) is
+come_front : (old new : ChipState) → is_busy new.stage ≡ false → Comes old new → new.front ≡ old.front
+come_front old new idle (outcome.Told results is) = ap (λ (chip : ChipState). chip.front) is
+come_front old new idle (outcome.Looks what unit gives) = clash (is_busy new.stage) idle (ap (λ (chip : ChipState). is_busy chip.stage) gives.1)
+come_front old new idle (outcome.Reads track key reads) = clash (is_busy new.stage) idle (ap (λ (chip : ChipState). is_busy chip.stage) reads.1)
 
-index_front : (b : Bool) (track : Track) (old new : ChipState) → is_busy new.stage ≡ false → EndsIndex b track old new → new.front ≡ old.front
-index_front true track old new idle is = ap (λ (chip : ChipState). chip.front) is
-index_front false track old new idle (sends, rest) = clash (is_busy new.stage) idle (ap (λ (chip : ChipState). is_busy chip.stage) rest)
-
-sector_front : (b : Bool) (results : Results) (track : Track) (old new : ChipState) → is_busy new.stage ≡ false → EndsAddressIf b results track old new → new.front ≡ old.front
-sector_front true results track old new idle (sends, rest) = clash (is_busy new.stage) idle (ap (λ (chip : ChipState). is_busy chip.stage) rest)
-sector_front false results track old new idle is = ap (λ (chip : ChipState). chip.front) is
-
-address_front : (b : Bool) (results : Results) (track : Track) (old new : ChipState) → is_busy new.stage ≡ false → EndsAddress b results track old new → new.front ≡ old.front
-address_front true results track old new idle is = ap (λ (chip : ChipState). chip.front) is
-address_front false results track old new idle ends = sector_front ((results.st1.0 == 0) && is_size track.key.n) results track old new idle ends
-
-data_front : (b : Bool) (track : Track) (old new : ChipState) → is_busy new.stage ≡ false → EndsData b track old new → new.front ≡ old.front
-data_front true track old new idle is = ap (λ (chip : ChipState). chip.front) is
-data_front false track old new idle (sends, rest) = clash (is_busy new.stage) idle (ap (λ (chip : ChipState). is_busy chip.stage) rest)
-
-place_front : (place : Place) (track : Track) (results : Results) (old new : ChipState) → is_busy new.stage ≡ false → EndsAt place track results old new → new.front ≡ old.front
-place_front Index track results old new idle ends = index_front (not (bit_and results.st1.0 missing_mark == 0)) track old new idle ends
-place_front Address track results old new idle ends = address_front track.counted results track old new idle ends
-place_front Data track results old new idle ends = let over = without_one results track in data_front (is_over results over) over old new idle ends
-
-ends_front : (what : ChipTask) (results : Results) (old new : ChipState) → is_busy new.stage ≡ false → Ends what results old new → new.front ≡ old.front
-ends_front task.Sent results old new idle ends = sent_front (looks_for_cylinder old.order results) results old new idle ends
-ends_front (task.Sought first) results old new idle is = ap (λ (chip : ChipState). chip.front) is
-ends_front (task.Refused unit key mfm) results old new idle is = ap (λ (chip : ChipState). chip.front) is
-ends_front (task.Verify left) results old new idle ends = let told = verified old.order results in sent_front (looks_for_cylinder old.order told) told old new idle ends
-ends_front (task.Track track) results old new idle ends = place_front track.place track results old new idle ends
-
-taken_tells : (what : ChipTask) (chip new : ChipState) → is_busy new.stage ≡ false → has_results chip.front ≡ true → Stands (results_taken chip.front) → MayEnd what chip new → Tells new
-taken_tells what chip new idle shown stands may =
+taken_tells : (what : ChipTask) (results : Results) (chip new : ChipState) → is_busy new.stage ≡ false → results_outside chip.front ≡ Some results → Stands (results_taken chip.front) → MayEnd what chip new → Tells new
+taken_tells what results chip new idle shown stands may =
     let set = with_front (results_taken chip.front) chip in
-    front_tells set new (ends_front what (results_judged chip) set new idle (subst (λ b. EndsIf b what chip new) shown may)) (stands_tell (results_taken chip.front) stands)
+    let ends : Ends what (judged chip results) set new = subst (λ r. EndsAs (option_map (judged chip) r) what chip new) shown may in
+    front_tells set new (come_front set new idle (ends_come what (judged chip results) set new ends)) (stands_tell (results_taken chip.front) stands)
 
 may_tell : (what under : ChipTask) (chip new : ChipState) → is_busy new.stage ≡ false → IsBasis chip → chip.stage ≡ Busy under → IsAtStep under chip.front → MayEnd what chip new → Tells new
 may_tell what under chip new idle basis at (inl busy) may =
-    let same : new ≡ chip = subst (λ b. EndsIf b what chip new) (busy_none under chip.front basis.free busy) may in
+    let same : new ≡ chip = subst (λ r. EndsAs (option_map (judged chip) r) what chip new) (busy_none under chip.front busy) may in
     clash (is_busy new.stage) idle (ap (λ (c : ChipState). is_busy c.stage) same ∙ ap is_busy at)
 may_tell what under chip new idle basis at (inr (inl tells)) may =
-    taken_tells what chip new idle (tells_shown chip.front tells) (tells_taken chip.front basis.free basis.whole basis.by_dma tells).0 may
+    taken_tells what tells.results chip new idle (tells_shown chip.front tells) (tells_taken chip.front basis.free basis.whole basis.by_dma tells).0 may
 may_tell what under chip new idle basis at (inr (inr waits)) may =
-    taken_tells what chip new idle (waits_shown chip.front basis.free waits) (waits_taken chip.front basis.free basis.whole basis.by_dma waits).0 may
+    taken_tells what waits.results chip new idle (waits_shown chip.front waits) (waits_taken chip.front basis.free basis.whole basis.by_dma waits).0 may
 
 verify_tells : (left : ℕ) (old : ChipState) (between : Front) (new : ChipState) → is_busy new.stage ≡ false → IsBasis old → IsStepped (task.Verify left) old.front between → FollowsTask (task.Verify left) (with_front between old) new → Tells new
 verify_tells left old between new idle basis was (set, all, may) =
@@ -296,11 +248,9 @@ verify_tells left old between new idle basis was (set, all, may) =
 
 busy_tells : (what : ChipTask) (old : ChipState) (between : Front) (new : ChipState) → is_busy new.stage ≡ false → old.stage ≡ Busy what → IsBasis old → IsStepped what old.front between → FollowsTask what (with_front between old) new → Tells new
 busy_tells (task.Verify left) old between new idle at basis was follows = verify_tells left old between new idle basis was follows
-busy_tells task.Sent old between new idle at basis was may = may_tell task.Sent task.Sent (with_front between old) new idle (basis_front between old basis was.base) at was.at may
-busy_tells (task.Sought first) old between new idle at basis was may = may_tell (task.Sought first) (task.Sought first) (with_front between old) new idle (basis_front between old basis was.base) at was.at may
 busy_tells (task.Refused unit key mfm) old between new idle at basis was may =
     may_tell (task.Refused unit key mfm) (task.Refused unit key mfm) (with_front between old) new idle (basis_front between old basis was.base) at was.at may
-busy_tells (task.Track track) old between new idle at basis was may = may_tell (task.Track track) (task.Track track) (with_front between old) new idle (basis_front between old basis was.base) at was.at may
+busy_tells what old between new idle at basis was may = may_tell what what (with_front between old) new idle (basis_front between old basis was.base) at was.at may
 
 step_known : (stage : ChipStage) (old : ChipState) (between : Front) (new : ChipState) → old.stage ≡ stage → IsSound old → IsInRange old.front.adapter.controller → KnowsEnd old → StepsFront old.front between → Follows stage (with_front between old) new → KnowsEnd new
 step_known (Busy what) old between new at sound range was step follows = record {
@@ -320,10 +270,8 @@ seeks_known : (old new : ChipState) → new.stage ≡ old.stage → new.front.ad
 seeks_known old new stage seeks was = record { tells = λ idle. subst TellsEnd (sym seeks) (was.tells (sym (ap is_busy stage) ∙ idle)) }
 
 none_at : (stage : ChipStage) → is_busy stage ≡ false → passes_at stage ≡ false
-none_at Ready idle = refl
-none_at Held idle = refl
 none_at (Busy what) idle = absurd (false≢true (sym idle))
-none_at (Telling answer read) idle = refl
+none_at _ idle = refl
 
 none_passes : (chip : ChipState) → is_busy chip.stage ≡ false → passes chip ≡ false
 none_passes chip idle = and_left (passes_at chip.stage) (not (is_format chip.order && (chip.keys == 0))) (none_at chip.stage idle)
@@ -335,19 +283,16 @@ pub none_by_channel : (chip : ChipState) → is_busy chip.stage ≡ false → pa
 none_by_channel chip idle = and_right (chip.gated && not (is_by_port chip.settings)) (passes chip) (none_passes chip idle)
 
 pub idle_counts : (stage : ChipStage) (old : ChipState) → is_busy stage ≡ false → count_told stage old ≡ old
-idle_counts Ready old idle = refl
-idle_counts Held old idle = refl
 idle_counts (Busy what) old idle = absurd (false≢true (sym idle))
-idle_counts (Telling answer read) old idle = refl
+idle_counts _ old idle = refl
 
 -- ---- ---- the data port
 
 idle_read : (stage : ChipStage) (value : ℕ) (old new : ChipState) → old.stage ≡ stage → is_busy stage ≡ false → KnowsEnd old → ReadsAt stage old value new → KnowsEnd new
-idle_read Ready value old new at idle was reads = same_known old new (subst (λ b. ReadsIf b old value new) (none_by_port old (ap is_busy at)) reads).1 was
-idle_read Held value old new at idle was reads = same_known old new (subst (λ b. ReadsIf b old value new) (none_by_port old (ap is_busy at)) reads).1 was
 idle_read (Busy what) value old new at idle was reads = absurd (false≢true (sym idle))
 idle_read (Telling answer read) value old new at idle was (value_is, is) =
     knows new (front_tells old new (ap (λ (chip : ChipState). chip.front) is ∙ (byte_stays answer read old).front) (was.tells (ap is_busy at)))
+idle_read _ value old new at idle was reads = same_known old new (subst (λ b. ReadsIf b old value new) (none_by_port old (ap is_busy at)) reads).1 was
 
 collects_known : (b : Bool) (byte : ℕ) (old new : ChipState) → old.stage ≡ Ready → byte < 256 → IsSound old → KnowsEnd old → is_held old.front.adapter.controller ≡ false
     → CollectsIf b (code_of (with_next byte old).order.code) (with_next byte old) new → KnowsEnd new
@@ -370,9 +315,8 @@ comes_known false byte old new comes at few sound was is = same_known old new is
 
 idle_write : (stage : ChipStage) (value : ℕ) (old new : ChipState) → old.stage ≡ stage → is_busy stage ≡ false → value < 256 → IsSound old → KnowsEnd old → TakesByte stage value old new → KnowsEnd new
 idle_write Ready value old new at idle few sound was comes = comes_known (may_come old) value old new refl at few sound was comes
-idle_write Held value old new at idle few sound was gives = same_known old new (subst (λ b. GivesIf b value old new) (none_by_port old (ap is_busy at)) gives) was
 idle_write (Busy what) value old new at idle few sound was gives = absurd (false≢true (sym idle))
-idle_write (Telling answer read) value old new at idle few sound was gives = same_known old new (subst (λ b. GivesIf b value old new) (none_by_port old (ap is_busy at)) gives) was
+idle_write _ value old new at idle few sound was gives = same_known old new (subst (λ b. GivesIf b value old new) (none_by_port old (ap is_busy at)) gives) was
 
 -- another port
 port_known : (b : Bool) (port value : ℕ) (old set new : ChipState) → resets port value ≡ b → (port == 0x3F5) ≡ false → set.stage ≡ old.stage → KnowsEnd old → WritesFront port value old.front new.front → new ≡ with_front new.front (reset_if b set) → KnowsEnd new
@@ -399,18 +343,13 @@ idle_call (made.Writes port value) old new idle sound was does writes other = ei
     (λ here. idle_write old.stage value old new refl idle writes sound was (does.bytes (eqb-true port 0x3F5 here)))
     (λ no_data. other_known port value old new no_data was does)
 idle_call made.Changes old new idle sound was does writes other = seeks_known old new (ap (λ (chip : ChipState). chip.stage) does.rest) (ap (λ (fdc : Fdc). fdc.seeks) does.front.controller) was
-idle_call (made.Straps on) old new idle sound was does writes other =
-    seeks_known old new (ap (λ (chip : ChipState). chip.stage) does) (ap (λ (chip : ChipState). chip.front.adapter.controller.seeks) does) was
-idle_call (made.StrapsSteps on) old new idle sound was does writes other =
+idle_call _ old new idle sound was does writes other =
     seeks_known old new (ap (λ (chip : ChipState). chip.stage) does) (ap (λ (chip : ChipState). chip.front.adapter.controller.seeks) does) was
 
 -- a busy chip stays busy, or is reset
 task_busy : (what : ChipTask) (stage : ChipStage) → IsAtTask what stage → is_busy stage ≡ true
-task_busy task.Sent stage is = ap is_busy is
-task_busy (task.Sought first) stage is = ap is_busy is
-task_busy (task.Refused unit key mfm) stage is = ap is_busy is
-task_busy (task.Verify left) stage is = ap is_busy is
 task_busy (task.Track track) stage (now, is) = ap is_busy is
+task_busy _ stage is = ap is_busy is
 
 busy_call : (call : Call) (what : ChipTask) (old new : ChipState) → old.stage ≡ Busy what → KnowsEnd old → Does call old new → is_step call ≡ false → KnowsEnd new
 busy_call call what old new at was does other = either_way (is_reset call)
@@ -421,28 +360,12 @@ busy_call call what old new at was does other = either_way (is_reset call)
     by_reset (made.Writes port value) anew does = either_way (port == 0x3F5)
         (λ here. absurd (false≢true (sym (data_quiet port value (eqb-true port 0x3F5 here)) ∙ anew)))
         (λ no_data. other_known port value old new no_data was does)
-    by_reset made.Steps anew does = absurd (false≢true anew)
-    by_reset (made.Takes byte) anew does = absurd (false≢true anew)
-    by_reset (made.Gives byte given) anew does = absurd (false≢true anew)
-    by_reset made.Counts anew does = absurd (false≢true anew)
-    by_reset (made.Reads port value) anew does = absurd (false≢true anew)
-    by_reset made.Changes anew does = absurd (false≢true anew)
-    by_reset (made.Straps on) anew does = absurd (false≢true anew)
-    by_reset (made.StrapsSteps on) anew does = absurd (false≢true anew)
+    by_reset _ anew does = absurd (false≢true anew)
 
 other_call : (stage : ChipStage) (call : Call) (old new : ChipState) → old.stage ≡ stage → IsSound old → KnowsEnd old → Does call old new → WritesByte call → is_step call ≡ false → KnowsEnd new
 other_call (Busy what) call old new at sound was does writes other = busy_call call what old new at was does other
-other_call Ready call old new at sound was does writes other = idle_call call old new (ap is_busy at) sound was does writes other
-other_call Held call old new at sound was does writes other = idle_call call old new (ap is_busy at) sound was does writes other
-other_call (Telling answer read) call old new at sound was does writes other = idle_call call old new (ap is_busy at) sound was does writes other
+other_call _ call old new at sound was does writes other = idle_call call old new (ap is_busy at) sound was does writes other
 
 pub call_known : (call : Call) (old new : ChipState) → IsSound old → IsInRange old.front.adapter.controller → KnowsEnd old → Does call old new → WritesByte call → KnowsEnd new
 call_known made.Steps old new sound range was does writes = step_known old.stage old does.between new refl sound range was does.steps does.follows
-call_known (made.Takes byte) old new sound range was does writes = other_call old.stage (made.Takes byte) old new refl sound was does writes refl
-call_known (made.Gives byte given) old new sound range was does writes = other_call old.stage (made.Gives byte given) old new refl sound was does writes refl
-call_known made.Counts old new sound range was does writes = other_call old.stage made.Counts old new refl sound was does writes refl
-call_known (made.Reads port value) old new sound range was does writes = other_call old.stage (made.Reads port value) old new refl sound was does writes refl
-call_known (made.Writes port value) old new sound range was does writes = other_call old.stage (made.Writes port value) old new refl sound was does writes refl
-call_known made.Changes old new sound range was does writes = other_call old.stage made.Changes old new refl sound was does writes refl
-call_known (made.Straps on) old new sound range was does writes = other_call old.stage (made.Straps on) old new refl sound was does writes refl
-call_known (made.StrapsSteps on) old new sound range was does writes = other_call old.stage (made.StrapsSteps on) old new refl sound was does writes refl
+call_known call old new sound range was does writes = other_call old.stage call old new refl sound was does writes refl

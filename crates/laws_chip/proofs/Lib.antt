@@ -1,10 +1,34 @@
+mod Marks
+pub mod Known
+pub mod Started
+pub mod Free
+pub mod Given
+mod Courses
+mod Judged
+pub mod Served
+mod Outcome
+pub mod Called
+pub mod Whole
+mod LateLooks
+pub mod LateHearing
+pub mod LateWriting
+pub mod Medium
+mod Silent
+pub mod Shown
+pub mod Sectors
+mod Sought
+pub mod Lasted
+mod WriteStages
+pub mod Resting
+mod WrittenWords
+mod WrittenSteps
+mod WrittenAlike
+pub mod WrittenCalls
 mod UnderWay
 mod Tellings
 mod PassedOn
 mod Standing
-mod Sending
 mod FirstSectors
-mod NineBytes
 mod FieldsRead
 mod CommandsBegun
 mod Rests
@@ -26,6 +50,7 @@ mod Polled
 mod PollComes
 mod PollPassed
 mod Identified
+mod HeadsKept
 mod HeadsGoing
 mod SeeksBegun
 mod PulsesGoing

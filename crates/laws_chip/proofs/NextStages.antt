@@ -1,7 +1,9 @@
 -- A chip that is busy, through calls that are no device steps and don't reset: it stays at its task, and keeps its order.
+-- The call is one of the inner controller, or none.
 use Rattle.std.proofs.Common.{◌≡◌, ℕ, Bool, true, false, ◌==◌, Option, refl, sym, ◌∙◌, ap, subst}
 use Rattle.std.proofs.lemmas.Bool.{eqb-true, false≢true}
 use Rattle.fdc_core.specs.Ports.{resets}
+use Rattle.fdc_sequencer.specs.Fronts.{Front, GivesFront, KeepsFront, TakesFront, WritesFront, told_front}
 use Rattle.fdc_chip.specs.Chips.{ChipState, is_data, passes_by_channel, passes_by_port, with_front}
 use Rattle.fdc_chip.specs.Ports.{GivesChipIf, GivesIf, ReadsAt, ReadsIf, TakesByte, TakesIf, WritesChip, count_told, counted_if, latched_by, given_one, reset_if, value_behind}
 use Rattle.fdc_chip.specs.declared.stage.ChipStage.{ChipStage}
@@ -13,87 +15,109 @@ use Rattle.laws_chip.specs.Bounds.{has_command}
 use Rattle.laws_chip.specs.Calls as made
 use Rattle.laws_chip.specs.Calls.{Call, Does, is_reset, is_step}
 use Rattle.laws_chip.proofs.PassedOn.{other_read}
-use Rattle.laws_chip.proofs.UnderWay.{clash, either_way}
+use Rattle.laws_chip.proofs.UnderWay.{either_way}
 
 -- the same task; only whether the terminal count has come to a READ TRACK may change
 abbrev pub IsAtTask : ChipTask → ChipStage → Type 0
-IsAtTask (task.Track track) stage = (now : Track) × (stage ≡ Busy (task.Track now))
+IsAtTask (task.Track track) stage = (counted : Bool) × (stage ≡ Busy (task.Track (record track { counted = counted })))
 IsAtTask what stage = stage ≡ Busy what
 
-pub record KeepsTask (what : ChipTask) (old new : ChipState) : Type 0 where
+-- what the inner controller does in such a call. The Bool says whether media are changed
+pub data Makes (changes : Bool) (old new : Front) : Type 0 where
+  Same : new ≡ old → Makes changes old new
+  Takes : (byte : Option ℕ) → TakesFront old byte new → Makes changes old new
+  Gives : (byte : ℕ) (was : Bool) → GivesFront byte old was new → Makes changes old new
+  Counts : new ≡ told_front old → Makes changes old new
+  Writes : (port value : ℕ) → WritesFront port value old new → (port == 0x3F5) ≡ false → resets port value ≡ false → Makes changes old new
+  Changes : changes ≡ true → KeepsFront old new → Makes changes old new
+
+abbrev pub is_change : Call → Bool
+is_change made.Changes = true
+is_change _ = false
+
+pub record KeepsTask (changes : Bool) (what : ChipTask) (old new : ChipState) : Type 0 where
   pub stage : IsAtTask what new.stage
   pub order : new.order ≡ old.order
+  pub front : Makes changes old.front new.front
 
 at_task : (what : ChipTask) (stage : ChipStage) → stage ≡ Busy what → IsAtTask what stage
-at_task task.Sent stage is = is
-at_task (task.Sought first) stage is = is
-at_task (task.Refused unit key mfm) stage is = is
-at_task (task.Verify left) stage is = is
-at_task (task.Track track) stage is = (track, is)
+at_task (task.Track track) stage is = (track.counted, is)
+at_task _ stage is = is
 
-keeps_as : (what : ChipTask) (old new : ChipState) → new.stage ≡ Busy what → new.order ≡ old.order → KeepsTask what old new
-keeps_as what old new stage order = record { stage = at_task what new.stage stage; order = order }
+-- nothing of the chip changes but the front and what no task depends on
+keeps_as : (b : Bool) (what : ChipTask) (old set new : ChipState) → Makes b old.front new.front → new ≡ with_front new.front set → set.stage ≡ Busy what → set.order ≡ old.order → KeepsTask b what old new
+keeps_as b what old set new makes rest at order = record {
+  stage = at_task what new.stage (ap (λ (chip : ChipState). chip.stage) rest ∙ at);
+  order = ap (λ (chip : ChipState). chip.order) rest ∙ order;
+  front = makes;
+}
 
-same_keeps : (what : ChipTask) (old new : ChipState) → new ≡ old → old.stage ≡ Busy what → KeepsTask what old new
-same_keeps what old new is at = keeps_as what old new (ap (λ (chip : ChipState). chip.stage) is ∙ at) (ap (λ (chip : ChipState). chip.order) is)
+same_keeps : (b : Bool) (what : ChipTask) (old new : ChipState) → new ≡ old → old.stage ≡ Busy what → KeepsTask b what old new
+same_keeps b what old new is at = record {
+  stage = at_task what new.stage (ap (λ (chip : ChipState). chip.stage) is ∙ at);
+  order = ap (λ (chip : ChipState). chip.order) is;
+  front = Same (ap (λ (chip : ChipState). chip.front) is);
+}
 
-rest_keeps : (what : ChipTask) (old new : ChipState) → new ≡ with_front new.front old → old.stage ≡ Busy what → KeepsTask what old new
-rest_keeps what old new rest at = keeps_as what old new (ap (λ (chip : ChipState). chip.stage) rest ∙ at) (ap (λ (chip : ChipState). chip.order) rest)
+takes_keeps : (b : Bool) (what : ChipTask) (byte : Option ℕ) (old new : ChipState) → TakesIf b old byte new → old.stage ≡ Busy what → KeepsTask false what old new
+takes_keeps true what byte old new (takes, rest) at = keeps_as false what old old new (Takes byte takes) rest at refl
+takes_keeps false what byte old new (none, is) at = same_keeps false what old new is at
 
-given_keeps : (was : Bool) (what : ChipTask) (old new : ChipState) → new ≡ with_front new.front (given_one was old) → old.stage ≡ Busy what → KeepsTask what old new
-given_keeps was what old new rest at = keeps_as what old new (ap (λ (chip : ChipState). chip.stage) rest ∙ at) (ap (λ (chip : ChipState). chip.order) rest)
+gives_keeps : (b : Bool) (what : ChipTask) (byte : ℕ) (was : Bool) (old new : ChipState) → GivesChipIf b byte old was new → old.stage ≡ Busy what → KeepsTask false what old new
+gives_keeps true what byte was old new (gives, rest) at = keeps_as false what old (given_one was old) new (Gives byte was gives) rest at refl
+gives_keeps false what byte was old new (none, is) at = same_keeps false what old new is at
 
-takes_keeps : (b : Bool) (what : ChipTask) (byte : Option ℕ) (old new : ChipState) → TakesIf b old byte new → old.stage ≡ Busy what → KeepsTask what old new
-takes_keeps true what byte old new (takes, rest) at = rest_keeps what old new rest at
-takes_keeps false what byte old new (none, is) at = same_keeps what old new is at
+read_keeps : (b : Bool) (what : ChipTask) (value : ℕ) (old new : ChipState) → ReadsIf b old value new → old.stage ≡ Busy what → KeepsTask false what old new
+read_keeps true what value old new reads at = keeps_as false what old old new (Takes reads.byte reads.takes) reads.rest at refl
+read_keeps false what value old new (none, is) at = same_keeps false what old new is at
 
-gives_keeps : (b : Bool) (what : ChipTask) (byte : ℕ) (was : Bool) (old new : ChipState) → GivesChipIf b byte old was new → old.stage ≡ Busy what → KeepsTask what old new
-gives_keeps true what byte was old new (gives, rest) at = given_keeps was what old new rest at
-gives_keeps false what byte was old new (none, is) at = same_keeps what old new is at
+write_keeps : (b : Bool) (what : ChipTask) (value : ℕ) (old new : ChipState) → GivesIf b value old new → old.stage ≡ Busy what → KeepsTask false what old new
+write_keeps true what value old new gives at = keeps_as false what old (given_one gives.was old) new (Gives value gives.was gives.gives) gives.rest at refl
+write_keeps false what value old new is at = same_keeps false what old new is at
 
-read_keeps : (b : Bool) (what : ChipTask) (value : ℕ) (old new : ChipState) → ReadsIf b old value new → old.stage ≡ Busy what → KeepsTask what old new
-read_keeps true what value old new reads at = rest_keeps what old new reads.rest at
-read_keeps false what value old new (none, is) at = same_keeps what old new is at
+-- a strap is set
+strapped_rest : (set new : ChipState) → new ≡ set → new ≡ with_front new.front set
+strapped_rest set new is = is ∙ ap (λ (front : Front). with_front front set) (sym (ap (λ (chip : ChipState). chip.front) is))
 
-write_keeps : (b : Bool) (what : ChipTask) (value : ℕ) (old new : ChipState) → GivesIf b value old new → old.stage ≡ Busy what → KeepsTask what old new
-write_keeps true what value old new gives at = given_keeps gives.was what old new gives.rest at
-write_keeps false what value old new is at = same_keeps what old new is at
+-- the terminal count
+counted_front : (b : Bool) (old set new : ChipState) → set.front ≡ old.front → new ≡ counted_if b set → Makes false old.front new.front
+counted_front true old set new same is = Counts (ap (λ (chip : ChipState). chip.front) is ∙ ap told_front same)
+counted_front false old set new same is = Same (ap (λ (chip : ChipState). chip.front) is ∙ same)
 
-counted_sent : (b : Bool) (old new : ChipState) → new ≡ counted_if b old → old.stage ≡ Busy task.Sent → KeepsTask task.Sent old new
-counted_sent true old new is at = keeps_as task.Sent old new (ap (λ (chip : ChipState). chip.stage) is ∙ at) (ap (λ (chip : ChipState). chip.order) is)
-counted_sent false old new is at = same_keeps task.Sent old new is at
+counted_track : (b : Bool) (track : Track) (old new : ChipState) → new ≡ counted_if b (record old { stage = Busy (task.Track (record track { counted = true })) }) → KeepsTask false (task.Track track) old new
+counted_track b track old new is =
+    let set : ChipState = record old { stage = Busy (task.Track (record track { counted = true })) } in
+    record { stage = (true, (by_count b is).0); order = (by_count b is).1; front = counted_front b old set new refl is }
+  where
+    by_count : (b : Bool) → new ≡ counted_if b (record old { stage = Busy (task.Track (record track { counted = true })) }) → (new.stage ≡ Busy (task.Track (record track { counted = true }))) × (new.order ≡ old.order)
+    by_count true is = (ap (λ (chip : ChipState). chip.stage) is, ap (λ (chip : ChipState). chip.order) is)
+    by_count false is = (ap (λ (chip : ChipState). chip.stage) is, ap (λ (chip : ChipState). chip.order) is)
 
-counted_track : (b : Bool) (track : Track) (old new : ChipState) → new ≡ counted_if b (record old { stage = Busy (task.Track (record track { counted = true })) }) → KeepsTask (task.Track track) old new
-counted_track true track old new is = record { stage = (record track { counted = true }, ap (λ (chip : ChipState). chip.stage) is); order = ap (λ (chip : ChipState). chip.order) is }
-counted_track false track old new is = record { stage = (record track { counted = true }, ap (λ (chip : ChipState). chip.stage) is); order = ap (λ (chip : ChipState). chip.order) is }
-
-counts_keeps : (what : ChipTask) (old new : ChipState) → new ≡ count_told (Busy what) old → old.stage ≡ Busy what → KeepsTask what old new
-counts_keeps task.Sent old new is at = counted_sent true old new is at
-counts_keeps (task.Sought first) old new is at = same_keeps (task.Sought first) old new is at
-counts_keeps (task.Refused unit key mfm) old new is at = same_keeps (task.Refused unit key mfm) old new is at
-counts_keeps (task.Verify left) old new is at = same_keeps (task.Verify left) old new is at
+counts_keeps : (what : ChipTask) (old new : ChipState) → new ≡ count_told (Busy what) old → old.stage ≡ Busy what → KeepsTask false what old new
+counts_keeps task.Sent old new is at = record { stage = ap (λ (chip : ChipState). chip.stage) is ∙ at; order = ap (λ (chip : ChipState). chip.order) is; front = counted_front true old old new refl is }
 counts_keeps (task.Track track) old new is at = counted_track (is_data track.place) track old new is
+counts_keeps what old new is at = same_keeps false what old new is at
 
-other_write : (port value : ℕ) (what : ChipTask) (old new : ChipState) → (port == 0x3F5) ≡ false → resets port (value_behind port value) ≡ false → WritesChip port value old new → old.stage ≡ Busy what → KeepsTask what old new
+other_write : (port value : ℕ) (what : ChipTask) (old new : ChipState) → (port == 0x3F5) ≡ false → resets port (value_behind port value) ≡ false → WritesChip port value old new → old.stage ≡ Busy what → KeepsTask false what old new
 other_write port value what old new no_data quiet writes at =
-    let is : new ≡ with_front new.front (latched_by port value old) =
-    subst (λ b. new ≡ with_front new.front (reset_if b (latched_by port value old))) quiet (writes.others no_data).1 in
-    keeps_as what old new (ap (λ (chip : ChipState). chip.stage) is ∙ at) (ap (λ (chip : ChipState). chip.order) is)
+    let (front, rest) = writes.others no_data in
+    let set = latched_by port value old in
+    keeps_as false what old set new (Writes port (value_behind port value) front no_data quiet) (subst (λ b. new ≡ with_front new.front (reset_if b set)) quiet rest) at refl
 
-pub call_keeps : (call : Call) (what : ChipTask) (old new : ChipState) → Does call old new → old.stage ≡ Busy what → is_step call ≡ false → is_reset call ≡ false → KeepsTask what old new
+pub call_keeps : (call : Call) (what : ChipTask) (old new : ChipState) → Does call old new → old.stage ≡ Busy what → is_step call ≡ false → is_reset call ≡ false → KeepsTask (is_change call) what old new
 call_keeps made.Steps what old new does at other quiet = absurd (false≢true (sym other))
 call_keeps (made.Takes byte) what old new does at other quiet = takes_keeps (passes_by_channel old) what byte old new does at
 call_keeps (made.Gives byte was) what old new does at other quiet = gives_keeps (passes_by_channel old) what byte was old new does at
 call_keeps made.Counts what old new does at other quiet = counts_keeps what old new (subst (λ stage. new ≡ count_told stage old) at does) at
 call_keeps (made.Reads port value) what old new does at other quiet = either_way (port == 0x3F5)
     (λ here. read_keeps (passes_by_port old) what value old new (subst (λ stage. ReadsAt stage old value new) at (does.byte (eqb-true port 0x3F5 here))) at)
-    (λ no_data. same_keeps what old new (other_read port value old new no_data does) at)
+    (λ no_data. same_keeps false what old new (other_read port value old new no_data does) at)
 call_keeps (made.Writes port value) what old new does at other quiet = either_way (port == 0x3F5)
     (λ here. write_keeps (passes_by_port old) what value old new (subst (λ stage. TakesByte stage value old new) at (does.bytes (eqb-true port 0x3F5 here))) at)
     (λ no_data. other_write port value what old new no_data quiet does at)
-call_keeps made.Changes what old new does at other quiet = rest_keeps what old new does.rest at
-call_keeps (made.Straps on) what old new does at other quiet = keeps_as what old new (ap (λ (chip : ChipState). chip.stage) does ∙ at) (ap (λ (chip : ChipState). chip.order) does)
-call_keeps (made.StrapsSteps on) what old new does at other quiet = keeps_as what old new (ap (λ (chip : ChipState). chip.stage) does ∙ at) (ap (λ (chip : ChipState). chip.order) does)
+call_keeps made.Changes what old new does at other quiet = keeps_as true what old old new (Changes refl does.front) does.rest at refl
+call_keeps (made.Straps on) what old new does at other quiet = keeps_as false what old (record old { strapped = on }) new (Same (ap (λ (chip : ChipState). chip.front) does)) (strapped_rest (record old { strapped = on }) new does) at refl
+call_keeps (made.StrapsSteps on) what old new does at other quiet = keeps_as false what old (record old { paced = on }) new (Same (ap (λ (chip : ChipState). chip.front) does)) (strapped_rest (record old { paced = on }) new does) at refl
 
 -- ---- a call after which a command is under way doesn't reset
 
@@ -110,11 +134,7 @@ works_quiet (made.Writes port value) old new does works = either_way (port == 0x
     (λ no_data. either_way (resets port (value_behind port value))
     (λ anew. absurd (reset_over (resets port (value_behind port value)) (latched_by port value old) new (does.others no_data).1 anew works))
     (λ quiet. quiet))
-works_quiet made.Steps old new does works = refl
-works_quiet (made.Takes byte) old new does works = refl
-works_quiet (made.Gives byte was) old new does works = refl
-works_quiet made.Counts old new does works = refl
-works_quiet (made.Reads port value) old new does works = refl
-works_quiet made.Changes old new does works = refl
-works_quiet (made.Straps on) old new does works = refl
-works_quiet (made.StrapsSteps on) old new does works = refl
+works_quiet _ old new does works = refl
+
+pub call_stays : (call : Call) (what : ChipTask) (old new : ChipState) → Does call old new → old.stage ≡ Busy what → is_step call ≡ false → has_command new.stage ≡ true → KeepsTask (is_change call) what old new
+call_stays call what old new does at other works = call_keeps call what old new does at other (works_quiet call old new does works)

@@ -7,18 +7,12 @@ use Rattle.fdc_chip.specs.Paces.{EndsAt, GoesOnIf, Paces, PulsesIf, is_due, is_o
 use Rattle.fdc_chip.specs.declared.pace.PacedSeek.{PacedSeek}
 
 pub poll_told : (pace : Option PacedSeek) (drive : ℕ) → drive < 4 → is_told pace (0xC0 + drive) ≡ true
-poll_told pace zero few = refl
-poll_told pace (suc zero) few = refl
-poll_told pace (suc (suc zero)) few = refl
-poll_told pace (suc (suc (suc zero))) few = refl
 poll_told pace (suc (suc (suc (suc drive)))) few = absurd (omega arith)
+poll_told pace _ few = refl
 
 pub pulse_untold : (pace : PacedSeek) (drive : ℕ) → drive < 4 → is_told (Some pace) (0x20 + drive) ≡ false
-pulse_untold pace zero few = refl
-pulse_untold pace (suc zero) few = refl
-pulse_untold pace (suc (suc zero)) few = refl
-pulse_untold pace (suc (suc (suc zero))) few = refl
 pulse_untold pace (suc (suc (suc (suc drive)))) few = absurd (omega arith)
+pulse_untold pace _ few = refl
 
 -- ---- results
 

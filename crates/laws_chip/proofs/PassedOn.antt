@@ -1,18 +1,21 @@
 -- While the sequencer serves the command that was sent, each call of the chip is the sequencer's.
-use Rattle.std.proofs.Common.{◌≡◌, ℕ, ◌+◌, Bool, true, false, ◌==◌, Option, List, [], ◌∷◌, ◌++◌, bit_and, refl, sym, ◌∙◌, ap, subst}
+use Rattle.std.proofs.Common.{◌≡◌, ℕ, ◌+◌, Bool, true, false, ◌==◌, Option, Some, None, List, [], ◌∷◌, ◌++◌, refl, sym, ◌∙◌, ap, subst}
+use Rattle.std.specs.Option.{option_map}
 use Rattle.std.proofs.lemmas.Bool.{and_from, and_left, and_right, eqb-true, false≢true}
 use Rattle.fdc_commands.specs.declared.results.Results.{Results}
 use Rattle.fdc_core.specs.Ports.{resets}
-use Rattle.fdc_sequencer.specs.Fronts.{Front, told_front}
+use Rattle.fdc_core.specs.declared.controller.Fdc.{Fdc}
+use Rattle.fdc_sequencer.specs.Fronts.{Front, results_at, results_outside, results_taken, told_front}
 use Rattle.fdc_sequencer.specs.Moves.{StepsFront}
-use Rattle.laws_sequencer.specs.Calls as behind
-use Rattle.laws_sequencer.specs.Lasting as lasting
-use Rattle.laws_sequencer.specs.Lasting.{is_under_way}
-use Rattle.laws_sequencer.proofs.Called.{both_within}
-use Rattle.laws_sequencer.proofs.Sectors.{steps_both}
-use Rattle.laws_sequencer.proofs.Shown.{none_shown}
+use Rattle.fdc_sequencer.specs.declared.stage.FrontStage.{FrontStage}
+use Rattle.fdc_sequencer.specs.declared.stage.FrontStage.TheVariants as stage
+use Rattle.laws_chip.specs.SectorCalls as behind
+use Rattle.laws_chip.specs.SectorLasting as lasting
+use Rattle.laws_chip.specs.SectorLasting.{is_under_way}
+use Rattle.laws_chip.proofs.Called.{both_within}
+use Rattle.laws_chip.proofs.Sectors.{steps_both}
 use Rattle.fdc_chip.specs.Chips.{ChipState, passes_by_channel, passes_by_port, with_front}
-use Rattle.fdc_chip.specs.Ending.{EndsIf, EndsSent, has_results, looks_for_cylinder, results_taken, results_judged}
+use Rattle.fdc_chip.specs.Ending.{EndsAs, EndsSent, judged, looks_for_cylinder, results_judged}
 use Rattle.fdc_chip.specs.Ports.{GivesChipIf, GivesIf, ReadsAt, ReadsChip, ReadsIf, TakesByte, TakesIf, WritesChip, count_told, latched_by, given_one, reset_if, value_behind}
 use Rattle.fdc_chip.specs.Steps.{Follows, StepsChip}
 use Rattle.fdc_chip.specs.declared.stage.ChipStage.{ChipStage}
@@ -20,7 +23,7 @@ use Rattle.fdc_chip.specs.declared.stage.ChipStage.TheVariants.{Busy}
 use Rattle.fdc_chip.specs.declared.stage.ChipTask.TheVariants.{Sent}
 use Rattle.laws_chip.specs.Calls as made
 use Rattle.laws_chip.specs.Calls.{AreServed, ArePassedOn, Call, Does, IsPassedOn, IsServing, Makes, MakesRead, MakesWrite, is_data_access, is_reset, is_step, only_if, steps_of}
-use Rattle.laws_chip.proofs.UnderWay.{counts_under, either_way, gives_under, ignored_write, not_through, reads_same, same_under, takes_under, writes_under}
+use Rattle.laws_chip.proofs.UnderWay.{counts_under, either_way, gives_under, ignored_write, not_through, same_under, takes_under, writes_under}
 
 -- ---- a device step
 
@@ -33,29 +36,38 @@ taken_over : (b : Bool) (results : Results) (old new : ChipState) → EndsSent b
 taken_over true results old new (sends, rest) sent = false≢true (sym (ap (λ (chip : ChipState). is_sent chip.stage) rest) ∙ ap is_sent sent)
 taken_over false results old new is sent = false≢true (sym (ap (λ (chip : ChipState). is_sent chip.stage) is) ∙ ap is_sent sent)
 
+ends_sent : (found : Option Results) (old new : ChipState) → new.stage ≡ Busy Sent → EndsAs found Sent old new → (found ≡ None) × (new ≡ old)
+ends_sent None old new still is = (refl, is)
+ends_sent (Some results) old new still ends = absurd (taken_over (looks_for_cylinder old.order results) results (with_front (results_taken old.front) old) new ends still)
+
+step_sent : (old new : ChipState) (step : StepsChip old new) → old.stage ≡ Busy Sent → EndsAs (results_judged (with_front step.between old)) Sent (with_front step.between old) new
+step_sent old new step sent = subst (λ stage. Follows stage (with_front step.between old) new) sent step.follows
+
 -- while the command is still served, the chip has changed only in its front
 pub step_same : (old new : ChipState) (step : StepsChip old new) → old.stage ≡ Busy Sent → new.stage ≡ Busy Sent → new ≡ with_front step.between old
-step_same old new step sent still = by_end (has_results step.between) (subst (λ stage. Follows stage (with_front step.between old) new) sent step.follows)
-  where
-    by_end : (b : Bool) → EndsIf b Sent (with_front step.between old) new → new ≡ with_front step.between old
-    by_end true ends =
-        absurd (taken_over (looks_for_cylinder old.order (results_judged (with_front step.between old))) (results_judged (with_front step.between old)) (with_front (results_taken step.between) old) new ends still)
-    by_end false is = is
+step_same old new step sent still = (ends_sent (results_judged (with_front step.between old)) (with_front step.between old) new still (step_sent old new step sent)).1
 
 -- while the command is still served, no results wait
-pub no_results : (old new : ChipState) (step : StepsChip old new) → old.stage ≡ Busy Sent → new.stage ≡ Busy Sent → has_results step.between ≡ true → ⊥
-no_results old new step sent still shown =
-    taken_over (looks_for_cylinder old.order (results_judged (with_front step.between old))) (results_judged (with_front step.between old)) (with_front (results_taken step.between) old) new
-    (subst (λ b. EndsIf b Sent (with_front step.between old) new) shown (subst (λ stage. Follows stage (with_front step.between old) new) sent step.follows)) still
+pub no_results : (old new : ChipState) (step : StepsChip old new) → old.stage ≡ Busy Sent → new.stage ≡ Busy Sent → (results : Results) → results_outside step.between ≡ Some results → ⊥
+no_results old new step sent still results shown =
+    let set = with_front step.between old in
+    let none = (ends_sent (results_judged set) set new still (step_sent old new step sent)).0 in
+    absurd (cc none)
+
+none_at : (at : FrontStage) (fdc : Fdc) → is_under_way at ≡ true → results_at at fdc ≡ None
+none_at stage.Through fdc under = absurd (false≢true under)
+none_at (stage.Telling results) fdc under = absurd (false≢true under)
+none_at (stage.Seeking transfer counted) fdc under = refl
+none_at (stage.Moving moving) fdc under = refl
 
 -- while a command is under way no results wait
-pub none_wait : (front : Front) → is_under_way front.stage ≡ true → has_results front ≡ false
-none_wait front under = none_shown front under
+pub none_wait : (front : Front) → is_under_way front.stage ≡ true → results_outside front ≡ None
+none_wait front under = none_at front.stage front.adapter.controller under
 
 pub step_goes_on : (old new : ChipState) (step : StepsChip old new) → IsServing old → is_under_way step.between.stage ≡ true → new ≡ with_front step.between old
 step_goes_on old new step was under =
-    subst (λ b. EndsIf b Sent (with_front step.between old) new) (none_wait step.between under)
-    (subst (λ stage. Follows stage (with_front step.between old) new) was.sent step.follows)
+    let set = with_front step.between old in
+    subst (λ found. EndsAs (option_map (judged set) found) Sent set new) (none_wait step.between under) (step_sent old new step was.sent)
 
 -- ---- one call
 
@@ -92,7 +104,7 @@ read_behind port value old new was quiet is =
     record {
       calls = behind.Reads port ∷ [];
       makes = subst (λ b. MakesRead b port value (behind.Reads port ∷ [])) (sym quiet) refl;
-      within = single (behind.Reads port) old.front new.front (same ∙ sym (reads_same port old.front was.under_way)) (same_under old.front new.front same was.under_way);
+      within = single (behind.Reads port) old.front new.front same (same_under old.front new.front same was.under_way);
     }
 
 data_read : (b : Bool) (port value : ℕ) (old new : ChipState) → IsServing old → is_under_way new.front.stage ≡ true → passes_by_port old ≡ b → (port == 0x3F5) ≡ true → ReadsIf b old value new
@@ -132,7 +144,7 @@ data_write false port value old new was under passes here is =
       calls = behind.Writes port given ∷ [];
       makes = subst (λ b. MakesWrite b port value (behind.Writes port given ∷ [])) (sym (and_left (passes_by_port old) (port == 0x3F5) passes)) refl;
       within = single (behind.Writes port given) old.front new.front
-          (subst (behind.Does (behind.Writes port given) old.front) (sym same) (ignored_write port given old.front here was.under_way)) under;
+          (subst (behind.Does (behind.Writes port given) old.front) (sym same) (ignored_write port given old.front here)) under;
     }
 
 writes_on : (port value : ℕ) (old new : ChipState) → IsServing old → is_under_way new.front.stage ≡ true → WritesChip port value old new → IsPassedOn (made.Writes port value) old new

@@ -1,10 +1,10 @@
 -- The poll of a reset, in the inner controller: once it has come, it isn't to come until the next reset.
-use Rattle.std.proofs.Common.{◌≡◌, inl, inr, ℕ, ◌+◌, ◌-◌, ◌==◌, Bool, true, false, not, ◌&&◌, ◌||◌, if◌then◌else◌, [], ◌∷◌, ◌++◌, Option, Some, None, length, bit_and, refl, ◌∙◌, ap, subst}
+use Rattle.std.proofs.Common.{◌≡◌, inl, inr, ℕ, ◌+◌, ◌-◌, ◌==◌, Bool, true, false, not, ◌&&◌, if◌then◌else◌, [], Option, Some, None, length, bit_and, refl, ◌∙◌, ap, subst}
 use Rattle.std.proofs.lemmas.Bool.{eqb-true, false≢true}
 use Rattle.drive_model.specs.Drive.{DriveState, at_index}
 use Rattle.fdc_registers.specs.Fifo.{Fifo}
 use Rattle.fdc_commands.specs.Seeking.{has_ended_seek, seek_bits, sensed, with_polls, without_ended}
-use Rattle.fdc_commands.specs.Table.{answer, kept}
+use Rattle.fdc_commands.specs.Table.{answer}
 use Rattle.fdc_commands.specs.declared.bytes.Accepted.{Accepted}
 use Rattle.fdc_commands.specs.declared.bytes.Accepted.TheVariants.{More, Ready, Invalid}
 use Rattle.fdc_commands.specs.declared.command.Command.{Command}
@@ -32,7 +32,7 @@ use Rattle.fdc_core.specs.Commands.{Begins, BeginsData, Obeys, ObeysAtRest, Take
 use Rattle.fdc_core.specs.Dma.{taken_in, taken_out, told_count}
 use Rattle.fdc_core.specs.Formatting.{FormatDoes, after_laid}
 use Rattle.fdc_core.specs.Listening.{ExecutesIn, ExecutesTask, is_executing}
-use Rattle.fdc_core.specs.Ports.{Writes, WritesData, is_taking, resets}
+use Rattle.fdc_core.specs.Ports.{resets}
 use Rattle.fdc_core.specs.Reading.{after_heard, after_searched, at_stage, gone_on_reading, is_full, over_or_on, pushed}
 use Rattle.fdc_core.specs.State.{finished, is_held}
 use Rattle.fdc_core.specs.Steps.{RestsIn, polled}
@@ -43,17 +43,16 @@ use Rattle.fdc_core.specs.Writes.{WritesIn, WritesTask}
 use Rattle.fdc_core.specs.Writing.{WriteDoes, after_next, without_byte}
 use Rattle.fdc_core.specs.declared.controller.Fdc.{Fdc}
 use Rattle.fdc_core.specs.declared.controller.Lines.{Lines}
-use Rattle.fdc_adapter.specs.Adapters.{AdapterState, Gives, StepsAdapter, Takes, lines_at, selected_at}
-use Rattle.fdc_sequencer.specs.Fronts.{BeginsSector, CollectsAs, Front, GivesAt, GivesFront, GivesMoving, PassesAs, Starts, StartsIf, TakesAt, TakesByte, TakesFront, TakesMoving, WritesFront, after_reading, begins_with, begun_if, byte_given, count_told, implies_seeks, told_front, told_if, with_controller}
+use Rattle.fdc_sequencer.specs.Adapters.{AdapterState, Gives, StepsAdapter, Takes, lines_at, selected_at}
+use Rattle.fdc_sequencer.specs.Fronts.{BeginsSector, Front, GivesAt, GivesFront, GivesMoving, StartsIf, TakesAt, TakesFront, TakesMoving, WritesFront, begun_if, count_told, told_front, told_if, with_controller, CommandsIf, GivesCommand, GivesTransfer, TransfersIf, is_ready, results_taken, taken_at}
 use Rattle.fdc_sequencer.specs.Moves.{EndsIf, EndsSector, FollowsStep, MovesOn, SeeksOn, StepsFront, goes_on, has_met_other, is_unwanted, judged_if, passed_over_if}
-use Rattle.fdc_sequencer.specs.Transfers.{command_of, next_of, transfer_of}
-use Rattle.fdc_sequencer.specs.declared.opcode.Opcode.{Opcode}
+use Rattle.fdc_sequencer.specs.Transfers.{command_of, next_of}
 use Rattle.fdc_sequencer.specs.declared.stage.Moving.{Moving as MovingSector}
 use Rattle.fdc_sequencer.specs.declared.stage.FrontStage.{FrontStage}
-use Rattle.fdc_sequencer.specs.declared.stage.FrontStage.TheVariants.{Through, Collecting, Seeking, Moving, Telling}
+use Rattle.fdc_sequencer.specs.declared.stage.FrontStage.TheVariants.{Through, Seeking, Moving, Telling}
 use Rattle.fdc_sequencer.specs.declared.transfer.Transfer.{Transfer}
-use Rattle.laws_sequencer.proofs.Known.{which_drive}
-use Rattle.laws_sequencer.proofs.Resting.{polled_phase}
+use Rattle.laws_chip.proofs.Known.{which_drive}
+use Rattle.laws_chip.proofs.Resting.{polled_phase}
 use Rattle.laws_chip.proofs.Channels.{port_left}
 use Rattle.laws_chip.proofs.UnderWay.{either_way}
 
@@ -84,18 +83,14 @@ still_false true was none = none
 still_false false was none = refl
 
 rest_poll : (command : Command) (lines : Lines) (old new : Fdc) → ObeysAtRest command lines old new → due old ≡ false → due new ≡ false
-rest_poll (command.Specify srt_hut hlt_nd) lines old new is none = ap due is ∙ none
-rest_poll (command.SenseDrive head_drive) lines old new is none = ap due is ∙ none
-rest_poll (command.Recalibrate drive) lines old new is none = ap due is ∙ none
 rest_poll command.SenseInterrupt lines old new is none = ap due is ∙ (sensing_poll (sensed old.seeks) old ∙ none)
-rest_poll (command.Seek head_drive target) lines old new is none = ap due is ∙ none
-rest_poll command.Version lines old new is none = ap due is ∙ none
 rest_poll (command.Configure zero options precompensation) lines old new is none = ap due is ∙ still_false (bit_and options 0x10 == 0) old.poll_due none
 rest_poll (command.ReadId head_drive) lines old new begins none = begins_poll (command.ReadId head_drive) old new begins none
 rest_poll (command.ReadData head_drive key last_sector gap length) lines old new begins none = begins_poll (command.ReadData head_drive key last_sector gap length) old new begins none
 rest_poll (command.WriteData head_drive key last_sector gap length) lines old new begins none = begins_poll (command.WriteData head_drive key last_sector gap length) old new begins none
 rest_poll (command.WriteDeleted head_drive key last_sector gap length) lines old new begins none = begins_poll (command.WriteDeleted head_drive key last_sector gap length) old new begins none
 rest_poll (command.FormatTrack head_drive n sectors gap fill) lines old new begins none = begins_poll (command.FormatTrack head_drive n sectors gap fill) old new begins none
+rest_poll _ lines old new is none = ap due is ∙ none
 
 either_poll : (command : Command) (lines : Lines) (old new : Fdc)
     → (seek_bits old.seeks ≡ 0 → ObeysAtRest command lines old new) × ((seek_bits old.seeks == 0) ≡ false → due new ≡ due old) → due old ≡ false → due new ≡ false
@@ -105,13 +100,6 @@ either_poll command lines old new (rests, moves) none = either_way (seek_bits ol
 
 obeys_poll : (command : Command) (lines : Lines) (old new : Fdc) → Obeys command lines old new → due old ≡ false → due new ≡ false
 obeys_poll command.SenseInterrupt lines old new is none = ap due is ∙ (sensing_poll (sensed old.seeks) old ∙ none)
-obeys_poll (command.Specify srt_hut hlt_nd) lines old new (rests, moves) none = either_poll (command.Specify srt_hut hlt_nd) lines old new (rests, λ other. ap due (moves other)) none
-obeys_poll (command.SenseDrive head_drive) lines old new (rests, moves) none = either_poll (command.SenseDrive head_drive) lines old new (rests, λ other. ap due (moves other)) none
-obeys_poll (command.Recalibrate drive) lines old new (rests, moves) none = either_poll (command.Recalibrate drive) lines old new (rests, λ other. ap due (moves other)) none
-obeys_poll (command.Seek head_drive target) lines old new (rests, moves) none = either_poll (command.Seek head_drive target) lines old new (rests, λ other. ap due (moves other)) none
-obeys_poll command.Version lines old new (rests, moves) none = either_poll command.Version lines old new (rests, λ other. ap due (moves other)) none
-obeys_poll (command.Configure zero options precompensation) lines old new (rests, moves) none = either_poll (command.Configure zero options precompensation) lines old new (rests, λ other. ap due (moves other)) none
-obeys_poll (command.ReadId head_drive) lines old new (rests, moves) none = either_poll (command.ReadId head_drive) lines old new (rests, λ other. ap due (moves other)) none
 obeys_poll (command.ReadData head_drive key last_sector gap length) lines old new (rests, moves) none =
     either_poll (command.ReadData head_drive key last_sector gap length) lines old new (rests, λ other. ap due (moves other)) none
 obeys_poll (command.WriteData head_drive key last_sector gap length) lines old new (rests, moves) none =
@@ -120,28 +108,17 @@ obeys_poll (command.WriteDeleted head_drive key last_sector gap length) lines ol
     either_poll (command.WriteDeleted head_drive key last_sector gap length) lines old new (rests, λ other. ap due (moves other)) none
 obeys_poll (command.FormatTrack head_drive n sectors gap fill) lines old new (rests, moves) none =
     either_poll (command.FormatTrack head_drive n sectors gap fill) lines old new (rests, λ other. ap due (moves other)) none
+obeys_poll command lines old new (rests, moves) none = either_poll command lines old new (rests, λ other. ap due (moves other)) none
 
 accepted_poll : (accepted : Accepted) (lines : Lines) (old new : Fdc) → TakesAs accepted lines old new → due old ≡ false → due new ≡ false
-accepted_poll More lines old new is none = ap due is ∙ none
 accepted_poll (Ready command) lines old new obeys none = obeys_poll command lines old new obeys none
-accepted_poll Invalid lines old new is none = ap due is ∙ none
-
-byte_poll : (byte : ℕ) (lines : Lines) (old new : Fdc) → WritesData byte lines old new → due old ≡ false → due new ≡ false
-byte_poll byte lines old new (takes, ignores) none = either_way (is_taking old)
-    (λ taking. let bytes = old.command ++ byte ∷ [] in accepted_poll (answer bytes) lines (record old { command = kept (answer bytes) bytes }) new (takes taking) none)
-    (λ other. ap due (ignores other) ∙ none)
-
-port_poll : (port value : ℕ) (lines : Lines) (old new : Fdc) → Writes port value lines old new → resets port value ≡ false → due old ≡ false → due new ≡ false
-port_poll port value lines old new writes quiet none = either_way (port == 0x3F5)
-    (λ here. byte_poll value lines old new (writes.bytes (eqb-true port 0x3F5 here)) none)
-    (λ other. (port_left port value lines old new writes other quiet).poll ∙ none)
+accepted_poll _ lines old new is none = ap due is ∙ none
 
 -- ---- a device step of what is executed
 
 searched_poll : (head_drive steps : ℕ) (after : SearchOutcome) (old : Fdc) → due (after_searched head_drive steps after old) ≡ due old
 searched_poll head_drive steps (searched.On search) old = refl
-searched_poll head_drive steps (searched.Met key separator) old = refl
-searched_poll head_drive steps (searched.Missed ending) old = refl
+searched_poll head_drive steps _ old = refl
 
 on_poll : (head_drive steps : ℕ) (reading : Reading) (old : Fdc) → due (gone_on_reading head_drive steps reading old) ≡ due old
 on_poll head_drive steps reading old = by_ending (ending_of reading) (length old.fifo.bytes == 0)
@@ -190,22 +167,20 @@ format_poll Stopped head_drive steps formatting old before new does = ap due doe
 
 task_poll : (task : Task) (head_drive steps : ℕ) (asking : Bool) (fifo : Fifo) (index : Bool) (word : ℕ) (polls : Fdc) (before after : DriveState) (new : Fdc)
     → ExecutesTask (is_listening task) head_drive steps task index word polls new → WritesTask task head_drive steps asking fifo polls before after new → due new ≡ due polls
-task_poll (ReadId search) head_drive steps asking fifo index word polls before after new (inl (last, is)) writes = ap due is
 task_poll (ReadId search) head_drive steps asking fifo index word polls before after new (inr (few, (outcome, hears, is))) writes = ap due is ∙ searched_poll head_drive (steps + 1) outcome polls
-task_poll (Read reading) head_drive steps asking fifo index word polls before after new (inl (last, is)) writes = ap due is
 task_poll (Read reading) head_drive steps asking fifo index word polls before after new (inr (few, (outcome, hears, is))) writes = ap due is ∙ heard_poll head_drive (steps + 1) reading outcome polls
 task_poll (Write writing) head_drive steps asking fifo index word polls before after new executes writes =
     write_poll writes.step.does.time head_drive steps writing polls before new writes.step.does.does
 task_poll (Format formatting) head_drive steps asking fifo index word polls before after new executes writes =
     format_poll writes.step.does.time head_drive steps formatting polls before new writes.step.does.does
+task_poll _ head_drive steps asking fifo index word polls before after new (inl (last, is)) writes = ap due is
 
 -- with a drive
 works_poll : (phase : Phase) (track0 : Bool) (asking : Bool) (fifo : Fifo) (index : Bool) (word : ℕ) (polls : Fdc) (before after : DriveState) (new : Fdc) → RestsIn phase track0 polls new
     → ExecutesIn phase index word polls new → WritesIn phase asking fifo polls before after new → due new ≡ due polls
-works_poll Taking track0 asking fifo index word polls before after new rests executes writes = ap due rests
-works_poll (Result answer) track0 asking fifo index word polls before after new rests executes writes = ap due rests
 works_poll (Execute execution) track0 asking fifo index word polls before after new rests executes writes =
     task_poll execution.task execution.head_drive execution.steps asking fifo index word polls before after new executes writes
+works_poll _ track0 asking fifo index word polls before after new rests executes writes = ap due rests
 
 -- where no drive is selected
 write_nowhere : (head_drive steps : ℕ) (writing : Writing) (polls new : Fdc) → WritesNowhere head_drive steps writing polls new → due new ≡ due polls
@@ -217,17 +192,15 @@ format_nowhere head_drive steps formatting polls new (inl (last, is)) = ap due i
 format_nowhere head_drive steps formatting polls new (inr (few, (next, hears, is))) = ap due is ∙ laid_poll head_drive (steps + 1) formatting next polls
 
 task_nowhere : (task : Task) (head_drive steps : ℕ) (polls new : Fdc) → TaskStepsNowhere task head_drive steps polls new → due new ≡ due polls
-task_nowhere (ReadId search) head_drive steps polls new (inl (last, is)) = ap due is
 task_nowhere (ReadId search) head_drive steps polls new (inr (few, (outcome, hears, is))) = ap due is ∙ searched_poll head_drive (steps + 1) outcome polls
-task_nowhere (Read reading) head_drive steps polls new (inl (last, is)) = ap due is
 task_nowhere (Read reading) head_drive steps polls new (inr (few, (outcome, hears, is))) = ap due is ∙ heard_poll head_drive (steps + 1) reading outcome polls
 task_nowhere (Write writing) head_drive steps polls new does = write_nowhere head_drive steps writing polls new does
 task_nowhere (Format formatting) head_drive steps polls new does = format_nowhere head_drive steps formatting polls new does
+task_nowhere _ head_drive steps polls new (inl (last, is)) = ap due is
 
 alone_poll : (phase : Phase) (polls new : Fdc) → RestsIn phase false polls new → StepsNowhere phase polls new → due new ≡ due polls
-alone_poll Taking polls new rests does = ap due rests
-alone_poll (Result answer) polls new rests does = ap due rests
 alone_poll (Execute execution) polls new rests does = task_nowhere execution.task execution.head_drive execution.steps polls new does
+alone_poll _ polls new rests does = ap due rests
 
 adapter_poll : (old new : AdapterState) → StepsAdapter old new → due new.controller ≡ due (polled old.controller)
 adapter_poll old new steps =
@@ -265,7 +238,7 @@ sector_poll transfer counted passed_over old new begins none =
     ap awaits_poll begins.begun ∙ (begun_poll (is_executing begins.between.controller.phase) transfer counted passed_over begins.between old
     ∙ accepted_poll (looked_at (Ready (command_of transfer))) (lines_at old.adapter) (record old.adapter.controller { command = [] }) begins.between.controller begins.takes.takes none)
 
--- ---- bytes of a command
+-- ---- commands and results
 
 starts_by : (seeks : Bool) (transfer : Transfer) (old new : Front) → StartsIf seeks transfer old new → awaits_poll old ≡ false → awaits_poll new ≡ false
 starts_by true transfer old new begins none =
@@ -273,44 +246,40 @@ starts_by true transfer old new begins none =
     ∙ accepted_poll (looked_at (Ready (command.Seek transfer.head_drive transfer.key.c))) (lines_at old.adapter) (record old.adapter.controller { command = [] }) begins.between.controller begins.takes.takes none
 starts_by false transfer old new begins none = sector_poll transfer false false old new begins none
 
-starts_poll : (transfer : Option Transfer) (old new : Front) → Starts transfer old new → awaits_poll old ≡ false → awaits_poll new ≡ false
-starts_poll None old new is none = ap awaits_poll is ∙ none
-starts_poll (Some transfer) old new starts none = starts_by transfer.seeks transfer old new starts none
+transfer_by : (ready : Bool) (transfer : Transfer) (old new : Front) → TransfersIf ready transfer old new → awaits_poll old ≡ false → awaits_poll new ≡ false
+transfer_by true transfer old new starts none = starts_by transfer.seeks transfer old new starts none
+transfer_by false transfer old new is none = ap awaits_poll is ∙ none
 
-collects_poll : (opcode : Opcode) (accepted : Accepted) (old new : Front) → CollectsAs opcode accepted old new → awaits_poll old ≡ false → awaits_poll new ≡ false
-collects_poll opcode More old new is none = ap awaits_poll is ∙ none
-collects_poll opcode (Ready command) old new starts none = starts_poll (transfer_of (implies_seeks old) opcode command) old new starts none
-collects_poll opcode Invalid old new refuses none =
-    ap awaits_poll refuses.after
-    ∙ accepted_poll (looked_at Invalid) (lines_at old.adapter) (record old.adapter.controller { command = [] }) refuses.between.controller refuses.takes.takes none
+command_by : (ready : Bool) (given : Command) (old new : Front) → CommandsIf ready given old new → awaits_poll old ≡ false → awaits_poll new ≡ false
+command_by true given old new commands none =
+    ap awaits_poll commands.after
+    ∙ accepted_poll (looked_at (Ready given)) (lines_at old.adapter) (record old.adapter.controller { command = [] }) commands.between.controller commands.takes.takes none
+command_by false given old new is none = ap awaits_poll is ∙ none
 
-passes_poll : (opcode : Option Opcode) (byte : ℕ) (old new : Front) → PassesAs opcode byte old new → awaits_poll old ≡ false → awaits_poll new ≡ false
-passes_poll (Some opcode) byte old new is none = ap awaits_poll is ∙ none
-passes_poll None byte old new (writes, is) none = port_poll 0x3F5 byte (lines_at old.adapter) old.adapter.controller new.adapter.controller writes.writes refl none
+-- a command of several sectors is given, or another one
+pub transfer_poll : (transfer : Transfer) (old new : Front) → GivesTransfer transfer old new → awaits_poll old ≡ false → awaits_poll new ≡ false
+transfer_poll transfer old new gives none = transfer_by (is_ready old) transfer old new gives none
 
-taken_poll : (stage : FrontStage) (byte : ℕ) (old new : Front) → TakesByte stage byte old new → awaits_poll old ≡ false → awaits_poll new ≡ false
-taken_poll Through byte old new passes none = passes_poll (begins_with byte old.adapter.controller) byte old new passes none
-taken_poll (Collecting opcode) byte old new collects none = let bytes = old.bytes ++ byte ∷ [] in
-    collects_poll opcode (answer bytes) (record old { bytes = kept (answer bytes) bytes }) new collects none
-taken_poll (Seeking transfer counted) byte old new is none = ap awaits_poll is ∙ none
-taken_poll (Moving moving) byte old new is none = ap awaits_poll is ∙ none
-taken_poll (Telling results read) byte old new is none = ap awaits_poll is ∙ none
+pub command_poll : (given : Command) (old new : Front) → GivesCommand given old new → awaits_poll old ≡ false → awaits_poll new ≡ false
+command_poll given old new gives none = command_by (is_ready old) given old new gives none
 
+-- a port is written
 pub writes_poll : (port value : ℕ) (old new : Front) → WritesFront port value old new → resets port value ≡ false → awaits_poll old ≡ false → awaits_poll new ≡ false
 writes_poll port value old new writes quiet none = either_way (port == 0x3F5)
-    (λ here. taken_poll old.stage value old new (writes.bytes (eqb-true port 0x3F5 here)) none)
-    (λ other. port_poll port value (lines_at old.adapter) old.adapter.controller new.adapter.controller (writes.others other).0.writes quiet none)
+    (λ here. ap awaits_poll (writes.bytes (eqb-true port 0x3F5 here)) ∙ none)
+    (λ other. (port_left port value (lines_at old.adapter) old.adapter.controller new.adapter.controller (writes.others other).0.writes other quiet).poll ∙ none)
 
-given_poll : (stage : FrontStage) (old : Front) → awaits_poll (byte_given stage old) ≡ awaits_poll old
-given_poll Through old = refl
-given_poll (Collecting opcode) old = refl
-given_poll (Seeking transfer counted) old = refl
-given_poll (Moving moving) old = refl
-given_poll (Telling results read) old = refl
+given_up_poll : (ending : Option Ending) (old : Fdc) → due (given_up_if ending old) ≡ due old
+given_up_poll None old = refl
+given_up_poll (Some ending) old = refl
 
--- the data port is read
-pub read_poll : (old : Front) → awaits_poll (after_reading 0x3F5 old) ≡ awaits_poll old
-read_poll old = given_poll old.stage old
+taken_poll : (stage : FrontStage) (old : Front) → awaits_poll (taken_at stage old) ≡ awaits_poll old
+taken_poll Through old = given_up_poll (ending_told old.adapter.controller) old.adapter.controller
+taken_poll _ old = refl
+
+-- results are taken
+pub results_poll : (old : Front) → awaits_poll (results_taken old) ≡ awaits_poll old
+results_poll old = taken_poll old.stage old
 
 -- ---- the channel
 
@@ -337,30 +306,23 @@ moving_gives moving byte old false new (quiet, is) = ap awaits_poll is
 
 takes_at : (stage : FrontStage) (old : Front) (byte : Option ℕ) (new : Front) → TakesAt stage old byte new → awaits_poll new ≡ awaits_poll old
 takes_at Through old byte new (takes, is) = out_poll old.adapter.controller byte new.adapter.controller takes
-takes_at (Collecting opcode) old byte new (none, is) = ap awaits_poll is
-takes_at (Seeking transfer counted) old byte new (none, is) = ap awaits_poll is
 takes_at (Moving moving) old byte new takes = moving_takes moving old byte new takes
-takes_at (Telling results read) old byte new (none, is) = ap awaits_poll is
+takes_at _ old byte new (none, is) = ap awaits_poll is
 
 pub takes_poll : (old : Front) (byte : Option ℕ) (new : Front) → TakesFront old byte new → awaits_poll new ≡ awaits_poll old
 takes_poll old byte new takes = takes_at old.stage old byte new takes
 
 gives_at : (stage : FrontStage) (byte : ℕ) (old : Front) (was : Bool) (new : Front) → GivesAt stage byte old was new → awaits_poll new ≡ awaits_poll old
 gives_at Through byte old was new (gives, is) = in_poll byte old.adapter.controller was new.adapter.controller gives
-gives_at (Collecting opcode) byte old was new (none, is) = ap awaits_poll is
-gives_at (Seeking transfer counted) byte old was new (none, is) = ap awaits_poll is
 gives_at (Moving moving) byte old was new gives = moving_gives moving byte old was new gives
-gives_at (Telling results read) byte old was new (none, is) = ap awaits_poll is
+gives_at _ byte old was new (none, is) = ap awaits_poll is
 
 pub gives_poll : (byte : ℕ) (old : Front) (was : Bool) (new : Front) → GivesFront byte old was new → awaits_poll new ≡ awaits_poll old
 gives_poll byte old was new gives = gives_at old.stage byte old was new gives
 
 counted_poll : (stage : FrontStage) (old : Front) → awaits_poll (count_told stage old) ≡ awaits_poll old
 counted_poll Through old = refl
-counted_poll (Collecting opcode) old = refl
-counted_poll (Seeking transfer counted) old = refl
-counted_poll (Moving moving) old = refl
-counted_poll (Telling results read) old = refl
+counted_poll _ old = refl
 
 -- the terminal count comes
 pub counts_poll : (old : Front) → awaits_poll (told_front old) ≡ awaits_poll old
@@ -377,10 +339,6 @@ seeks_poll true transfer counted old new begins none =
     let fdc = old.adapter.controller in
     sector_poll transfer counted false (record old { adapter = with_controller (without_seek fdc) old.adapter }) new begins (forgotten_poll (has_ended_seek fdc.seeks) fdc ∙ none)
 seeks_poll false transfer counted old new is none = ap awaits_poll is ∙ none
-
-given_up_poll : (ending : Option Ending) (old : Fdc) → due (given_up_if ending old) ≡ due old
-given_up_poll None old = refl
-given_up_poll (Some ending) old = refl
 
 done_poll : (goes : Bool) (moving : MovingSector) (deleted : Bool) (old new : Front) → EndsIf goes moving deleted old new → awaits_poll old ≡ false → awaits_poll new ≡ false
 done_poll true moving deleted old new begins none = sector_poll (next_of moving.transfer) false (has_met_other moving deleted) old new begins none
@@ -401,11 +359,9 @@ moves_poll mark (Some ending) moving old new ends none =
 moves_poll mark None moving old new is none = ap awaits_poll is ∙ (over_poll (is_unwanted moving (mark_of old.adapter.controller)) moving old ∙ none)
 
 follows_poll : (mark : Option Bool) (stage : FrontStage) (old new : Front) → FollowsStep mark stage old new → awaits_poll old ≡ false → awaits_poll new ≡ false
-follows_poll mark Through old new is none = ap awaits_poll is ∙ none
-follows_poll mark (Collecting opcode) old new is none = ap awaits_poll is ∙ none
 follows_poll mark (Seeking transfer counted) old new seeks none = seeks_poll (has_ended_seek old.adapter.controller.seeks) transfer counted old new seeks none
 follows_poll mark (Moving moving) old new moves none = moves_poll mark (judged_if moving (ending_told old.adapter.controller)) moving old new moves none
-follows_poll mark (Telling results read) old new is none = ap awaits_poll is ∙ none
+follows_poll mark _ old new is none = ap awaits_poll is ∙ none
 
 -- the poll has come after a device step, if it came before or DOR doesn't hold the controller in reset
 pub step_poll : (old new : Front) → StepsFront old new → (awaits_poll old && not (is_held old.adapter.controller)) ≡ awaits_poll old → awaits_poll new ≡ false

@@ -1,48 +1,49 @@
 -- The poll of a reset, through each call of a chip: once it has come, it isn't to come until the next reset.
-use Rattle.std.proofs.Common.{◌≡◌, ℕ, zero, suc, ◌*◌, ◌%◌, ◌==◌, Bool, true, false, not, ◌&&◌, if◌then◌else◌, List, [], ◌∷◌, Option, Some, None, bit_and, refl, sym, ◌∙◌, ap}
+use Rattle.std.proofs.Common.{◌≡◌, ℕ, zero, suc, ◌*◌, ◌%◌, ◌==◌, Bool, true, false, not, ◌&&◌, if◌then◌else◌, Option, Some, None, refl, sym, ◌∙◌, ap}
 use Rattle.std.proofs.lemmas.Bool.{eqb-true}
-use Rattle.fdc_registers.specs.St1.{missing_mark}
 use Rattle.fdc_commands.specs.Seeking.{Seeking as Seeks, pulses_within, seek_bits, sensed, with_motion}
 use Rattle.fdc_commands.specs.declared.motion.Motion.TheVariants.{Outward}
 use Rattle.fdc_commands.specs.declared.results.Results.{Results}
+use Rattle.fdc_commands.specs.declared.command.Command.{Command}
 use Rattle.fdc_core.specs.Ports.{resets}
 use Rattle.fdc_core.specs.State.{is_held}
 use Rattle.fdc_core.specs.Whole.{is_idle}
 use Rattle.fdc_core.specs.declared.controller.Fdc.{Fdc}
-use Rattle.fdc_adapter.specs.Senses.{after_result, without_result}
-use Rattle.fdc_sequencer.specs.Fronts.{Front, interrupts_outside, told_front, with_seeks}
+use Rattle.fdc_sequencer.specs.AdapterSenses.{after_result, without_result}
+use Rattle.fdc_sequencer.specs.Fronts.{Front, interrupts_outside, told_front, GivesCommand, results_taken}
 use Rattle.fdc_sequencer.specs.Senses.{pending_outside, recalibrated_at, sensed_at, sensed_outside}
 use Rattle.fdc_sequencer.specs.Transfers.{size_of}
 use Rattle.fdc_sequencer.specs.declared.stage.FrontStage.{FrontStage}
-use Rattle.fdc_sequencer.specs.declared.stage.FrontStage.TheVariants.{Through, Collecting, Seeking, Moving, Telling as FrontTelling}
+use Rattle.fdc_sequencer.specs.declared.stage.FrontStage.TheVariants.{Through}
 use Rattle.fdc_chip.specs.Chips.{ChipState, is_data, passes_by_channel, passes_by_port, with_front}
 use Rattle.fdc_chip.specs.Codes.{code_of}
-use Rattle.fdc_chip.specs.Doing.{AttendsIf, AttendsTo, Begins, BeginsReadId, FormatsIf, MovesIf, Obeys, RemembersIf, Sends, SendsOn, TransfersIf, absent_key, begun, configuring, drained, drained_by, format_bytes, identifying, implies, implying, is_moving, is_size, moving, needs_heads, no_key, reading_one, relative_target, sectors_verified, sought_if, track_begun, verifying, with_keys, with_last}
-use Rattle.fdc_chip.specs.Ending.{Ends, EndsAddress, EndsAddressIf, EndsAt, EndsData, EndsIf, EndsIndex, EndsSent, MayEnd, behind_one, behind_six, behind_three, has_results, is_over as is_over_track, looks_for_cylinder, results_taken, unit_of, verified, without_one, results_judged}
+use Rattle.fdc_chip.specs.Doing.{AttendsIf, AttendsTo, Begins, BeginsReadId, FormatsIf, MovesIf, Obeys, RemembersIf, TransfersIf, absent_key, begun, configuring, drained, drained_by, identifying, implies, is_moving, is_size, moving, needs_heads, no_key, reading_one, relative_target, sectors_verified, sought_if, track_begun, verifying, with_keys, with_last, GivesOn, Opens, Refuses, configured, formatting, ready, transfer_sent}
+use Rattle.fdc_chip.specs.Ending.{MayEnd, results_judged, EndsAs}
 use Rattle.fdc_chip.specs.Paces.{EndsAt as EndsPace, GoesOnIf, Paces, PulsesIf, is_due, is_over, stepped}
 use Rattle.fdc_chip.specs.Settings.{step_words}
 use Rattle.fdc_chip.specs.Interrupts.{cylinder_of}
-use Rattle.fdc_chip.specs.Orders.{order_bytes}
 use Rattle.fdc_chip.specs.Answers.{is_of_data}
 use Rattle.fdc_chip.specs.Ports.{CollectsIf, ComesIf, GivesChipIf, GivesIf, ReadsAt, ReadsChip, ReadsIf, TakesByte, TakesIf, WritesChip, count_told, counted_if, is_whole, may_come, quieted_if, value_behind, with_next}
 use Rattle.fdc_chip.specs.Steps.{Follows, FollowsTask, StepsChip, SwallowsAs, SwallowsBy}
 use Rattle.fdc_chip.specs.declared.code.ChipOpcode.{ChipOpcode}
-use Rattle.fdc_chip.specs.declared.code.ChipOpcode.TheVariants.{ReadTrack, Specify, SenseDrive, Transfer, Recalibrate, SenseInterrupt, ReadId, FormatTrack, DumpRegisters, Seek, RelativeSeek, Version, Perpendicular, Configure, Lock, Verify}
+use Rattle.fdc_chip.specs.declared.code.ChipOpcode.TheVariants.{ReadTrack, Transfer, Recalibrate, ReadId, FormatTrack, Seek, RelativeSeek, Configure, Verify}
 use Rattle.fdc_chip.specs.declared.pace.PacedSeek.{PacedSeek}
-use Rattle.fdc_chip.specs.declared.stage.Place.{Place}
-use Rattle.fdc_chip.specs.declared.stage.Place.TheVariants.{Index, Address, Data}
 use Rattle.fdc_chip.specs.declared.stage.ChipStage.{ChipStage}
 use Rattle.fdc_chip.specs.declared.stage.ChipStage.TheVariants.{Ready, Held, Busy, Telling}
 use Rattle.fdc_chip.specs.declared.stage.ChipTask.{ChipTask}
 use Rattle.fdc_chip.specs.declared.stage.ChipTask.TheVariants as task
 use Rattle.fdc_chip.specs.declared.stage.Track.{Track}
+use Rattle.fdc_chip.specs.declared.order.Order.{Order}
 use Rattle.laws_chip.specs.Calls as made
 use Rattle.laws_chip.specs.Calls.{Call, Does, is_reset}
 use Rattle.laws_chip.proofs.PassedOn.{other_read}
 use Rattle.laws_chip.proofs.Polled.{and_true}
-use Rattle.laws_chip.proofs.PollComes.{awaits_poll, counts_poll, gives_poll, read_poll, step_poll, takes_poll, writes_poll}
+use Rattle.laws_chip.proofs.PollComes.{awaits_poll, command_poll, counts_poll, gives_poll, results_poll, step_poll, transfer_poll, takes_poll, writes_poll}
 use Rattle.laws_chip.proofs.UnderWay.{either_way}
 use Rattle.laws_chip.proofs.WholeTransfers.{kept_front}
+use Rattle.laws_chip.proofs.Silences as outcome
+use Rattle.laws_chip.proofs.Silences.{Comes, ends_come}
+use Rattle.flop_base.specs.declared.key.Chrn.{Chrn}
 
 -- whether the poll is to come
 abbrev to_come : ChipState → Bool
@@ -63,10 +64,7 @@ after_poll old = by_idle (is_idle old)
 
 sensed_poll : (stage : FrontStage) (old : Front) → awaits_poll (sensed_at stage old) ≡ awaits_poll old
 sensed_poll Through old = after_poll old.adapter.controller
-sensed_poll (Collecting opcode) old = refl
-sensed_poll (Seeking transfer counted) old = refl
-sensed_poll (Moving moving) old = refl
-sensed_poll (FrontTelling results read) old = refl
+sensed_poll _ old = refl
 
 drained_poll : (n : ℕ) (old : ChipState) → to_come (drained_by n old) ≡ to_come old
 unfolding drained_by
@@ -77,62 +75,59 @@ drained_poll (suc n) old =
 
 -- ---- a command
 
-sends_poll : (bytes : List ℕ) (old new : Front) → Sends bytes old new → awaits_poll old ≡ false → awaits_poll new ≡ false
-sends_poll [] old new is none = ap awaits_poll is ∙ none
-sends_poll (byte ∷ rest) old new (between, writes, sends) none = sends_poll rest between new sends (writes_poll 0x3F5 byte old between writes refl none)
-
-sent_poll : (bytes : List ℕ) (old new : ChipState) → SendsOn bytes old new → to_come old ≡ false → to_come new ≡ false
-sent_poll bytes old new (sends, rest) none = sends_poll bytes old.front new.front sends none
+sent_poll : (command : Command) (old new : ChipState) → GivesOn command old new → to_come old ≡ false → to_come new ≡ false
+sent_poll command old new (gives, rest) none = command_poll command old.front new.front gives none
 
 moves_poll : (paced : Bool) (goal : Option ℕ) (old new : ChipState) → MovesIf paced goal old new → to_come old ≡ false → to_come new ≡ false
 moves_poll true goal old new is none = ap to_come is ∙ none
-moves_poll false goal old new (sends, rest) none = sends_poll (moving old.order.unit goal) old.front new.front sends none
+moves_poll false goal old new gives none = sent_poll (moving old.order.unit goal) (ready old) new gives none
 
 remembers_poll : (forgotten : Bool) (old new : ChipState) → RemembersIf forgotten old new → to_come old ≡ false → to_come new ≡ false
-remembers_poll true old new (sends, rest) none = sends_poll (configuring old.settings.options old.settings.precompensation) old.front new.front sends none
+remembers_poll true old new (gives, rest) none = command_poll (configuring old.settings.options old.settings.precompensation) old.front new.front gives none
 remembers_poll false old new is none = ap to_come is ∙ none
 
-begins_poll : (what : ChipTask) (seeks : Bool) (bytes : List ℕ) (old new : ChipState) → Begins what seeks bytes old new → to_come old ≡ false → to_come new ≡ false
-begins_poll what seeks bytes old new begins none =
-    sent_poll bytes (implying seeks begins.set) new begins.sends (remembers_poll old.settings.forgotten (begun what old) begins.set begins.remembers none)
+opens_poll : (what : ChipTask) (old new : ChipState) → Opens what old new → to_come old ≡ false → to_come new ≡ false
+opens_poll what old new opens none = remembers_poll old.settings.forgotten (begun what old) new opens none
+
+begins_poll : (what : ChipTask) (command : Command) (old new : ChipState) → Begins what (GivesCommand command) old new → to_come old ≡ false → to_come new ≡ false
+begins_poll what command old new begins none = command_poll command begins.set.front new.front begins.gives (opens_poll what old begins.set begins.opens none)
+
+refuses_poll : (key : Chrn) (mfm : Bool) (old new : ChipState) → Refuses key mfm old new → to_come old ≡ false → to_come new ≡ false
+refuses_poll key mfm old new begins none = begins_poll (task.Refused old.order.unit key mfm) (identifying old.order.unit) old new begins none
 
 identifies_poll : (mfm : Bool) (old new : ChipState) → BeginsReadId mfm old new → to_come old ≡ false → to_come new ≡ false
-identifies_poll true old new begins none = begins_poll task.Sent false (identifying old.order.unit) old new begins none
-identifies_poll false old new begins none = begins_poll (task.Refused old.order.unit no_key false) false (identifying old.order.unit) old new begins none
+identifies_poll true old new begins none = begins_poll task.Sent (identifying old.order.unit) old new begins none
+identifies_poll false old new begins none = refuses_poll no_key false old new begins none
 
 formats_poll : (whole mfm : Bool) (old new : ChipState) → FormatsIf whole mfm old new → to_come old ≡ false → to_come new ≡ false
-formats_poll true mfm old new begins none = begins_poll task.Sent false (format_bytes old.order) old new begins none
-formats_poll false mfm old new begins none = begins_poll (task.Refused old.order.unit no_key mfm) false (identifying old.order.unit) old new begins none
+formats_poll true mfm old new begins none = begins_poll task.Sent (formatting old.order) old new begins none
+formats_poll false mfm old new begins none = refuses_poll no_key mfm old new begins none
 
 sought_poll : (seeks : Bool) (old : ChipState) → to_come (sought_if seeks old) ≡ to_come old
 sought_poll true old = refl
 sought_poll false old = refl
 
-transfers_poll : (whole mfm : Bool) (what : ChipTask) (bytes : List ℕ) (old new : ChipState) → TransfersIf whole mfm what bytes old new → to_come old ≡ false → to_come new ≡ false
-transfers_poll true mfm what bytes old new begins none = begins_poll what (implies old) bytes (sought_if (implies old) old) new begins (sought_poll (implies old) old ∙ none)
-transfers_poll false mfm what bytes old new begins none = begins_poll (task.Refused old.order.unit old.order.key mfm) false (identifying old.order.unit) old new begins none
+transfers_poll : (whole mfm : Bool) (what : ChipTask) (order : Order) (old new : ChipState) → TransfersIf whole mfm what order old new → to_come old ≡ false → to_come new ≡ false
+transfers_poll true mfm what order old new begins none =
+    transfer_poll (transfer_sent (implies old) order) begins.set.front new.front begins.gives
+    (opens_poll what (sought_if (implies old) old) begins.set begins.opens (sought_poll (implies old) old ∙ none))
+transfers_poll false mfm what order old new begins none = refuses_poll old.order.key mfm old new begins none
 
 obeys_poll : (code : ChipOpcode) (old new : ChipState) → Obeys code old new → to_come old ≡ false → to_come new ≡ false
-obeys_poll Specify old new is none = ap to_come is ∙ none
-obeys_poll SenseDrive old new asks none = ap to_come asks.told_is ∙ (read_poll asks.sent.front ∙ sent_poll (0x04 ∷ old.order.unit ∷ []) old asks.sent asks.sends none)
-obeys_poll SenseInterrupt old new is none = ap to_come is ∙ none
 obeys_poll Recalibrate old new moves none = moves_poll old.paced None old new moves none
 obeys_poll Seek old new moves none = moves_poll old.paced (Some old.order.key.c) old new moves none
 obeys_poll (RelativeSeek inward) old new moves none = moves_poll old.paced (Some (relative_target inward (cylinder_of old.order.unit old.interrupts) old.order.key.c)) old new moves none
-obeys_poll Version old new is none = ap to_come is ∙ none
-obeys_poll Perpendicular old new is none = ap to_come is ∙ none
-obeys_poll Configure old new (sends, rest) none = sends_poll (configuring old.order.key.c old.order.key.h) old.front new.front sends none
-obeys_poll DumpRegisters old new is none = ap to_come is ∙ none
-obeys_poll (Lock on) old new is none = ap to_come is ∙ none
+obeys_poll Configure old new gives none = sent_poll (configuring old.order.key.c old.order.key.h) (configured old) new gives none
 obeys_poll (ReadId mfm) old new begins none = identifies_poll mfm old new begins none
 obeys_poll (FormatTrack mfm) old new begins none =
     formats_poll (mfm && is_size old.order.key.c) mfm (with_keys old.order.key.h (with_last old.order.key.h old)) new begins none
-obeys_poll (Transfer mfm) old new begins none = transfers_poll (mfm && is_size old.order.key.n) mfm task.Sent (order_bytes old.order) (with_last old.order.last_sector old) new begins none
+obeys_poll (Transfer mfm) old new begins none = transfers_poll (mfm && is_size old.order.key.n) mfm task.Sent old.order (with_last old.order.last_sector old) new begins none
 obeys_poll (Verify mfm) old new begins none =
-    transfers_poll (mfm && is_size old.order.key.n) mfm (task.Verify (sectors_verified old.order * size_of old.order.key.n)) (order_bytes (verifying old.order)) (with_last old.order.last_sector old) new begins none
+    transfers_poll (mfm && is_size old.order.key.n) mfm (task.Verify (sectors_verified old.order * size_of old.order.key.n)) (verifying old.order) (with_last old.order.last_sector old) new begins none
 obeys_poll (ReadTrack mfm) old new begins none =
-    transfers_poll (mfm && is_size old.order.key.n) mfm (task.Track (track_begun (implies old) old.order)) (reading_one old.order.unit (absent_key old.order.key.c) old.order.gap old.order.length) (with_last old.order.last_sector old) new
+    transfers_poll (mfm && is_size old.order.key.n) mfm (task.Track (track_begun (implies old) old.order)) (reading_one (absent_key old.order.key.c) old.order) (with_last old.order.last_sector old) new
     begins none
+obeys_poll _ old new is none = ap to_come is ∙ none
 
 attends_by : (holds : Bool) (code : ChipOpcode) (old new : ChipState) → AttendsIf holds code old new → to_come old ≡ false → to_come new ≡ false
 attends_by true code old new is none = ap to_come is ∙ none
@@ -153,18 +148,15 @@ recalibrates_poll Through unit pulses old =
     by_free : (b : Bool) (seeks : Seeks) (fdc : Fdc) → (if b then record fdc { seeks = seeks } else fdc).poll_due ≡ fdc.poll_due
     by_free true seeks fdc = refl
     by_free false seeks fdc = refl
-recalibrates_poll (Collecting opcode) unit pulses old = refl
-recalibrates_poll (Seeking transfer counted) unit pulses old = refl
-recalibrates_poll (Moving moving) unit pulses old = refl
-recalibrates_poll (FrontTelling results read) unit pulses old = refl
+recalibrates_poll _ unit pulses old = refl
 
 over_poll : (goal : Option ℕ) (pace : PacedSeek) (old new : ChipState) → EndsPace goal pace old new → to_come old ≡ false → to_come new ≡ false
-over_poll (Some target) pace old new (sends, rest) none = sends_poll (moving pace.unit (Some target)) old.front new.front sends none
+over_poll (Some target) pace old new gives none = sent_poll (moving pace.unit (Some target)) old new gives none
 over_poll None pace old new is none = ap to_come is ∙ (recalibrates_poll old.front.stage pace.unit pace.left old.front ∙ none)
 
 pulses_poll : (over : Bool) (pace : PacedSeek) (old new : ChipState) → PulsesIf over pace old new → to_come old ≡ false → to_come new ≡ false
 pulses_poll true pace old new ends none = over_poll pace.goal pace (record old { pace = None }) new ends none
-pulses_poll false pace old new (sends, rest) none = sends_poll (moving pace.unit (Some (stepped (step_words old.settings) pace).cylinder)) old.front new.front sends none
+pulses_poll false pace old new (gives, rest) none = command_poll (moving pace.unit (Some (stepped (step_words old.settings) pace).cylinder)) old.front new.front gives none
 
 goes_poll : (due : Bool) (pace : PacedSeek) (old new : ChipState) → GoesOnIf due pace old new → to_come old ≡ false → to_come new ≡ false
 goes_poll true pace old new pulses none = pulses_poll (is_over pace) pace old new pulses none
@@ -189,61 +181,25 @@ swallows_poll zero left old now new (left_is, is) = ap awaits_poll is
 swallows_poll (suc n) left old now new (some, between, swallows, one) =
     swallows_as one.byte some one.between now new one.after ∙ (takes_poll between one.byte one.between one.takes ∙ swallows_poll n left old some between swallows)
 
--- results are read
-three_poll : (old : Front) → awaits_poll (behind_three old) ≡ awaits_poll old
-three_poll old = read_poll (behind_one (behind_one old)) ∙ (read_poll (behind_one old) ∙ read_poll old)
-
-results_poll : (old : Front) → awaits_poll (results_taken old) ≡ awaits_poll old
-results_poll old = read_poll (behind_six old) ∙ (three_poll (behind_three old) ∙ three_poll old)
-
-sent_ends : (looks : Bool) (results : Results) (old new : ChipState) → EndsSent looks results old new → to_come old ≡ false → to_come new ≡ false
-sent_ends true results old new (sends, rest) none = sends_poll (identifying (unit_of results)) old.front new.front sends none
-sent_ends false results old new is none = ap to_come is ∙ none
-
-index_poll : (missed : Bool) (track : Track) (old new : ChipState) → EndsIndex missed track old new → to_come old ≡ false → to_come new ≡ false
-index_poll true track old new is none = ap to_come is ∙ none
-index_poll false track old new (sends, rest) none = sends_poll (identifying track.unit) (with_seeks false old.front) new.front sends none
-
-met_poll : (met : Bool) (results : Results) (track : Track) (old new : ChipState) → EndsAddressIf met results track old new → to_come old ≡ false → to_come new ≡ false
-met_poll true results track old new (reads, rest) none =
+-- results are taken
+come_poll : (old new : ChipState) → Comes old new → to_come old ≡ false → to_come new ≡ false
+come_poll old new (outcome.Told results is) none = ap to_come is ∙ none
+come_poll old new (outcome.Looks what unit gives) none = sent_poll (identifying unit) (record old { stage = Busy what }) new gives none
+come_poll old new (outcome.Reads track key (reads, rest)) none =
     (ap (λ (front : Front). awaits_poll front) reads.begun ∙ ap (λ (fdc : Fdc). fdc.poll_due) reads.reads.reads.2) ∙ none
-met_poll false results track old new is none = ap to_come is ∙ none
 
-address_poll : (counted : Bool) (results : Results) (track : Track) (old new : ChipState) → EndsAddress counted results track old new → to_come old ≡ false → to_come new ≡ false
-address_poll true results track old new is none = ap to_come is ∙ none
-address_poll false results track old new ends none = met_poll ((results.st1.0 == 0) && is_size track.key.n) results track old new ends none
-
-data_poll : (over : Bool) (track : Track) (old new : ChipState) → EndsData over track old new → to_come old ≡ false → to_come new ≡ false
-data_poll true track old new is none = ap to_come is ∙ none
-data_poll false track old new (sends, rest) none = sends_poll (identifying track.unit) (with_seeks false old.front) new.front sends none
-
-place_poll : (place : Place) (track : Track) (results : Results) (old new : ChipState) → EndsAt place track results old new → to_come old ≡ false → to_come new ≡ false
-place_poll Index track results old new ends none = index_poll (not (bit_and results.st1.0 missing_mark == 0)) track old new ends none
-place_poll Address track results old new ends none = address_poll track.counted results track old new ends none
-place_poll Data track results old new ends none = let over = without_one results track in data_poll (is_over_track results over) over old new ends none
-
-ends_poll : (what : ChipTask) (results : Results) (old new : ChipState) → Ends what results old new → to_come old ≡ false → to_come new ≡ false
-ends_poll task.Sent results old new ends none = sent_ends (looks_for_cylinder old.order results) results old new ends none
-ends_poll (task.Sought first) results old new is none = ap to_come is ∙ none
-ends_poll (task.Refused unit key mfm) results old new is none = ap to_come is ∙ none
-ends_poll (task.Verify left) results old new ends none = let told = verified old.order results in sent_ends (looks_for_cylinder old.order told) told old new ends none
-ends_poll (task.Track track) results old new ends none = place_poll track.place track results old new ends none
-
-may_end_by : (waits : Bool) (what : ChipTask) (old new : ChipState) → EndsIf waits what old new → to_come old ≡ false → to_come new ≡ false
-may_end_by true what old new ends none =
-    ends_poll what (results_judged old) (with_front (results_taken old.front) old) new ends (results_poll old.front ∙ none)
-may_end_by false what old new is none = ap to_come is ∙ none
+may_end_by : (results : Option Results) (what : ChipTask) (old new : ChipState) → EndsAs results what old new → to_come old ≡ false → to_come new ≡ false
+may_end_by (Some results) what old new ends none =
+    let set = with_front (results_taken old.front) old in come_poll set new (ends_come what results set new ends) (results_poll old.front ∙ none)
+may_end_by None what old new is none = ap to_come is ∙ none
 
 may_end_poll : (what : ChipTask) (old new : ChipState) → MayEnd what old new → to_come old ≡ false → to_come new ≡ false
-may_end_poll what old new ends none = may_end_by (has_results old.front) what old new ends none
+may_end_poll what old new ends none = may_end_by (results_judged old) what old new ends none
 
 task_poll : (what : ChipTask) (old new : ChipState) → FollowsTask what old new → to_come old ≡ false → to_come new ≡ false
 task_poll (task.Verify left) old new (between, all, ends) none =
     may_end_poll (task.Verify left) between new ends (ap to_come all.after ∙ (swallows_poll 16 left old.front all.now all.front all.swallows ∙ none))
-task_poll task.Sent old new ends none = may_end_poll task.Sent old new ends none
-task_poll (task.Sought first) old new ends none = may_end_poll (task.Sought first) old new ends none
-task_poll (task.Refused unit key mfm) old new ends none = may_end_poll (task.Refused unit key mfm) old new ends none
-task_poll (task.Track track) old new ends none = may_end_poll (task.Track track) old new ends none
+task_poll what old new ends none = may_end_poll what old new ends none
 
 -- results are taken over, where INT of the inner controller is up
 over_taken : (up : Bool) (chip : ChipState) → to_come (if up then drained chip else chip) ≡ to_come chip
@@ -281,15 +237,11 @@ counted_by false old = refl
 task_counts : (what : ChipTask) (old : ChipState) → to_come (count_told (Busy what) old) ≡ to_come old
 task_counts task.Sent old = counted_by true old
 task_counts (task.Track track) old = counted_by (is_data track.place) (record old { stage = Busy (task.Track (record track { counted = true })) })
-task_counts (task.Sought first) old = refl
-task_counts (task.Refused unit key mfm) old = refl
-task_counts (task.Verify left) old = refl
+task_counts _ old = refl
 
 chip_counts : (stage : ChipStage) (old : ChipState) → to_come (count_told stage old) ≡ to_come old
-chip_counts Ready old = refl
-chip_counts Held old = refl
 chip_counts (Busy what) old = task_counts what old
-chip_counts (Telling answer read) old = refl
+chip_counts _ old = refl
 
 reads_by : (passes : Bool) (old : ChipState) (value : ℕ) (new : ChipState) → ReadsIf passes old value new → to_come new ≡ to_come old
 reads_by true old value new reads = takes_poll old.front reads.byte new.front reads.takes
@@ -300,10 +252,8 @@ quieted_poll true old = refl
 quieted_poll false old = refl
 
 reads_at : (stage : ChipStage) (old : ChipState) (value : ℕ) (new : ChipState) → ReadsAt stage old value new → to_come new ≡ to_come old
-reads_at Ready old value new reads = reads_by (passes_by_port old) old value new reads
-reads_at Held old value new reads = reads_by (passes_by_port old) old value new reads
-reads_at (Busy what) old value new reads = reads_by (passes_by_port old) old value new reads
 reads_at (Telling answer read) old value new (value_is, is) = ap to_come is ∙ quieted_poll (is_of_data answer && (read == 0)) old
+reads_at _ old value new reads = reads_by (passes_by_port old) old value new reads
 
 gives_if : (passes : Bool) (byte : ℕ) (old new : ChipState) → GivesIf passes byte old new → to_come new ≡ to_come old
 gives_if true byte old new gives = gives_poll byte old.front gives.was new.front gives.gives
@@ -319,9 +269,7 @@ comes_by false byte old new is none = ap to_come is ∙ none
 
 byte_poll : (stage : ChipStage) (byte : ℕ) (old new : ChipState) → TakesByte stage byte old new → to_come old ≡ false → to_come new ≡ false
 byte_poll Ready byte old new comes none = comes_by (may_come old) byte old new comes none
-byte_poll Held byte old new gives none = gives_if (passes_by_port old) byte old new gives ∙ none
-byte_poll (Busy what) byte old new gives none = gives_if (passes_by_port old) byte old new gives ∙ none
-byte_poll (Telling answer read) byte old new gives none = gives_if (passes_by_port old) byte old new gives ∙ none
+byte_poll _ byte old new gives none = gives_if (passes_by_port old) byte old new gives ∙ none
 
 port_poll : (port value : ℕ) (old new : ChipState) → WritesChip port value old new → resets port (value_behind port value) ≡ false → to_come old ≡ false → to_come new ≡ false
 port_poll port value old new writes quiet none = either_way (port == 0x3F5)
@@ -342,5 +290,4 @@ call_makes made.Counts old new does quiet none = ap to_come does ∙ (chip_count
 call_makes (made.Reads port value) old new does quiet none = read_chip port value old new does ∙ none
 call_makes (made.Writes port value) old new does quiet none = port_poll port value old new does quiet none
 call_makes made.Changes old new does quiet none = ap (λ (fdc : Fdc). fdc.poll_due) does.front.controller ∙ none
-call_makes (made.Straps on) old new does quiet none = ap to_come does ∙ none
-call_makes (made.StrapsSteps on) old new does quiet none = ap to_come does ∙ none
+call_makes _ old new does quiet none = ap to_come does ∙ none

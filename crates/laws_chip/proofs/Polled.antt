@@ -1,5 +1,5 @@
 -- A reset, up to the results of its poll.
-use Rattle.std.proofs.Common.{◌≡◌, ◌⊎◌, inl, inr, ℕ, zero, suc, ◌+◌, ◌<◌, Bool, true, false, not, ◌&&◌, ◌||◌, ◌==◌, if◌then◌else◌, nat_lt, Option, Some, None, List, [], ◌∷◌, refl, sym, ◌∙◌, ap, subst, arith}
+use Rattle.std.proofs.Common.{◌≡◌, ◌⊎◌, inl, inr, ℕ, suc, ◌+◌, ◌<◌, Bool, true, false, not, ◌&&◌, ◌||◌, ◌==◌, if◌then◌else◌, nat_lt, Option, Some, None, List, [], ◌∷◌, refl, sym, ◌∙◌, ap, subst, arith}
 use Rattle.std.proofs.lemmas.Bool.{and_from, and_right, false≢true, eqb-true}
 use Rattle.fdc_commands.specs.Seeking.{Seeking, is_seeking, stepped, with_polls}
 use Rattle.fdc_commands.specs.Seeking as seeking
@@ -10,32 +10,33 @@ use Rattle.fdc_core.specs.State.{is_gated, is_held}
 use Rattle.fdc_core.specs.Steps.{Rests, polled, seek_stepped}
 use Rattle.fdc_core.specs.declared.controller.Fdc.{Fdc}
 use Rattle.fdc_registers.specs.declared.drive_lines.Dor.{Dor}
-use Rattle.fdc_adapter.specs.Adapters.{AdapterState, StepsAdapter, selected_at}
+use Rattle.fdc_sequencer.specs.Adapters.{AdapterState, StepsAdapter, selected_at}
 use Rattle.fdc_sequencer.specs.Fronts.{Front, asks_outside, interrupts_at, interrupts_outside}
 use Rattle.fdc_sequencer.specs.Moves.{StepsFront}
 use Rattle.fdc_sequencer.specs.declared.stage.FrontStage.{FrontStage}
 use Rattle.fdc_sequencer.specs.declared.stage.FrontStage.TheVariants.{Through}
-use Rattle.fdc_chip.specs.Chips.{ChipState, interrupts_chip, passes, passes_at, passes_by_channel, shows_behind, with_front}
+use Rattle.fdc_chip.specs.Chips.{ChipState, interrupts_chip, passes, passes_at, shows_behind, with_front}
 use Rattle.fdc_chip.specs.Doing.{drained, drained_by, drained_one, sensing}
 use Rattle.fdc_chip.specs.Interrupts.{Interrupting, at_rest}
 use Rattle.fdc_chip.specs.Orders.{is_format, with_byte}
 use Rattle.fdc_chip.specs.Paces.{Paces}
-use Rattle.fdc_chip.specs.Ports.{ComesIf, GivesChipIf, ReadsAt, ReadsChip, TakesByte, TakesIf, WritesChip, count_told, latched_by, reset_if, value_behind}
+use Rattle.fdc_chip.specs.Ports.{ComesIf, ReadsAt, ReadsChip, TakesByte, WritesChip, latched_by, reset_if, value_behind}
 use Rattle.fdc_chip.specs.Quiet.{rests_at}
 use Rattle.fdc_chip.specs.Settings.{is_by_port}
 use Rattle.fdc_chip.specs.Steps.{Follows, StepsChip}
 use Rattle.fdc_chip.specs.declared.pace.PacedSeek.{PacedSeek}
 use Rattle.fdc_chip.specs.declared.stage.ChipStage.{ChipStage}
-use Rattle.fdc_chip.specs.declared.stage.ChipStage.TheVariants.{Ready, Held, Busy, Telling}
-use Rattle.laws_sequencer.proofs.Known.{which_drive}
+use Rattle.fdc_chip.specs.declared.stage.ChipStage.TheVariants.{Ready, Telling}
+use Rattle.laws_chip.proofs.Known.{which_drive}
 use Rattle.laws_chip.specs.Calls as made
 use Rattle.laws_chip.specs.Calls.{Call, Does, is_step}
 use Rattle.laws_chip.specs.Resets.{AwaitsPoll, HasPolls, IsFreshBehind, is_of_data_port, polls_from, telling_poll}
 use Rattle.laws_chip.specs.Sound.{IsSound}
-use Rattle.laws_chip.proofs.Channels.{front_left}
 use Rattle.laws_chip.proofs.Rests.{adapter_stays, taking_stays, through_step}
 use Rattle.laws_chip.proofs.SoundCalls.{front_anew}
-use Rattle.laws_chip.proofs.UnderWay.{either_way, port_stage}
+use Rattle.laws_chip.proofs.UnderWay.{either_way}
+use Rattle.laws_chip.proofs.HeadsKept.{KeepsHeads, call_heads}
+use Rattle.laws_chip.specs.Seeks.{waits_for_heads}
 
 -- ---- the controller in a device step
 
@@ -270,69 +271,29 @@ reset_awaits port value old new writes anew =
       behind = record { through = through; takes = is.takes; whole = is.command; seeks = is.seeks; poll = is.poll; down = is.down };
     }
 
-port_awaits : (port value : ℕ) (old new : ChipState) → AwaitsPoll old → WritesChip port value old new → (port == 0x3F5) ≡ false → resets port (value_behind port value) ≡ false → AwaitsPoll new
-port_awaits port value old new was writes no_data quiet =
-    let given = value_behind port value in
-    let (front, rest) = writes.others no_data in
-    let left = front_left port given old.front new.front front no_data quiet in
-    let set : new ≡ with_front new.front (latched_by port value old) = subst (λ b. new ≡ with_front new.front (reset_if b (latched_by port value old))) quiet rest in
-    record {
-      stage = ap (λ (chip : ChipState). chip.stage) set ∙ was.stage;
-      count = ap (λ (chip : ChipState). chip.count) set ∙ was.count;
-      results = ap (λ (chip : ChipState). chip.interrupts) set ∙ was.results;
-      unpaced = ap (λ (chip : ChipState). chip.pace) set ∙ was.unpaced;
-      behind = record {
-        through = port_stage port given old.front new.front front no_data quiet ∙ was.behind.through;
-        takes = left.phase ∙ was.behind.takes;
-        whole = left.command ∙ was.behind.whole;
-        seeks = left.seeks ∙ was.behind.seeks;
-        poll = left.poll ∙ was.behind.poll;
-        down = left.interrupt ∙ was.behind.down;
-      };
-    }
-
-same_awaits : (old new : ChipState) → new ≡ old → AwaitsPoll old → AwaitsPoll new
-same_awaits old new is was = subst AwaitsPoll (sym is) was
-
-no_channel : (chip : ChipState) → chip.stage ≡ Ready → passes_by_channel chip ≡ false
-no_channel chip at = and_right (chip.gated && not (is_by_port chip.settings)) (passes chip) (no_passes chip at)
-
-other_read : (port value : ℕ) (old new : ChipState) → ReadsChip port old value new → (port == 0x3F5) ≡ false → new ≡ old
-other_read port value old new reads no_data = either_way (port == 0x3F4)
-    (λ status. (reads.status (eqb-true port 0x3F4 status)).1)
-    (λ no_status. (reads.others no_status no_data).1)
+awaits_kept : (old new : ChipState) → KeepsHeads old new → AwaitsPoll old → AwaitsPoll new
+awaits_kept old new keeps was = record {
+  stage = keeps.stage ∙ was.stage;
+  count = keeps.count ∙ was.count;
+  results = keeps.interrupts ∙ was.results;
+  unpaced = keeps.pace ∙ was.unpaced;
+  behind = record {
+    through = keeps.through ∙ was.behind.through;
+    takes = keeps.left.phase ∙ was.behind.takes;
+    whole = keeps.left.command ∙ was.behind.whole;
+    seeks = keeps.left.seeks ∙ was.behind.seeks;
+    poll = keeps.left.poll ∙ was.behind.poll;
+    down = keeps.left.interrupt ∙ was.behind.down;
+  };
+}
 
 pub call_awaits : (call : Call) (old new : ChipState) → AwaitsPoll old → Does call old new → is_of_data_port call ≡ false → (is_step call ≡ false) ⊎ (is_held old.front.adapter.controller ≡ true) → AwaitsPoll new
 call_awaits made.Steps old new was does other (inl no_step) = absurd (false≢true (sym no_step))
 call_awaits made.Steps old new was does other (inr held) = awaits_on old new was does held
-call_awaits (made.Takes byte) old new was does other free = same_awaits old new (subst (λ b. TakesIf b old byte new) (no_channel old was.stage) does).1 was
-call_awaits (made.Gives byte given) old new was does other free = same_awaits old new (subst (λ b. GivesChipIf b byte old given new) (no_channel old was.stage) does).1 was
-call_awaits made.Counts old new was does other free = same_awaits old new (subst (λ stage. new ≡ count_told stage old) was.stage does) was
-call_awaits (made.Reads port value) old new was does other free = same_awaits old new (other_read port value old new does other) was
 call_awaits (made.Writes port value) old new was does other free = either_way (resets port (value_behind port value))
     (λ anew. reset_awaits port value old new does anew)
-    (λ quiet. port_awaits port value old new was does other quiet)
-call_awaits made.Changes old new was does other free =
-    let rest = does.rest in
-    let controller = does.front.controller in
-    record {
-      stage = ap (λ (chip : ChipState). chip.stage) rest ∙ was.stage;
-      count = ap (λ (chip : ChipState). chip.count) rest ∙ was.count;
-      results = ap (λ (chip : ChipState). chip.interrupts) rest ∙ was.results;
-      unpaced = ap (λ (chip : ChipState). chip.pace) rest ∙ was.unpaced;
-      behind = record {
-        through = does.front.stage ∙ was.behind.through;
-        takes = ap (λ (fdc : Fdc). fdc.phase) controller ∙ was.behind.takes;
-        whole = ap (λ (fdc : Fdc). fdc.command) controller ∙ was.behind.whole;
-        seeks = ap (λ (fdc : Fdc). fdc.seeks) controller ∙ was.behind.seeks;
-        poll = ap (λ (fdc : Fdc). fdc.poll_due) controller ∙ was.behind.poll;
-        down = ap (λ (fdc : Fdc). fdc.interrupt) controller ∙ was.behind.down;
-      };
-    }
-call_awaits (made.Straps on) old new was does other free =
-    subst AwaitsPoll (sym does) (record { stage = was.stage; count = was.count; results = was.results; unpaced = was.unpaced; behind = was.behind })
-call_awaits (made.StrapsSteps on) old new was does other free =
-    subst AwaitsPoll (sym does) (record { stage = was.stage; count = was.count; results = was.results; unpaced = was.unpaced; behind = was.behind })
+    (λ quiet. awaits_kept old new (call_heads (made.Writes port value) old new (ap waits_for_heads was.stage) does refl quiet other) was)
+call_awaits call old new was does other free = awaits_kept old new (call_heads call old new (ap waits_for_heads was.stage) does refl refl other) was
 
 -- ---- SENSE INTERRUPT
 
@@ -391,11 +352,8 @@ sends_sense : (drive : ℕ) (old new : ChipState) → is_held old.front.adapter.
 sends_sense drive old new free takes = let came : ComesIf true 8 (polling drive Ready old) new = rw free at takes in came
 
 senses_from : (drive : ℕ) (old : ChipState) → drive < 4 → sensing (record (polling drive Ready old) { order = with_byte 0 8 old.order }) ≡ sensing_from drive old
-senses_from zero old few = refl
-senses_from (suc zero) old few = refl
-senses_from (suc (suc zero)) old few = refl
-senses_from (suc (suc (suc zero))) old few = refl
 senses_from (suc (suc (suc (suc drive)))) old few = absurd (omega arith)
+senses_from _ old few = refl
 
 sends_at : (drive : ℕ) (old new : ChipState) → drive < 4 → is_held old.front.adapter.controller ≡ false → TakesByte Ready 8 (polling drive Ready old) new → new ≡ sensing_from drive old
 sends_at drive old new few free takes =
@@ -446,10 +404,9 @@ pub poll_steps : (first : ℕ) (stage : ChipStage) (old new : ChipState) → res
 poll_steps first Ready old new rests was step =
     let goes = front_fresh false old.front step.between step.steps was.behind refl in
     subst (HasPolls first Ready) (sym (ready_quiet old new step was.at was.unpaced (fresh_down false step.between goes.fresh))) (polls_on first Ready old step.between was goes)
-poll_steps first Held old new rests was step = absurd (false≢true rests)
-poll_steps first (Busy task) old new rests was step = absurd (false≢true rests)
 poll_steps first (Telling answer read) old new rests was step =
     let goes = front_fresh false old.front step.between step.steps was.behind refl in
     let follows : Paces old.pace (with_front step.between old) new = subst (λ stage. Follows stage (with_front step.between old) new) was.at step.follows in
     let is : new ≡ with_front step.between old = subst (λ pace. Paces pace (with_front step.between old) new) was.unpaced follows in
     subst (HasPolls first (Telling answer read)) (sym is) (polls_on first (Telling answer read) old step.between was goes)
+poll_steps first _ old new rests was step = absurd (false≢true rests)

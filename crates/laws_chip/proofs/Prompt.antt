@@ -1,5 +1,5 @@
 -- A transfer whose bytes pass in time: no byte finds the FIFO full, or is missing.
-use Rattle.std.proofs.Common.{◌≡◌, ◌⊎◌, inl, inr, ℕ, ◌+◌, ◌-◌, ◌<◌, ◌≤◌, nat_lt, nat_le, max, Bool, true, false, not, ◌&&◌, ◌||◌, ◌==◌, if◌then◌else◌, Option, Some, None, List, [], ◌∷◌, ◌++◌, length, bit_and, refl, sym, ◌∙◌, ap, subst, arith}
+use Rattle.std.proofs.Common.{◌≡◌, ◌⊎◌, inl, inr, ℕ, ◌+◌, ◌-◌, ◌<◌, ◌≤◌, nat_lt, nat_le, max, Bool, true, false, not, ◌&&◌, ◌||◌, ◌==◌, if◌then◌else◌, Option, Some, None, List, [], ◌∷◌, length, bit_and, refl, sym, ◌∙◌, ap, subst, arith}
 use Rattle.std.proofs.lemmas.Bool.{eqb-true, false≢true}
 use Rattle.std.proofs.lemmas.Bool.Decides.{nat_tests}
 use Rattle.flop_base.specs.declared.key.Chrn.{Chrn}
@@ -8,15 +8,13 @@ use Rattle.drive_model.specs.Drive.{DriveState}
 use Rattle.fdc_registers.specs.Fifo.{Fifo, emptied, low_level, room_of, wants, worth_fetching}
 use Rattle.fdc_registers.specs.St1.{overrun}
 use Rattle.fdc_commands.specs.Seeking.{has_ended_seek, seek_bits}
-use Rattle.fdc_commands.specs.Table.{kept}
-use Rattle.fdc_commands.specs.declared.bytes.Accepted.{Accepted}
 use Rattle.fdc_commands.specs.declared.bytes.Accepted.TheVariants.{Invalid, Ready}
 use Rattle.fdc_commands.specs.declared.command.Command.{Command}
 use Rattle.fdc_commands.specs.declared.command.Command.TheVariants.{ReadData, WriteData, WriteDeleted}
 use Rattle.fdc_commands.specs.declared.results.Results.{Results}
 use Rattle.fdc_stages.specs.History.{Past}
 use Rattle.fdc_stages.specs.declared.ending.Ending.{Ending}
-use Rattle.fdc_stages.specs.declared.ending.Ending.TheVariants.{Done, NoMark, NoSector, NoField, BadCheck, Overrun, NoCount, Protected, Late}
+use Rattle.fdc_stages.specs.declared.ending.Ending.TheVariants.{Done, BadCheck, Overrun, NoCount}
 use Rattle.fdc_phases.specs.Commands.{IsReadingData}
 use Rattle.fdc_phases.specs.Dma.{phase_asks, phase_told, task_asks, task_told}
 use Rattle.fdc_phases.specs.Heard.{MayReadIn, Sent}
@@ -26,7 +24,7 @@ use Rattle.fdc_phases.specs.Written.{MayWriteIn}
 use Rattle.fdc_phases.specs.declared.answers.Answer.{Answer}
 use Rattle.fdc_phases.specs.declared.answers.Answer.TheVariants.{Long, Short}
 use Rattle.fdc_phases.specs.declared.phases.Phase.{Phase}
-use Rattle.fdc_phases.specs.declared.phases.Phase.TheVariants.{Command as Taking, Execute, Result}
+use Rattle.fdc_phases.specs.declared.phases.Phase.TheVariants.{Execute, Result}
 use Rattle.fdc_phases.specs.declared.phases.Task.{Task}
 use Rattle.fdc_phases.specs.declared.phases.Task.TheVariants as task
 use Rattle.fdc_core.specs.Commands.{BeginsData, Obeys, TakesAs, answered}
@@ -40,37 +38,39 @@ use Rattle.fdc_core.specs.Waiting.{Lasts, LastsIn}
 use Rattle.fdc_core.specs.Whole.{TakesWhole, ending_told, given_up, mark_of, without_seek}
 use Rattle.fdc_core.specs.declared.controller.Fdc.{Fdc}
 use Rattle.fdc_core.specs.declared.controller.Lines.{Lines}
-use Rattle.fdc_adapter.specs.Adapters.{AdapterState, StepsAdapter, lines_at, selected_at}
+use Rattle.fdc_sequencer.specs.Adapters.{AdapterState, StepsAdapter, lines_at, selected_at}
 use Rattle.fdc_phases.specs.Answers.{st1_of}
-use Rattle.fdc_sequencer.specs.Fronts.{BeginsSector, CollectsAs, Front, GivesAt, Starts, StartsIf, TakesAt, TakesByte, WritesFront, asks_at, asks_outside, begun_if, count_told, moving_of, passed_one, told_front, told_if, with_controller}
+use Rattle.fdc_sequencer.specs.Fronts.{BeginsSector, Front, GivesAt, StartsIf, TakesAt, WritesFront, asks_at, asks_outside, begun_if, count_told, moving_of, passed_one, told_if, with_controller}
 use Rattle.fdc_sequencer.specs.Moves.{EndsIf, EndsSector, FollowsStep, MovesOn, SeeksOn, StepsFront, goes_on, has_failed_other, has_met_other, is_unwanted, judged, judged_if, passed_over_if, results_behind, results_failed, would_go_on}
 use Rattle.fdc_sequencer.specs.Transfers.{command_for, next_of, results_told, size_of}
 use Rattle.fdc_sequencer.specs.declared.opcode.Operation.{Operation}
 use Rattle.fdc_sequencer.specs.declared.opcode.Operation.TheVariants.{Read, Write}
 use Rattle.fdc_sequencer.specs.declared.stage.Moving.{Moving as MovingSector}
 use Rattle.fdc_sequencer.specs.declared.stage.FrontStage.{FrontStage}
-use Rattle.fdc_sequencer.specs.declared.stage.FrontStage.TheVariants.{Through, Collecting, Seeking, Moving, Telling}
+use Rattle.fdc_sequencer.specs.declared.stage.FrontStage.TheVariants.{Through, Seeking, Moving, Telling}
 use Rattle.fdc_sequencer.specs.declared.transfer.Transfer.{Transfer}
-use Rattle.fdc_chip.specs.Chips.{ChipState, asks_chip, interrupts_chip, passes_by_channel, passes_by_port, shows_behind, with_front}
-use Rattle.fdc_chip.specs.Ports as ports
-use Rattle.fdc_chip.specs.Ports.{GivesChipIf, GivesIf, ReadsAt, ReadsIf, TakesByte as TakesByteChip, TakesIf, latched_by, value_behind}
+use Rattle.fdc_chip.specs.Chips.{ChipState, asks_chip, interrupts_chip, passes_by_channel, passes_by_port, shows_behind}
 use Rattle.fdc_chip.specs.Steps.{StepsChip}
 use Rattle.fdc_chip.specs.declared.stage.ChipTask.TheVariants.{Sent as SentTask}
-use Rattle.laws_sequencer.specs.Lasting.{is_under_way}
-use Rattle.laws_sequencer.specs.Serving.{MayMove, ServesAt, sent_of}
-use Rattle.laws_sequencer.proofs.Free.{next_size}
-use Rattle.laws_sequencer.proofs.Known.{port_same, which_drive}
-use Rattle.laws_sequencer.proofs.Started.{size_some}
+use Rattle.laws_chip.specs.SectorLasting.{is_under_way}
+use Rattle.laws_chip.specs.Serving.{MayMove, ServesAt, sent_of}
+use Rattle.laws_chip.proofs.Free.{next_size}
+use Rattle.laws_chip.proofs.Given.{given_starts}
+use Rattle.laws_chip.proofs.Known.{port_same, which_drive}
+use Rattle.laws_chip.proofs.Started.{size_some}
 use Rattle.laws_chip.specs.Beginning.{IsBegun}
 use Rattle.laws_chip.specs.Calls as made
 use Rattle.laws_chip.specs.Calls.{Call, Does, IsServing}
 use Rattle.laws_chip.specs.InTime.{AreInTime, IsPrompt, PromptAt}
 use Rattle.laws_chip.specs.Sound.{IsSound, ServesBehind}
-use Rattle.laws_chip.proofs.PassedOn.{other_read, step_same}
+use Rattle.laws_chip.proofs.PassedOn.{step_same}
 use Rattle.laws_chip.proofs.SoundCalls.{call_sound}
 use Rattle.laws_chip.proofs.SoundParts as parts
 use Rattle.laws_chip.proofs.SoundParts.{busy_at, sound_basis}
 use Rattle.laws_chip.proofs.UnderWay.{clash, either_way, not_through, port_stage}
+use Rattle.laws_chip.proofs.NextStages as makes
+use Rattle.laws_chip.proofs.NextStages.{Makes, call_stays, is_change}
+use Rattle.laws_chip.specs.Bounds.{has_command}
 
 -- ---- while no byte is asked for there is time for one more step
 
@@ -131,51 +131,43 @@ transfers _ = true
 task_waits : (chosen : Task) (before : Bool) (fifo : Fifo) → is_transfer chosen ≡ true → task_asks chosen before fifo ≡ false → TaskWaits 1 chosen fifo
 task_waits (task.Read reading) before fifo is low = λ none. fetched before (is_over reading.stage) fifo low
 task_waits (task.Write writing) before fifo is low = λ none. let some = filled writing.counted before fifo none low in omega arith
-task_waits (task.ReadId search) before fifo is low = absurd (false≢true is)
-task_waits (task.Format formatting) before fifo is low = absurd (false≢true is)
+task_waits _ before fifo is low = absurd (false≢true is)
 
 phase_waits : (phase : Phase) (before : Bool) (fifo : Fifo) → transfers phase ≡ true → phase_asks phase before fifo ≡ false → PhaseWaits 1 phase fifo
-phase_waits Taking before fifo is low = tt
-phase_waits (Result told) before fifo is low = tt
 phase_waits (Execute execution) before fifo is low = task_waits execution.task before fifo is low
+phase_waits _ before fifo is low = tt
 
 -- once the terminal count came there is always time
 counted_task : (chosen : Task) (fifo : Fifo) → is_transfer chosen ≡ true → task_counted chosen ≡ true → TaskWaits 1 chosen fifo
-counted_task (task.Read reading) fifo is counted = λ none. absurd (false≢true (sym none ∙ counted))
-counted_task (task.Write writing) fifo is counted = λ none. absurd (false≢true (sym none ∙ counted))
 counted_task (task.ReadId search) fifo is counted = absurd (false≢true is)
 counted_task (task.Format formatting) fifo is counted = absurd (false≢true is)
+counted_task _ fifo is counted = λ none. absurd (false≢true (sym none ∙ counted))
 
 counted_phase : (phase : Phase) (fifo : Fifo) → transfers phase ≡ true → phase_counted phase ≡ true → PhaseWaits 1 phase fifo
-counted_phase Taking fifo is counted = tt
-counted_phase (Result told) fifo is counted = tt
 counted_phase (Execute execution) fifo is counted = counted_task execution.task fifo is counted
+counted_phase _ fifo is counted = tt
 
 moves_transfer : (operation : Operation) (past : Past) (sent : Sent) (fdc : Fdc) → MayMove operation past sent fdc → transfers fdc.phase ≡ true
 moves_transfer (Read wanted skip) past sent fdc was = by_phase fdc.phase was
   where
     by_phase : (phase : Phase) → MayReadIn past sent phase fdc.asking fdc.fifo.bytes → transfers phase ≡ true
-    by_phase Taking was = refl
-    by_phase (Result told) was = refl
     by_phase (Execute execution) was = by_task execution.task was
       where
         by_task : (chosen : Task) → MayReadIn past sent (Execute (record execution { task = chosen })) fdc.asking fdc.fifo.bytes → is_transfer chosen ≡ true
-        by_task (task.Read reading) was = refl
-        by_task (task.Write writing) was = refl
         by_task (task.ReadId search) was = absurd was
         by_task (task.Format formatting) was = absurd was
+        by_task _ was = refl
+    by_phase _ was = refl
 moves_transfer (Write deleted) past sent fdc was = by_phase fdc.phase was
   where
     by_phase : (phase : Phase) → MayWriteIn past sent deleted phase fdc.asking fdc.fifo → transfers phase ≡ true
-    by_phase Taking was = refl
-    by_phase (Result told) was = refl
     by_phase (Execute execution) was = by_task execution.task was
       where
         by_task : (chosen : Task) → MayWriteIn past sent deleted (Execute (record execution { task = chosen })) fdc.asking fdc.fifo → is_transfer chosen ≡ true
-        by_task (task.Read reading) was = refl
-        by_task (task.Write writing) was = refl
         by_task (task.ReadId search) was = absurd was
         by_task (task.Format formatting) was = absurd was
+        by_task _ was = refl
+    by_phase _ was = refl
 
 -- ---- DRQ goes by the FIFO's rule, and where all bytes of a sector passed the terminal count came
 
@@ -202,28 +194,22 @@ free_as stage front is fed = subst (λ s. FedAt s front.adapter.controller) (sym
 -- the terminal count
 told_task : (chosen : Task) (before asking : Bool) (fifo : Fifo) → asking ≡ task_asks chosen before fifo → asking_told (moves_bytes chosen) asking ≡ task_asks (task_told chosen) before (fifo_told (is_read chosen) fifo)
 told_task (task.ReadId search) before asking fifo is = is
-told_task (task.Read reading) before asking fifo is = refl
-told_task (task.Write writing) before asking fifo is = refl
-told_task (task.Format formatting) before asking fifo is = refl
+told_task _ before asking fifo is = refl
 
 told_phase : (phase : Phase) (before asking : Bool) (fifo : Fifo) → asking ≡ phase_asks phase before fifo → asking_told (is_moving phase) asking ≡ phase_asks (phase_told phase) before (fifo_told (is_reading phase) fifo)
-told_phase Taking before asking fifo is = is
-told_phase (Result told) before asking fifo is = is
 told_phase (Execute execution) before asking fifo is = told_task execution.task before asking fifo is
+told_phase _ before asking fifo is = is
 
 told_rule : (fdc : Fdc) → GoesByRule fdc → GoesByRule (told_count fdc)
 told_rule fdc (before, is) = (before, told_phase fdc.phase before fdc.asking fdc.fifo is)
 
 told_task_counted : (chosen : Task) → task_counted (task_told chosen) ≡ true
 told_task_counted (task.ReadId search) = refl
-told_task_counted (task.Read reading) = refl
-told_task_counted (task.Write writing) = refl
-told_task_counted (task.Format formatting) = refl
+told_task_counted _ = refl
 
 told_counted : (phase : Phase) → phase_counted (phase_told phase) ≡ true
-told_counted Taking = refl
-told_counted (Result told) = refl
 told_counted (Execute execution) = told_task_counted execution.task
+told_counted _ = refl
 
 told_fed : (moving : MovingSector) (fdc : Fdc) → GoesByRule fdc → IsFed moving (told_count fdc)
 told_fed moving fdc rule = record { rule = told_rule fdc rule; last = λ none. told_counted fdc.phase }
@@ -243,9 +229,7 @@ begins_of old new (rests, moves) busy = either_way (seek_bits old.seeks == 0)
 
 read_rule : (sent : Sent) (chosen : Task) (on : Bool) (threshold : ℕ) → IsReadingData sent chosen → false ≡ task_asks chosen false (emptied on threshold)
 read_rule sent (task.Read reading) on threshold is = refl
-read_rule sent (task.ReadId search) on threshold is = absurd is
-read_rule sent (task.Write writing) on threshold is = absurd is
-read_rule sent (task.Format formatting) on threshold is = absurd is
+read_rule sent _ on threshold is = absurd is
 
 sized_of : (b : Bool) (command : Command) (lines : Lines) (old new : Fdc) → TakesAs (if b then Ready command else Invalid) lines old new → is_executing new.phase ≡ true → Obeys command lines old new
 sized_of true command lines old new takes busy = takes
@@ -308,24 +292,18 @@ takes_fed : (stage : FrontStage) (byte : Option ℕ) (old new : Front) → old.s
 takes_fed (Moving moving) (Some byte) old new at under (up, byte_is, is) fed = passed_fed moving (taken_out old.adapter.controller) old new (old.adapter.controller.asking, refl) is
 takes_fed (Moving moving) None old new at under (quiet, is) fed = same_fed old new is fed
 takes_fed (Seeking transfer counted) byte old new at under (none, is) fed = same_fed old new is fed
-takes_fed Through byte old new at under takes fed = absurd (false≢true under)
-takes_fed (Collecting opcode) byte old new at under takes fed = absurd (false≢true under)
-takes_fed (Telling results read) byte old new at under takes fed = absurd (false≢true under)
+takes_fed _ byte old new at under takes fed = absurd (false≢true under)
 
 gives_fed : (stage : FrontStage) (byte : ℕ) (was : Bool) (old new : Front) → old.stage ≡ stage → is_under_way stage ≡ true → GivesAt stage byte old was new → IsFedFront old → IsFedFront new
 gives_fed (Moving moving) byte true old new at under (up, is) fed = passed_fed moving (taken_in byte old.adapter.controller) old new (old.adapter.controller.asking, refl) is
 gives_fed (Moving moving) byte false old new at under (quiet, is) fed = same_fed old new is fed
 gives_fed (Seeking transfer counted) byte was old new at under (none, is) fed = same_fed old new is fed
-gives_fed Through byte was old new at under gives fed = absurd (false≢true under)
-gives_fed (Collecting opcode) byte was old new at under gives fed = absurd (false≢true under)
-gives_fed (Telling results read) byte was old new at under gives fed = absurd (false≢true under)
+gives_fed _ byte was old new at under gives fed = absurd (false≢true under)
 
 counts_fed : (stage : FrontStage) (old new : Front) → old.stage ≡ stage → is_under_way stage ≡ true → new ≡ count_told stage old → IsFedFront old → IsFedFront new
 counts_fed (Moving moving) old new at under is fed = subst IsFedFront (sym is) (told_fed (record moving { counted = true }) old.adapter.controller (fed_moving moving old at fed).rule)
 counts_fed (Seeking transfer counted) old new at under is fed = free_as (Seeking transfer true) new (ap (λ (f : Front). f.stage) is) tt
-counts_fed Through old new at under is fed = absurd (false≢true under)
-counts_fed (Collecting opcode) old new at under is fed = absurd (false≢true under)
-counts_fed (Telling results read) old new at under is fed = absurd (false≢true under)
+counts_fed _ old new at under is fed = absurd (false≢true under)
 
 -- ---- ports and media
 
@@ -339,10 +317,7 @@ alike_fed (Moving moving) old new stays at phase asking fifo fed =
       rule = (before, asking ∙ (is ∙ sym (ap (λ p. phase_asks p before new.adapter.controller.fifo) phase ∙ ap (phase_asks old.adapter.controller.phase before) fifo)));
       last = λ none. ap phase_counted phase ∙ was.last none;
     })
-alike_fed Through old new stays at phase asking fifo fed = free_as Through new (stays ∙ at) tt
-alike_fed (Collecting opcode) old new stays at phase asking fifo fed = free_as (Collecting opcode) new (stays ∙ at) tt
-alike_fed (Seeking transfer counted) old new stays at phase asking fifo fed = free_as (Seeking transfer counted) new (stays ∙ at) tt
-alike_fed (Telling results read) old new stays at phase asking fifo fed = free_as (Telling results read) new (stays ∙ at) tt
+alike_fed stage old new stays at phase asking fifo fed = free_as stage new (stays ∙ at) tt
 
 port_fed : (port value : ℕ) (old new : Front) → WritesFront port value old new → (port == 0x3F5) ≡ false → resets port value ≡ false → IsFedFront old → IsFedFront new
 port_fed port value old new writes no_data quiet fed =
@@ -358,11 +333,10 @@ record IsCalmStep (old new : Fdc) : Type 0 where
   uncounted : phase_counted new.phase ≡ false → phase_counted old.phase ≡ false
 
 calm_step : (phase : Phase) (old new : Fdc) → is_executing phase ≡ true → FlowsIn phase old.asking new → LastsIn phase old new → PhaseWaits 1 phase old.fifo → phase ≡ old.phase → IsCalmStep old new
-calm_step Taking old new busy flows lasts waits is = absurd (false≢true busy)
-calm_step (Result told) old new busy flows lasts waits is = absurd (false≢true busy)
 calm_step (Execute execution) old new busy flows lasts waits is =
     let after : Lasts 0 old new = lasts 0 waits in
     record { rule = (old.asking, flows); no_overrun = after.no_overrun; uncounted = after.uncounted }
+calm_step _ old new busy flows lasts waits is = absurd (false≢true busy)
 
 works_calm : (old : Fdc) (before : DriveState) (new : Fdc) (after : DriveState) → is_executing old.phase ≡ true → PhaseWaits 1 old.phase old.fifo → Works old before new after → IsCalmStep old new
 works_calm old before new after busy waits works = calm_step old.phase old new busy works.flows works.lasts waits refl
@@ -399,20 +373,13 @@ next_fed mark (Done marked) moving old new sized ends = by_next (goes_on moving 
   where
     by_next : (b : Bool) → EndsIf b moving marked old new → IsFedFront new
     by_next true begins = sector_fed (next_of moving.transfer) false (has_met_other moving marked) old new (subst IsSizeCode (sym (next_size moving.transfer)) sized) begins
-    by_next false is = free_as (Telling (results_behind moving marked) 0) new (ap (λ (f : Front). f.stage) is) tt
-next_fed mark NoMark moving old new sized is = free_as (Telling (results_failed mark moving NoMark) 0) new (ap (λ (f : Front). f.stage) is) tt
-next_fed mark NoSector moving old new sized is = free_as (Telling (results_failed mark moving NoSector) 0) new (ap (λ (f : Front). f.stage) is) tt
-next_fed mark NoField moving old new sized is = free_as (Telling (results_failed mark moving NoField) 0) new (ap (λ (f : Front). f.stage) is) tt
-next_fed mark BadCheck moving old new sized is = free_as (Telling (results_failed mark moving BadCheck) 0) new (ap (λ (f : Front). f.stage) is) tt
-next_fed mark Overrun moving old new sized is = free_as (Telling (results_failed mark moving Overrun) 0) new (ap (λ (f : Front). f.stage) is) tt
-next_fed mark NoCount moving old new sized is = free_as (Telling (results_failed mark moving NoCount) 0) new (ap (λ (f : Front). f.stage) is) tt
-next_fed mark Protected moving old new sized is = free_as (Telling (results_failed mark moving Protected) 0) new (ap (λ (f : Front). f.stage) is) tt
-next_fed mark Late moving old new sized is = free_as (Telling (results_failed mark moving Late) 0) new (ap (λ (f : Front). f.stage) is) tt
+    by_next false is = free_as (Telling (results_behind moving marked)) new (ap (λ (f : Front). f.stage) is) tt
+next_fed mark ending moving old new sized is = free_as (Telling (results_failed mark moving ending)) new (ap (λ (f : Front). f.stage) is) tt
 
 -- ---- results without OR
 
 abbrev is_telling : FrontStage → Bool
-is_telling (Telling results read) = true
+is_telling (Telling results) = true
 is_telling _ = false
 
 abbrev IsCalm : Results → Type 0
@@ -420,14 +387,7 @@ IsCalm results = bit_and results.st1.0 overrun ≡ 0
 
 ending_calm : (ending : Ending) → overran ending ≡ false → bit_and (st1_of ending).0 overrun ≡ 0
 ending_calm Overrun calm = absurd (false≢true (sym calm))
-ending_calm (Done marked) calm = refl
-ending_calm NoMark calm = refl
-ending_calm NoSector calm = refl
-ending_calm NoField calm = refl
-ending_calm BadCheck calm = refl
-ending_calm NoCount calm = refl
-ending_calm Protected calm = refl
-ending_calm Late calm = refl
+ending_calm _ calm = refl
 
 told_calm : (ending : Ending) (at : Transfer) (key : Chrn) (met : Bool) → overran ending ≡ false → IsCalm (results_told ending at key met)
 told_calm ending at key met calm = ap (λ n. bit_and n overrun) (by_cases at.seeks met) ∙ ending_calm ending calm
@@ -438,10 +398,10 @@ told_calm ending at key met calm = ap (λ n. bit_and n overrun) (by_cases at.see
     by_cases false true = refl
     by_cases false false = refl
 
-same_results : (one other : Results) → Telling one 0 ≡ Telling other 0 → one ≡ other
+same_results : (one other : Results) → Telling one ≡ Telling other → one ≡ other
 same_results one other is = cc
 
-as_told : (told results : Results) (old new : Front) → IsCalm told → new ≡ record old { stage = Telling told 0 } → new.stage ≡ Telling results 0 → IsCalm results
+as_told : (told results : Results) (old new : Front) → IsCalm told → new ≡ record old { stage = Telling told } → new.stage ≡ Telling results → IsCalm results
 as_told told results old new calm is tells = subst IsCalm (same_results told results (sym (ap (λ (f : Front). f.stage) is) ∙ tells)) calm
 
 behind_calm : (moving : MovingSector) (marked : Bool) → IsCalm (results_behind moving marked)
@@ -452,27 +412,21 @@ behind_calm moving marked = by_more (would_go_on moving marked)
     by_more true = told_calm NoCount moving.transfer moving.transfer.key (has_met_other moving marked) refl
     by_more false = told_calm (Done false) moving.transfer (next_of moving.transfer).key (has_met_other moving marked) refl
 
-begins_silent : (at : Transfer) (counted passed_over : Bool) (old new : Front) (results : Results) → BeginsSector at counted passed_over old new → new.stage ≡ Telling results 0 → IsCalm results
+begins_silent : (at : Transfer) (counted passed_over : Bool) (old new : Front) (results : Results) → BeginsSector at counted passed_over old new → new.stage ≡ Telling results → IsCalm results
 begins_silent at counted passed_over old new results begins tells = by_busy (is_executing begins.between.controller.phase) begins.begun
   where
     by_busy : (b : Bool) → new ≡ begun_if b at counted passed_over begins.between old → IsCalm results
     by_busy true is = absurd (false≢true (sym (ap (λ (f : Front). is_telling f.stage) is) ∙ ap is_telling tells))
     by_busy false is = absurd (false≢true (sym (ap (λ (f : Front). is_telling f.stage) is) ∙ ap is_telling tells))
 
-ends_calm : (mark : Option Bool) (ending : Ending) (moving : MovingSector) (old new : Front) (results : Results) → overran ending ≡ false → EndsSector mark moving ending old new → new.stage ≡ Telling results 0 → IsCalm results
+ends_calm : (mark : Option Bool) (ending : Ending) (moving : MovingSector) (old new : Front) (results : Results) → overran ending ≡ false → EndsSector mark moving ending old new → new.stage ≡ Telling results → IsCalm results
 ends_calm mark (Done marked) moving old new results calm ends tells = by_next (goes_on moving marked) ends
   where
     by_next : (b : Bool) → EndsIf b moving marked old new → IsCalm results
     by_next true begins = begins_silent (next_of moving.transfer) false (has_met_other moving marked) old new results begins tells
     by_next false is = as_told (results_behind moving marked) results old new (behind_calm moving marked) is tells
 ends_calm mark Overrun moving old new results calm is tells = absurd (false≢true (sym calm))
-ends_calm mark NoMark moving old new results calm is tells = as_told _ results old new (told_calm NoMark moving.transfer moving.transfer.key (has_failed_other mark moving NoMark) calm) is tells
-ends_calm mark NoSector moving old new results calm is tells = as_told _ results old new (told_calm NoSector moving.transfer moving.transfer.key (has_failed_other mark moving NoSector) calm) is tells
-ends_calm mark NoField moving old new results calm is tells = as_told _ results old new (told_calm NoField moving.transfer moving.transfer.key (has_failed_other mark moving NoField) calm) is tells
-ends_calm mark BadCheck moving old new results calm is tells = as_told _ results old new (told_calm BadCheck moving.transfer moving.transfer.key (has_failed_other mark moving BadCheck) calm) is tells
-ends_calm mark NoCount moving old new results calm is tells = as_told _ results old new (told_calm NoCount moving.transfer moving.transfer.key (has_failed_other mark moving NoCount) calm) is tells
-ends_calm mark Protected moving old new results calm is tells = as_told _ results old new (told_calm Protected moving.transfer moving.transfer.key (has_failed_other mark moving Protected) calm) is tells
-ends_calm mark Late moving old new results calm is tells = as_told _ results old new (told_calm Late moving.transfer moving.transfer.key (has_failed_other mark moving Late) calm) is tells
+ends_calm mark ending moving old new results calm is tells = as_told _ results old new (told_calm ending moving.transfer moving.transfer.key (has_failed_other mark moving ending) calm) is tells
 
 -- the controller's ending isn't OR, and it isn't OR as the front judges it
 same_ending : (one other : Ending) → Some one ≡ Some other → one ≡ other
@@ -483,9 +437,8 @@ answer_calm (Long found results read) ending calm is = sym (ap overran (same_end
 answer_calm (Short next last) ending calm is = absurd (cc)
 
 phase_calm : (phase : Phase) (ending : Ending) → is_overrun phase ≡ false → ending_of_phase phase ≡ Some ending → overran ending ≡ false
-phase_calm Taking ending calm is = absurd (cc)
-phase_calm (Execute execution) ending calm is = absurd (cc)
 phase_calm (Result told) ending calm is = answer_calm told ending calm is
+phase_calm _ ending calm is = absurd (cc)
 
 judged_calm : (moving : MovingSector) (ending : Ending) → overran ending ≡ false → overran (judged moving ending) ≡ false
 judged_calm moving BadCheck calm = by_skipped moving.skipped
@@ -493,20 +446,14 @@ judged_calm moving BadCheck calm = by_skipped moving.skipped
     by_skipped : (b : Bool) → overran (judged (record moving { skipped = b }) BadCheck) ≡ false
     by_skipped true = refl
     by_skipped false = refl
-judged_calm moving (Done marked) calm = refl
-judged_calm moving NoMark calm = refl
-judged_calm moving NoSector calm = refl
-judged_calm moving NoField calm = refl
 judged_calm moving Overrun calm = calm
-judged_calm moving NoCount calm = refl
-judged_calm moving Protected calm = refl
-judged_calm moving Late calm = refl
+judged_calm moving _ calm = refl
 
 -- ---- the front in a device step
 
 record IsStepped (new : Front) : Type 0 where
   fed : IsFedFront new
-  calm : (results : Results) → new.stage ≡ Telling results 0 → IsCalm results
+  calm : (results : Results) → new.stage ≡ Telling results → IsCalm results
 
 moves_stepped : (mark : Option Bool) (ending : Option Ending) (moving : MovingSector) (old : Fdc) (front new : Front) → front.stage ≡ Moving moving → IsFed moving old → IsCalmStep old front.adapter.controller
     → ending_told front.adapter.controller ≡ ending → IsSizeCode moving.transfer.key.n → MovesOn mark (judged_if moving ending) moving front new → IsStepped new
@@ -521,7 +468,7 @@ moves_stepped mark None moving old front new at fed calm is sized follows =
       calm = λ results tells. by_over (is_unwanted moving (mark_of fdc)) results follows tells;
     }
   where
-    by_over : (b : Bool) (results : Results) → new ≡ passed_over_if b moving front → new.stage ≡ Telling results 0 → IsCalm results
+    by_over : (b : Bool) (results : Results) → new ≡ passed_over_if b moving front → new.stage ≡ Telling results → IsCalm results
     by_over true results is tells = absurd (false≢true (sym (ap (λ (f : Front). is_telling f.stage) is) ∙ ap is_telling tells))
     by_over false results is tells = absurd (false≢true (sym (ap (λ (f : Front). is_telling f.stage) is ∙ ap is_telling at) ∙ ap is_telling tells))
 moves_stepped mark (Some ending) moving old front new at fed calm is sized ends =
@@ -542,9 +489,6 @@ seeks_stepped false at counted front new is sized same =
 
 front_stepped : (stage : FrontStage) (old new : Front) (step : StepsFront old new) → old.stage ≡ stage → is_under_way stage ≡ true → (was : ServesBehind old) → IsFedFront old → is_gated old.adapter.controller ≡ true → asks_outside old ≡ false → selected_at old.adapter ≤ 1
     → IsStepped new
-front_stepped Through old new step at under was fed gated low few = absurd (false≢true under)
-front_stepped (Collecting opcode) old new step at under was fed gated low few = absurd (false≢true under)
-front_stepped (Telling results read) old new step at under was fed gated low few = absurd (false≢true under)
 front_stepped (Seeking transfer counted) old new step at under was fed gated low few =
     let serves : ServesAt (Seeking transfer counted) was.first was.history old.adapter.controller = subst (λ s. ServesAt s was.first was.history old.adapter.controller) at was.serves.now in
     let front : Front = record old { adapter = step.between } in
@@ -560,6 +504,7 @@ front_stepped (Moving moving) old new step at under was fed gated low few =
     let calm = adapter_calm old.adapter step.between step.steps few carries.busy waits in
     let front : Front = record old { adapter = step.between } in
     moves_stepped (mark_of fdc) (ending_told step.between.controller) moving fdc front new at now calm refl carries.accounts.sized (subst (λ s. FollowsStep (mark_of fdc) s front new) at step.follows)
+front_stepped _ old new step at under was fed gated low few = absurd (false≢true under)
 
 -- ---- the chip
 
@@ -579,46 +524,21 @@ chip_stepped old new step was prompt =
     let basis = sound_basis old (ap parts.is_ready was.serving.sent) was.sound in
     front_stepped old.front.stage old.front step.between step.steps refl was.serving.under_way (served_of old was.sound was.serving) was.fed basis.gated prompt.served prompt.drive
 
-takes_on : (b : Bool) (byte : Option ℕ) (old new : ChipState) → InTimeSoFar old → TakesIf b old byte new → IsFedFront new.front
-takes_on true byte old new was (takes, rest) = takes_fed old.front.stage byte old.front new.front refl was.serving.under_way takes was.fed
-takes_on false byte old new was (none, is) = same_fed old.front new.front (ap (λ (chip : ChipState). chip.front) is) was.fed
-
-gives_on : (b : Bool) (byte : ℕ) (given : Bool) (old new : ChipState) → InTimeSoFar old → GivesChipIf b byte old given new → IsFedFront new.front
-gives_on true byte given old new was (gives, rest) = gives_fed old.front.stage byte given old.front new.front refl was.serving.under_way gives was.fed
-gives_on false byte given old new was (none, is) = same_fed old.front new.front (ap (λ (chip : ChipState). chip.front) is) was.fed
-
-read_on : (b : Bool) (value : ℕ) (old new : ChipState) → InTimeSoFar old → ReadsIf b old value new → IsFedFront new.front
-read_on true value old new was reads = takes_fed old.front.stage reads.byte old.front new.front refl was.serving.under_way reads.takes was.fed
-read_on false value old new was (none, is) = same_fed old.front new.front (ap (λ (chip : ChipState). chip.front) is) was.fed
-
-write_on : (b : Bool) (value : ℕ) (old new : ChipState) → InTimeSoFar old → GivesIf b value old new → IsFedFront new.front
-write_on true value old new was gives = gives_fed old.front.stage value gives.was old.front new.front refl was.serving.under_way gives.gives was.fed
-write_on false value old new was is = same_fed old.front new.front (ap (λ (chip : ChipState). chip.front) is) was.fed
-
-port_on : (b : Bool) (port value : ℕ) (old new : ChipState) → resets port (value_behind port value) ≡ b → (port == 0x3F5) ≡ false → InTimeSoFar old → IsServing new → WritesFront port (value_behind port value) old.front new.front
-    → new ≡ with_front new.front (ports.reset_if b (latched_by port value old)) → IsFedFront new.front
-port_on true port value old new anew no_data was serving writes rest = absurd (false≢true (sym (ap parts.is_ready serving.sent) ∙ ap (λ (chip : ChipState). parts.is_ready chip.stage) rest))
-port_on false port value old new quiet no_data was serving writes rest = port_fed port (value_behind port value) old.front new.front writes no_data quiet was.fed
+makes_fed : (b : Bool) (old new : Front) → Makes b old new → is_under_way old.stage ≡ true → IsFedFront old → IsFedFront new
+makes_fed b old new (makes.Same is) under fed = same_fed old new is fed
+makes_fed b old new (makes.Takes byte takes) under fed = takes_fed old.stage byte old new refl under takes fed
+makes_fed b old new (makes.Gives byte given gives) under fed = gives_fed old.stage byte given old new refl under gives fed
+makes_fed b old new (makes.Counts is) under fed = counts_fed old.stage old new refl under is fed
+makes_fed b old new (makes.Writes port value writes no_data quiet) under fed = port_fed port value old new writes no_data quiet fed
+makes_fed b old new (makes.Changes changes keeps) under fed =
+    let same = keeps.controller in
+    alike_fed old.stage old new keeps.stage refl (ap (λ (fdc : Fdc). fdc.phase) same) (ap (λ (fdc : Fdc). fdc.asking) same) (ap (λ (fdc : Fdc). fdc.fifo) same) fed
 
 call_on : (call : Call) (old new : ChipState) → InTimeSoFar old → Does call old new → PromptAt call old → IsServing new → IsFedFront new.front
 call_on made.Steps old new was step prompt serving =
     subst (λ (chip : ChipState). IsFedFront chip.front) (sym (step_same old new step was.serving.sent serving.sent)) (chip_stepped old new step was prompt).fed
-call_on (made.Takes byte) old new was does prompt serving = takes_on (passes_by_channel old) byte old new was does
-call_on (made.Gives byte given) old new was does prompt serving = gives_on (passes_by_channel old) byte given old new was does
-call_on made.Counts old new was does prompt serving =
-    let is : new ≡ with_front (told_front old.front) old = subst (λ stage. new ≡ ports.count_told stage old) was.serving.sent does in
-    counts_fed old.front.stage old.front new.front refl was.serving.under_way (ap (λ (chip : ChipState). chip.front) is) was.fed
-call_on (made.Reads port value) old new was does prompt serving = either_way (port == 0x3F5)
-    (λ here. read_on (passes_by_port old) value old new was (subst (λ stage. ReadsAt stage old value new) was.serving.sent (does.byte (eqb-true port 0x3F5 here))))
-    (λ no_data. same_fed old.front new.front (ap (λ (chip : ChipState). chip.front) (other_read port value old new no_data does)) was.fed)
-call_on (made.Writes port value) old new was does prompt serving = either_way (port == 0x3F5)
-    (λ here. write_on (passes_by_port old) value old new was (subst (λ stage. TakesByteChip stage value old new) was.serving.sent (does.bytes (eqb-true port 0x3F5 here))))
-    (λ no_data. let (front, rest) = does.others no_data in port_on (resets port (value_behind port value)) port value old new refl no_data was serving front rest)
-call_on made.Changes old new was does prompt serving =
-    let same = does.front.controller in
-    alike_fed old.front.stage old.front new.front does.front.stage refl (ap (λ (fdc : Fdc). fdc.phase) same) (ap (λ (fdc : Fdc). fdc.asking) same) (ap (λ (fdc : Fdc). fdc.fifo) same) was.fed
-call_on (made.Straps on) old new was does prompt serving = same_fed old.front new.front (ap (λ (chip : ChipState). chip.front) does) was.fed
-call_on (made.StrapsSteps on) old new was does prompt serving = same_fed old.front new.front (ap (λ (chip : ChipState). chip.front) does) was.fed
+call_on call old new was does prompt serving =
+    makes_fed (is_change call) old.front new.front (call_stays call SentTask old new does was.serving.sent refl (ap has_command serving.sent)).front was.serving.under_way was.fed
 
 calls_on : (calls : List Call) (old new : ChipState) → AreInTime calls old new → InTimeSoFar old → InTimeSoFar new
 calls_on [] old new same was = subst InTimeSoFar (sym same) was
@@ -637,19 +557,11 @@ starts_fed true first old new sized seeks = by_idle _ seeks.begun
 
 begun_fed : (first : Transfer) (chip : ChipState) → IsBegun first chip → IsFedFront chip.front
 begun_fed first chip is =
-    let begins = is.begins in
-    let start = begins.start in
-    let last = begins.last in
-    let bytes = start.bytes ++ begins.byte ∷ [] in
-    let taken : TakesByte (Collecting last.opcode) begins.byte start chip.front = subst (λ s. TakesByte s begins.byte start chip.front) last.collects (begins.writes.bytes refl) in
-    let whole : CollectsAs last.opcode (Ready last.command) (record start { bytes = kept (Ready last.command) bytes }) chip.front =
-    subst (λ (a : Accepted). CollectsAs last.opcode a (record start { bytes = kept a bytes }) chip.front) last.whole taken in
-    let starts : Starts (Some first) (record start { bytes = kept (Ready last.command) bytes }) chip.front =
-    subst (λ t. Starts t (record start { bytes = kept (Ready last.command) bytes }) chip.front) last.transfer whole in
-    starts_fed first.seeks first (record start { bytes = kept (Ready last.command) bytes }) chip.front begins.serves.sized starts
+    let begun = is.begins in
+    starts_fed first.seeks first begun.start chip.front begun.serves.sized (given_starts first begun.start chip.front begun.begins.ready begun.begins.gives)
 
 pub prompt_calm : (first : Transfer) (calls : List Call) (begun last new : ChipState) (step : StepsChip last new) (results : Results) → IsSound begun → IsBegun first begun → AreInTime calls begun last → IsPrompt last
-    → step.between.stage ≡ Telling results 0 → bit_and results.st1.0 overrun ≡ 0
+    → step.between.stage ≡ Telling results → bit_and results.st1.0 overrun ≡ 0
 prompt_calm first calls begun last new step results sound is calls_are prompt tells =
     let was = calls_on calls begun last calls_are (record { sound = sound; serving = is.serving; fed = begun_fed first begun is }) in
     (chip_stepped last new step was prompt).calm results tells

@@ -14,13 +14,13 @@ use Rattle.fdc_core.specs.State.{is_held}
 use Rattle.fdc_core.specs.Steps.{Rests, polled, seek_stepped}
 use Rattle.fdc_core.specs.Whole.{is_idle}
 use Rattle.fdc_core.specs.declared.controller.Fdc.{Fdc}
-use Rattle.fdc_adapter.specs.Adapters.{lines_at}
-use Rattle.fdc_sequencer.specs.Fronts.{Front, status_at, with_controller}
+use Rattle.fdc_sequencer.specs.Adapters.{lines_at}
+use Rattle.fdc_sequencer.specs.Fronts.{Front, GivesCommand, is_ready, status_at, with_controller}
 use Rattle.fdc_sequencer.specs.Moves.{StepsFront}
-use Rattle.fdc_sequencer.specs.Senses.{is_ready, is_ready_at, recalibrated_at, recalibrated_outside}
+use Rattle.fdc_sequencer.specs.Senses.{recalibrated_at, recalibrated_outside}
 use Rattle.fdc_sequencer.specs.declared.stage.FrontStage.TheVariants.{Through}
 use Rattle.fdc_chip.specs.Chips.{ChipState, with_front}
-use Rattle.fdc_chip.specs.Doing.{Sends, drained, is_moving, is_told, moves_heads, moving, pace_begun}
+use Rattle.fdc_chip.specs.Doing.{drained, is_moving, is_told, moves_heads, moving, pace_begun}
 use Rattle.fdc_chip.specs.Paces.{EndsAt, GoesOn, GoesOnIf, Paces, PulsesIf, is_due, is_over, stepped, target_of}
 use Rattle.fdc_chip.specs.Settings.{step_words}
 use Rattle.fdc_chip.specs.declared.pace.PacedSeek.{PacedSeek}
@@ -31,7 +31,7 @@ use Rattle.laws_chip.specs.Sound.{IsSound}
 use Rattle.laws_chip.proofs.HeadsGoing.{HasEnded, bare, ended_untold, front_steps, neighbour_left, none_drained, none_pending, rests_by_line, status_in, told_at}
 use Rattle.laws_chip.proofs.Rests.{adapter_stays, taking_stays, through_step}
 use Rattle.laws_chip.proofs.SeeksBegun.{given_seek, given_within, motion_to, of_four, seek_sent}
-use Rattle.laws_chip.proofs.Standing.{Stands, stands_idle, status_free}
+use Rattle.laws_chip.proofs.Standing.{Stands, stands_idle, stands_ready, status_free}
 
 -- ---- pulses
 
@@ -155,11 +155,8 @@ behind_calm behind apart drive cylinder front (inr is) = seeks_calm (behind + 1)
 -- ---- ---- results of single pulses
 
 sought_untold : (pace : PacedSeek) (drive : ℕ) → drive ≤ 3 → is_told (Some pace) (sought drive) ≡ false
-sought_untold pace zero few = refl
-sought_untold pace (suc zero) few = refl
-sought_untold pace (suc (suc zero)) few = refl
-sought_untold pace (suc (suc (suc zero))) few = refl
 sought_untold pace (suc (suc (suc (suc drive)))) few = absurd (omega arith)
+sought_untold pace _ few = refl
 
 set_four : (drive target : ℕ) (cylinders : List ℕ) → drive ≤ 3 → length cylinders ≡ 4 → length (slice_set cylinders drive target) ≡ 4
 set_four zero target (a ∷ b ∷ c ∷ d ∷ []) few four = refl
@@ -167,11 +164,7 @@ set_four (suc zero) target (a ∷ b ∷ c ∷ d ∷ []) few four = refl
 set_four (suc (suc zero)) target (a ∷ b ∷ c ∷ d ∷ []) few four = refl
 set_four (suc (suc (suc zero))) target (a ∷ b ∷ c ∷ d ∷ []) few four = refl
 set_four (suc (suc (suc (suc drive)))) target (a ∷ b ∷ c ∷ d ∷ []) few four = absurd (omega arith)
-set_four drive target [] few four = absurd (omega arith)
-set_four drive target (a ∷ []) few four = absurd (omega arith)
-set_four drive target (a ∷ b ∷ []) few four = absurd (omega arith)
-set_four drive target (a ∷ b ∷ c ∷ []) few four = absurd (omega arith)
-set_four drive target (a ∷ b ∷ c ∷ d ∷ e ∷ rest) few four = absurd (omega arith)
+set_four drive target _ few four = absurd (omega arith)
 
 -- the seek of a single pulse has ended, and its result was taken over
 ended_stands : (drive status cylinder : ℕ) (cylinders : List ℕ) (chip : ChipState) → drive ≤ 3 → HasEnded drive status cylinder cylinders chip.front
@@ -201,9 +194,8 @@ some_behind : (behind drive cylinder : ℕ) (front : Front) → SeeksBehind behi
 some_behind behind drive cylinder front is = by_motion is.motion is.goes is.within
   where
     by_motion : (motion : Motion) → GoesTo (Some cylinder) motion → steps_left motion ≤ behind → behind ≡ behind - 1 + 1
-    by_motion (Outward pulses) goes few = absurd goes
     by_motion (Toward from target) goes few = omega arith
-    by_motion Ended goes few = absurd goes
+    by_motion _ goes few = absurd goes
 
 step_dma : (old new : Front) (step : StepsFront old new) → old.stage ≡ Through → new.adapter.controller.non_dma ≡ old.adapter.controller.non_dma
 step_dma old new step through =
@@ -249,9 +241,9 @@ abbrev pub PacedOrGo : ℕ → ℕ → Option ℕ → ChipStage → ChipState �
 PacedOrGo left drive goal stage new = HeadsPaced left drive goal stage new ⊎ HeadsGo (most_of goal) drive goal stage new
 
 -- the inner controller is given a SEEK
-sent_calm : (unit target : ℕ) (start new : Front) → Stands start → start.adapter.controller.seeks.pending ≡ none_pending → Sends (moving unit (Some target)) start new → IsCalm new
-sent_calm unit target start new stands none sends =
-    let (through, is) = seek_sent unit target start new stands sends in
+sent_calm : (unit target : ℕ) (start new : Front) → Stands start → start.adapter.controller.seeks.pending ≡ none_pending → GivesCommand (moving unit (Some target)) start new → IsCalm new
+sent_calm unit target start new stands none gives =
+    let (through, is) = seek_sent unit target start new stands gives in
     record {
       through = through;
       takes = ap (λ (fdc : Fdc). fdc.phase) is ∙ stands.takes;
@@ -261,11 +253,8 @@ sent_calm unit target start new stands none sends =
     }
 
 pub bits_shown : (drive : ℕ) → drive ≤ 3 → not (bit_and (bit_or 0x80 (2 ^ drive)) 0x0F == 0) ≡ true
-bits_shown zero few = refl
-bits_shown (suc zero) few = refl
-bits_shown (suc (suc zero)) few = refl
-bits_shown (suc (suc (suc zero))) few = refl
 bits_shown (suc (suc (suc (suc drive)))) few = absurd (omega arith)
+bits_shown _ few = refl
 
 -- a seek bit is set
 bit_moves : (front : Front) (seek : DriveSeek) → seek.drive ≤ 3 → IsCalm front → front.adapter.controller.seeks.seek ≡ Some seek → moves_heads front ≡ true
@@ -282,11 +271,11 @@ seeks_move left drive goal front few is = bit_moves front (record { drive = driv
 pulse_given : (behind apart left : ℕ) (pace : PacedSeek) (drive : ℕ) (goal : Option ℕ) (stage : ChipStage) (old new : ChipState) → drive ≤ 3 → pace.unit % 4 ≡ drive → pace.goal ≡ goal → old.stage ≡ stage → Stands old.front
     → StandsBehind apart drive pace.cylinder old.front → most_left behind apart (step_words old.settings) pace ≤ left + 1 → is_over pace ≡ false → RangesLater new
     → PulsesIf false pace old new → HeadsPaced left drive goal stage new
-pulse_given behind apart left pace drive goal stage old new few drive_is goal_is at stands was within goes ranges (sends, rest) =
+pulse_given behind apart left pace drive goal stage old new few drive_is goal_is at stands was within goes ranges (gives, rest) =
     let words = step_words old.settings in
     let next = stepped words pace in
     let unit = pace.unit in
-    let calm = sent_calm unit next.cylinder old.front new.front stands was.pending sends in
+    let calm = sent_calm unit next.cylinder old.front new.front stands was.pending gives in
     let moves : is_moving new ≡ true = ap (λ (chip : ChipState). is_some chip.pace || moves_heads new.front) rest in
     let range = ranges calm moves in
     let settings : step_words new.settings ≡ words = ap (λ (chip : ChipState). step_words chip.settings) rest in
@@ -296,7 +285,7 @@ pulse_given behind apart left pace drive goal stage old new few drive_is goal_is
           let is : slice_index old.front.adapter.controller.seeks.cylinders (unit % 4) ≡ pace.cylinder = ap (slice_index old.front.adapter.controller.seeks.cylinders) drive_is ∙ same in
           let exact : steps_left (motion_to unit next.cylinder old.front) ≤ 2 = subst (λ c. steps_left (Toward c next.cylinder) ≤ 2) (sym is) two in
           omega (arith, exact)
-      | inr many ↦ let most = given_within unit next.cylinder old.front new.front stands range sends in omega (arith, most, many)
+      | inr many ↦ let most = given_within unit next.cylinder old.front new.front stands range gives in omega (arith, most, many)
     ] in
     record {
       at = ap (λ (chip : ChipState). chip.stage) rest ∙ at;
@@ -308,7 +297,7 @@ pulse_given behind apart left pace drive goal stage old new few drive_is goal_is
       behind = apart + 1;
       apart = 0;
       going = inr (subst (λ d. SeeksBehind (apart + 1 + 1) d (Some next.cylinder) new.front) drive_is
-          (given_seek (apart + 1 + 1) unit next.cylinder old.front new.front stands was.pending was.polled range sends few_steps));
+          (given_seek (apart + 1 + 1) unit next.cylinder old.front new.front stands was.pending was.polled range gives few_steps));
       within = subst (λ n. most_left (apart + 1) 0 n next ≤ left) (sym settings)
           (after_pulse (pulses_left next) (pulses_left pace) words apart pace.wait behind left (fewer_left words pace goes) within);
     }
@@ -324,10 +313,10 @@ within_all pulses = by_few (nat_lt pulses 79) refl
 -- the command that ends the seek is given
 end_given : (goal : Option ℕ) (apart : ℕ) (pace : PacedSeek) (drive : ℕ) (stage : ChipStage) (old new : ChipState) → drive ≤ 3 → pace.unit % 4 ≡ drive → old.stage ≡ stage → Stands old.front
     → StandsBehind apart drive pace.cylinder old.front → RangesLater new → EndsAt goal pace (record old { pace = None }) new → HeadsGo (most_of goal) drive goal stage new
-end_given (Some target) apart pace drive stage old new few drive_is at stands was ranges (sends, rest) =
+end_given (Some target) apart pace drive stage old new few drive_is at stands was ranges (gives, rest) =
     let unit = pace.unit in
-    let calm = sent_calm unit target old.front new.front stands was.pending sends in
-    let seek = ap (λ (fdc : Fdc). fdc.seeks.seek) (seek_sent unit target old.front new.front stands sends).1 in
+    let calm = sent_calm unit target old.front new.front stands was.pending gives in
+    let seek = ap (λ (fdc : Fdc). fdc.seeks.seek) (seek_sent unit target old.front new.front stands gives).1 in
     let moves : is_moving new ≡ true = or_right (is_some new.pace) (moves_heads new.front)
     (bit_moves new.front (record { drive = unit % 4; motion = motion_to unit target old.front }) (of_four unit) calm seek) in
     let range = ranges calm moves in
@@ -336,7 +325,7 @@ end_given (Some target) apart pace drive stage old new few drive_is at stands wa
       unpaced = ap (λ (chip : ChipState). chip.pace) rest;
       few = few;
       going = subst (λ d. SeeksBehind 256 d (Some target) new.front) drive_is
-          (given_seek 256 unit target old.front new.front stands was.pending was.polled range sends (given_within unit target old.front new.front stands range sends));
+          (given_seek 256 unit target old.front new.front stands was.pending was.polled range gives (given_within unit target old.front new.front stands range gives));
     }
 end_given None apart pace drive stage old new few drive_is at stands was ranges is =
     let fdc = old.front.adapter.controller in
@@ -397,7 +386,7 @@ waits_on behind apart left pace drive goal stage old new few drive_is goal_is at
 -- where the inner controller stands a pulse is due as soon as its time is over
 ready_due : (apart drive cylinder : ℕ) (pace : PacedSeek) (chip : ChipState) → Stands chip.front → StandsBehind apart drive cylinder chip.front → is_due pace chip ≡ nat_le pace.wait 1
 ready_due apart drive cylinder pace chip stands was =
-    let ready : is_ready chip.front ≡ true = ap (λ stage. is_ready_at stage chip.front.adapter.controller) stands.through ∙ stands_idle chip.front stands in
+    let ready = stands_ready chip.front stands in
     ap (λ b. (nat_le pace.wait 1 && b) && not (moves_heads chip.front)) ready
     ∙ (ap (λ b. (nat_le pace.wait 1 && true) && not b) (stands_status apart drive cylinder chip.front was) ∙ both (nat_le pace.wait 1))
   where

@@ -1,7 +1,7 @@
 -- A controller that does nothing, through device steps, and once the results of seeks and polls were taken over.
 use Rattle.std.proofs.Common.{◌≡◌, inl, inr, ℕ, zero, suc, ◌-◌, ◌<◌, ◌^◌, Bool, true, false, not, ◌&&◌, ◌||◌, ◌==◌, if◌then◌else◌, Option, Some, None, [], refl, sym, ◌∙◌, ap, subst, arith, pow_pos}
 use Rattle.std.specs.Option.{option_map_or}
-use Rattle.fdc_commands.specs.Seeking.{Seeking, ended, first_pending, has_ended, is_seeking, neighbour, recalibrated, released, seek_bits, sought, stepped, stepped_seek, with_motion, with_polls, after_sense}
+use Rattle.fdc_commands.specs.Seeking.{Seeking, ended, first_pending, has_ended, neighbour, recalibrated, released, sought, stepped, stepped_seek, with_motion, with_polls, after_sense}
 use Rattle.fdc_commands.specs.Seeking as seek_words
 use Rattle.fdc_commands.specs.declared.motion.Motion.{Motion}
 use Rattle.fdc_commands.specs.declared.motion.Motion.TheVariants as motion
@@ -11,14 +11,14 @@ use Rattle.fdc_core.specs.State.{is_held}
 use Rattle.fdc_core.specs.Steps.{Rests, RestsIn, Stays, polled, seek_stepped}
 use Rattle.fdc_core.specs.Whole.{is_idle, mark_of}
 use Rattle.fdc_core.specs.declared.controller.Fdc.{Fdc}
-use Rattle.fdc_adapter.specs.Adapters.{AdapterState, StepsAdapter, selected_at}
-use Rattle.fdc_adapter.specs.Senses.{after_result, without_result}
+use Rattle.fdc_sequencer.specs.Adapters.{AdapterState, StepsAdapter, selected_at}
+use Rattle.fdc_sequencer.specs.AdapterSenses.{after_result, without_result}
 use Rattle.fdc_sequencer.specs.Fronts.{Front, with_controller}
 use Rattle.fdc_sequencer.specs.Moves.{FollowsStep, StepsFront}
 use Rattle.fdc_sequencer.specs.Senses.{pending_outside, sensed_at, sensed_outside}
 use Rattle.fdc_sequencer.specs.declared.stage.FrontStage.TheVariants.{Through}
-use Rattle.laws_sequencer.proofs.Known.{which_drive}
-use Rattle.laws_sequencer.proofs.Resting.{polled_phase}
+use Rattle.laws_chip.proofs.Known.{which_drive}
+use Rattle.laws_chip.proofs.Resting.{polled_phase}
 use Rattle.fdc_chip.specs.Chips.{ChipState, with_front}
 use Rattle.fdc_chip.specs.Doing.{drained_by, drained_one, implies, is_told, kept}
 use Rattle.fdc_chip.specs.Interrupts.{with_result}

@@ -5,8 +5,9 @@ use Rattle.std.proofs.lemmas.Bool.{and_from, and_right, false≢true, or_parts}
 use Rattle.fdc_commands.specs.Seeking.{IsMotion, Seeking}
 use Rattle.fdc_commands.specs.Seeking as seeking
 use Rattle.fdc_commands.specs.Table.{is_begun}
+use Rattle.fdc_commands.specs.declared.command.Command.TheVariants as command
 use Rattle.fdc_commands.specs.declared.motion.Motion.{Motion}
-use Rattle.fdc_commands.specs.declared.motion.Motion.TheVariants.{Outward, Toward, Ended}
+use Rattle.fdc_commands.specs.declared.motion.Motion.TheVariants.{Outward, Toward}
 use Rattle.fdc_commands.specs.declared.motion.Seek.{Seek as DriveSeek}
 use Rattle.fdc_phases.specs.declared.phases.Phase.TheVariants.{Command as Taking}
 use Rattle.fdc_core.specs.Commands.{recalibrating, seeking as seeking_to}
@@ -15,17 +16,17 @@ use Rattle.fdc_core.specs.Ranges.{IsInRange}
 use Rattle.fdc_core.specs.State.{is_held}
 use Rattle.fdc_core.specs.Whole.{is_idle}
 use Rattle.fdc_core.specs.declared.controller.Fdc.{Fdc}
-use Rattle.fdc_adapter.specs.Senses.{after_result, without_result}
-use Rattle.fdc_sequencer.specs.Fronts.{Front, with_controller}
+use Rattle.fdc_sequencer.specs.AdapterSenses.{after_result, without_result}
+use Rattle.fdc_sequencer.specs.Fronts.{Front, GivesCommand, with_controller}
 use Rattle.fdc_sequencer.specs.Senses.{pending_outside, sensed_at, sensed_outside}
 use Rattle.fdc_sequencer.specs.declared.stage.FrontStage.TheVariants.{Through}
 use Rattle.fdc_chip.specs.Chips.{ChipState, with_front}
-use Rattle.fdc_chip.specs.Doing.{AttendsIf, Moves, MovesIf, Obeys, Sends, drained, drained_by, drained_one, is_moving, is_told, kept, moves_heads, moving, needs_heads, pace_begun, relative_target}
+use Rattle.fdc_chip.specs.Doing.{AttendsIf, Moves, MovesIf, Obeys, drained, drained_by, drained_one, is_moving, is_told, kept, moves_heads, moving, needs_heads, pace_begun, relative_target}
 use Rattle.fdc_chip.specs.Interrupts.{Interrupting, cylinder_of, with_result}
 use Rattle.fdc_chip.specs.Ports.{WritesChip}
 use Rattle.fdc_chip.specs.Settings.{step_words}
 use Rattle.fdc_chip.specs.declared.code.ChipOpcode.{ChipOpcode}
-use Rattle.fdc_chip.specs.declared.code.ChipOpcode.TheVariants.{ReadTrack, Specify, SenseDrive, Transfer, Recalibrate, SenseInterrupt, ReadId, FormatTrack, DumpRegisters, Seek, RelativeSeek, Version, Perpendicular, Configure, Lock, Verify}
+use Rattle.fdc_chip.specs.declared.code.ChipOpcode.TheVariants.{Specify, Recalibrate, SenseInterrupt, DumpRegisters, Seek, RelativeSeek, Version, Perpendicular, Lock}
 use Rattle.fdc_chip.specs.declared.order.Order.{Order}
 use Rattle.fdc_chip.specs.declared.pace.PacedSeek.{PacedSeek}
 use Rattle.fdc_chip.specs.declared.stage.ChipStage.TheVariants.{Ready}
@@ -34,15 +35,12 @@ use Rattle.laws_chip.specs.PacedSeeks.{HeadsPaced, StandsBehind, most_paced, pul
 use Rattle.laws_chip.specs.Seeks.{HeadsGo, IsSoundInRange, SeeksBehind, goal_of, most_of, steps_left}
 use Rattle.laws_chip.proofs.Attended.{free_stands}
 use Rattle.laws_chip.proofs.Rests.{IsResting, drained_rests}
-use Rattle.laws_chip.proofs.Sending.{recalibrate_obeyed, seek_obeyed}
 use Rattle.laws_chip.proofs.SoundParts.{basis_same}
-use Rattle.laws_chip.proofs.Standing.{Stands}
+use Rattle.laws_chip.proofs.Standing.{Stands, given_obeyed}
 use Rattle.laws_chip.proofs.WholeTransfers.{attending, byte_attends, drained_front, drained_pace, kept_front, same_moves}
+use Rattle.laws_chip.proofs.HeadsGoing.{none_pending}
 
 -- ---- results that are taken over
-
-abbrev none_pending : List (Option ℕ)
-none_pending = None ∷ None ∷ None ∷ None ∷ []
 
 -- the pending results without that of the lowest drive
 abbrev without_first : List (Option ℕ) → List (Option ℕ)
@@ -68,11 +66,7 @@ all_clear (Some w) (Some x) (Some y) (Some z) = refl
 
 four_clear : (pending : List (Option ℕ)) → length pending ≡ 4 → without_first (without_first (without_first (without_first pending))) ≡ none_pending
 four_clear (w ∷ x ∷ y ∷ z ∷ []) four = all_clear w x y z
-four_clear [] four = absurd (omega arith)
-four_clear (w ∷ []) four = absurd (omega arith)
-four_clear (w ∷ x ∷ []) four = absurd (omega arith)
-four_clear (w ∷ x ∷ y ∷ []) four = absurd (omega arith)
-four_clear (w ∷ x ∷ y ∷ z ∷ v ∷ rest) four = absurd (omega arith)
+four_clear _ four = absurd (omega arith)
 
 -- the controller takes commands
 pub record IsIdleAt (front : Front) : Type 0 where
@@ -174,20 +168,23 @@ drained_interrupts (suc n) one other front pace same =
     (drained_pace n one ∙ (pace ∙ sym (drained_pace n other))) (drained_interrupts n one other front pace same)
     ∙ ap (λ (f : Front). (kept (pending_outside f) after).interrupts) (drained_front n one other front)
 
-kept_paced : (result : Option (ℕ × ℕ)) (old : ChipState) → (kept result old).paced ≡ old.paced
-kept_paced None old = refl
-kept_paced (Some (status, cylinder)) old = by_told (is_told old.pace status)
+-- the chip but its front and interrupts stays
+kept_rest : (result : Option (ℕ × ℕ)) (old : ChipState) → (interrupts : Interrupting) × (kept result old ≡ record old { interrupts = interrupts })
+kept_rest None old = (old.interrupts, refl)
+kept_rest (Some (status, cylinder)) old = by_told (is_told old.pace status)
   where
-    by_told : (b : Bool) → (if b then record old { interrupts = with_result status cylinder old.interrupts } else old).paced ≡ old.paced
-    by_told true = refl
-    by_told false = refl
+    by_told : (b : Bool) → (interrupts : Interrupting) × ((if b then record old { interrupts = with_result status cylinder old.interrupts } else old) ≡ record old { interrupts = interrupts })
+    by_told true = (with_result status cylinder old.interrupts, refl)
+    by_told false = (old.interrupts, refl)
 
-drained_paced : (n : ℕ) (chip : ChipState) → (drained_by n chip).paced ≡ chip.paced
+pub drained_rest : (n : ℕ) (chip : ChipState) → (front : Front) × (interrupts : Interrupting) × (drained_by n chip ≡ record chip { front = front; interrupts = interrupts })
 unfolding drained_by
-drained_paced zero chip = refl
-drained_paced (suc n) chip =
+drained_rest zero chip = (chip.front, chip.interrupts, refl)
+drained_rest (suc n) chip =
     let before = drained_by n chip in
-    kept_paced (pending_outside before.front) (with_front (sensed_outside before.front) before) ∙ drained_paced n chip
+    let front = sensed_outside before.front in
+    let (interrupts, is) = kept_rest (pending_outside before.front) (with_front front before) in
+    (front, interrupts, is ∙ ap (λ (set : ChipState). record set { front = front; interrupts = interrupts }) (drained_rest n chip).2)
 
 -- ---- the command
 
@@ -198,16 +195,7 @@ goal_heads Version order interrupts goal is = absurd (cc)
 goal_heads Perpendicular order interrupts goal is = absurd (cc)
 goal_heads DumpRegisters order interrupts goal is = absurd (cc)
 goal_heads (Lock on) order interrupts goal is = absurd (cc)
-goal_heads SenseDrive order interrupts goal is = refl
-goal_heads Recalibrate order interrupts goal is = refl
-goal_heads Seek order interrupts goal is = refl
-goal_heads (RelativeSeek inward) order interrupts goal is = refl
-goal_heads Configure order interrupts goal is = refl
-goal_heads (ReadId mfm) order interrupts goal is = refl
-goal_heads (FormatTrack mfm) order interrupts goal is = refl
-goal_heads (Transfer mfm) order interrupts goal is = refl
-goal_heads (Verify mfm) order interrupts goal is = refl
-goal_heads (ReadTrack mfm) order interrupts goal is = refl
+goal_heads _ order interrupts goal is = refl
 
 same_some : (one other : Option ℕ) → Some one ≡ Some other → one ≡ other
 same_some one other is = cc
@@ -217,46 +205,33 @@ goal_moves Recalibrate goal set new is obeys = subst (λ g. Moves g set new) (sa
 goal_moves Seek goal set new is obeys = subst (λ g. Moves g set new) (same_some (Some set.order.key.c) goal is) obeys
 goal_moves (RelativeSeek inward) goal set new is obeys =
     subst (λ g. Moves g set new) (same_some (Some (relative_target inward (cylinder_of set.order.unit set.interrupts) set.order.key.c)) goal is) obeys
-goal_moves Specify goal set new is obeys = absurd (cc)
-goal_moves SenseInterrupt goal set new is obeys = absurd (cc)
-goal_moves Version goal set new is obeys = absurd (cc)
-goal_moves Perpendicular goal set new is obeys = absurd (cc)
-goal_moves DumpRegisters goal set new is obeys = absurd (cc)
-goal_moves (Lock on) goal set new is obeys = absurd (cc)
-goal_moves SenseDrive goal set new is obeys = absurd (cc)
-goal_moves Configure goal set new is obeys = absurd (cc)
-goal_moves (ReadId mfm) goal set new is obeys = absurd (cc)
-goal_moves (FormatTrack mfm) goal set new is obeys = absurd (cc)
-goal_moves (Transfer mfm) goal set new is obeys = absurd (cc)
-goal_moves (Verify mfm) goal set new is obeys = absurd (cc)
-goal_moves (ReadTrack mfm) goal set new is obeys = absurd (cc)
+goal_moves _ goal set new is obeys = absurd (cc)
 
 -- ---- what is then under way in the inner controller
 
 pub motion_within : (motion : Motion) → IsMotion motion → steps_left motion ≤ 256
-motion_within (Outward pulses) few = omega arith
 motion_within (Toward cylinder target) (first, second) = omega arith
-motion_within Ended few = omega arith
+motion_within _ few = omega arith
 
 -- where the seek goes that the inner controller is given, and from where
 abbrev pub motion_to : ℕ → ℕ → Front → Motion
 motion_to unit target start = Toward (slice_index start.adapter.controller.seeks.cylinders (unit % 4)) target
 
 -- the inner controller is given a SEEK
-pub seek_sent : (unit target : ℕ) (start new : Front) → Stands start → Sends (moving unit (Some target)) start new
+pub seek_sent : (unit target : ℕ) (start new : Front) → Stands start → GivesCommand (moving unit (Some target)) start new
     → (new.stage ≡ Through) × (new.adapter.controller ≡ seeking_to unit target (record start.adapter.controller { command = [] }))
-seek_sent unit target start new stands sends = let obeyed = seek_obeyed unit target start new stands sends in
+seek_sent unit target start new stands gives = let obeyed = given_obeyed (command.Seek unit target) start new stands refl gives in
     (obeyed.through, obeyed.obeys.0 stands.rests)
 
-pub given_within : (unit target : ℕ) (start new : Front) → Stands start → IsInRange new.adapter.controller → Sends (moving unit (Some target)) start new → steps_left (motion_to unit target start) ≤ 256
-given_within unit target start new stands range sends =
+pub given_within : (unit target : ℕ) (start new : Front) → Stands start → IsInRange new.adapter.controller → GivesCommand (moving unit (Some target)) start new → steps_left (motion_to unit target start) ≤ 256
+given_within unit target start new stands range gives =
     let motion = motion_to unit target start in
-    motion_within motion (range.seeks.motion (record { drive = unit % 4; motion = motion }) (ap (λ (fdc : Fdc). fdc.seeks.seek) (seek_sent unit target start new stands sends).1))
+    motion_within motion (range.seeks.motion (record { drive = unit % 4; motion = motion }) (ap (λ (fdc : Fdc). fdc.seeks.seek) (seek_sent unit target start new stands gives).1))
 
 pub given_seek : (left unit target : ℕ) (start new : Front) → Stands start → start.adapter.controller.seeks.pending ≡ none_pending → start.adapter.controller.poll_due ≡ false → IsInRange new.adapter.controller
-    → Sends (moving unit (Some target)) start new → steps_left (motion_to unit target start) ≤ left → SeeksBehind left (unit % 4) (Some target) new
-given_seek left unit target start new stands none polled range sends within =
-    let (through, is) = seek_sent unit target start new stands sends in
+    → GivesCommand (moving unit (Some target)) start new → steps_left (motion_to unit target start) ≤ left → SeeksBehind left (unit % 4) (Some target) new
+given_seek left unit target start new stands none polled range gives within =
+    let (through, is) = seek_sent unit target start new stands gives in
     record {
       through = through;
       takes = ap (λ (fdc : Fdc). fdc.phase) is ∙ stands.takes;
@@ -272,9 +247,9 @@ given_seek left unit target start new stands none polled range sends within =
     }
 
 pub given_seeks : (unit : ℕ) (goal : Option ℕ) (start new : Front) → Stands start → start.adapter.controller.seeks.pending ≡ none_pending → start.adapter.controller.poll_due ≡ false → IsInRange new.adapter.controller
-    → Sends (moving unit goal) start new → SeeksBehind (most_of goal) (unit % 4) goal new
-given_seeks unit None start new stands none polled range sends =
-    let obeyed = recalibrate_obeyed unit start new stands sends in
+    → GivesCommand (moving unit goal) start new → SeeksBehind (most_of goal) (unit % 4) goal new
+given_seeks unit None start new stands none polled range gives =
+    let obeyed = given_obeyed (command.Recalibrate unit) start new stands refl gives in
     let is : new.adapter.controller ≡ recalibrating unit (record start.adapter.controller { command = [] }) = obeyed.obeys.0 stands.rests in
     record {
       through = obeyed.through;
@@ -289,8 +264,8 @@ given_seeks unit None start new stands none polled range sends =
       pending = ap (λ (fdc : Fdc). fdc.seeks.pending) is ∙ none;
       four = range.seeks.cylinders;
     }
-given_seeks unit (Some target) start new stands none polled range sends =
-    given_seek 256 unit target start new stands none polled range sends (given_within unit target start new stands range sends)
+given_seeks unit (Some target) start new stands none polled range gives =
+    given_seek 256 unit target start new stands none polled range gives (given_within unit target start new stands range gives)
 
 none_of : (pace : Option PacedSeek) → is_some pace ≡ false → pace ≡ None
 none_of None is = refl
@@ -335,7 +310,7 @@ comes_by code goal byte old new was few completes is writes still =
       unpaced = none_of set.pace (or_parts (is_some set.pace) (moves_heads set.front) stays).0;
       pending = taken.pending;
       poll = taken.taken.poll;
-      moves = subst (λ b. MovesIf b goal set new) (drained_paced 4 start) moves;
+      moves = subst (λ b. MovesIf b goal set new) (ap (λ (chip : ChipState). chip.paced) (drained_rest 4 start).2) moves;
     }
 
 pub seek_comes : (code : ChipOpcode) (goal : Option ℕ) (byte : ℕ) (old new : ChipState) → IsSoundInRange old → IsSoundInRange new → byte < 256
@@ -344,12 +319,12 @@ pub seek_comes : (code : ChipOpcode) (goal : Option ℕ) (byte : ℕ) (old new :
 seek_comes code goal byte old new was is_after few completes is writes still unpaced polled =
     let coming = comes_by code goal byte old new was few completes is writes still in
     let set = coming.set in
-    let (sends, rest) = subst (λ b. MovesIf b goal set new) unpaced coming.moves in
+    let (gives, rest) = subst (λ b. MovesIf b goal set new) unpaced coming.moves in
     subst (λ (order : Order). HeadsGo (most_of goal) (order.unit % 4) goal Ready new) coming.order_is (record {
       at = ap (λ (chip : ChipState). chip.stage) rest;
       unpaced = ap (λ (chip : ChipState). chip.pace) rest ∙ coming.unpaced;
       few = of_four set.order.unit;
-      going = given_seeks set.order.unit goal set.front new.front coming.stands coming.pending (coming.poll ∙ polled) is_after.range sends;
+      going = given_seeks set.order.unit goal set.front new.front coming.stands coming.pending (coming.poll ∙ polled) is_after.range gives;
     })
 
 -- ---- with the strap for the time of step pulses on

@@ -1,23 +1,22 @@
 -- Heads that move come to stand, whatever calls come: each device step leaves fewer, and other calls leave no more.
-use Rattle.std.proofs.Common.{◌≡◌, ◌⊎◌, inl, inr, ℕ, zero, suc, ◌+◌, ◌-◌, ◌*◌, ◌^◌, ◌<◌, ◌≤◌, max, nat_le, Bool, true, false, not, ◌&&◌, ◌||◌, ◌==◌, if◌then◌else◌, Option, Some, None, is_some, List, [], ◌∷◌, length, bit_and, bit_or, refl, sym, ◌∙◌, ap, subst, arith}
+use Rattle.std.proofs.Common.{◌≡◌, ℕ, ◌+◌, ◌-◌, ◌*◌, ◌^◌, ◌<◌, ◌≤◌, max, nat_le, Bool, true, false, not, ◌&&◌, ◌||◌, ◌==◌, if◌then◌else◌, Option, Some, None, is_some, List, [], ◌∷◌, length, bit_and, bit_or, refl, sym, ◌∙◌, ap, subst, arith}
 use Rattle.std.specs.Option.{option_map_or}
-use Rattle.std.proofs.lemmas.Bool.{and_from, eqb-true, false≢true, not-true, or_right}
-use Rattle.fdc_commands.specs.Seeking.{Seeking, has_ended, has_ended_seek, is_seeking}
+use Rattle.std.proofs.lemmas.Bool.{eqb-true, false≢true, not-true, or_right}
+use Rattle.fdc_commands.specs.Seeking.{Seeking, has_ended, is_seeking}
 use Rattle.fdc_commands.specs.declared.motion.Motion.{Motion}
-use Rattle.fdc_commands.specs.declared.motion.Motion.TheVariants.{Outward, Toward, Ended}
+use Rattle.fdc_commands.specs.declared.motion.Motion.TheVariants.{Ended}
 use Rattle.fdc_commands.specs.declared.motion.Seek.{Seek as DriveSeek}
 use Rattle.fdc_core.specs.Ports.{resets}
 use Rattle.fdc_core.specs.Ranges.{IsInRange}
-use Rattle.fdc_core.specs.State.{is_held}
 use Rattle.fdc_core.specs.declared.controller.Fdc.{Fdc}
 use Rattle.fdc_sequencer.specs.Fronts.{Front, WritesFront, interrupts_outside, status_at}
 use Rattle.fdc_sequencer.specs.Moves.{StepsFront}
 use Rattle.fdc_chip.specs.Answers.{answer_bytes, is_of_data}
-use Rattle.fdc_chip.specs.Chips.{ChipState, passes_by_channel, passes_by_port, with_front}
+use Rattle.fdc_chip.specs.Chips.{ChipState, with_front}
 use Rattle.fdc_chip.specs.Codes.{code_of}
 use Rattle.fdc_chip.specs.Doing.{AttendsIf, AttendsTo, Obeys, drained, is_moving, moves_heads, needs_heads, pace_begun}
 use Rattle.fdc_chip.specs.Paces.{Paces}
-use Rattle.fdc_chip.specs.Ports.{CollectsIf, ComesIf, GivesChipIf, GivesIf, ReadsAt, ReadsIf, TakesByte, TakesIf, WritesChip, byte_told, count_told, latched_by, is_whole, may_come, quieted_if, reset_if, value_behind, with_next}
+use Rattle.fdc_chip.specs.Ports.{CollectsIf, ComesIf, GivesChipIf, GivesIf, ReadsAt, ReadsIf, TakesByte, TakesIf, byte_told, latched_by, is_whole, may_come, quieted_if, reset_if, value_behind, with_next}
 use Rattle.fdc_chip.specs.Settings.{step_words}
 use Rattle.fdc_chip.specs.Steps.{Follows}
 use Rattle.fdc_chip.specs.declared.answer.ChipAnswer.{ChipAnswer}
@@ -29,11 +28,10 @@ use Rattle.fdc_chip.specs.declared.stage.ChipStage.{ChipStage}
 use Rattle.fdc_chip.specs.declared.stage.ChipStage.TheVariants.{Ready, Held, Busy, Telling}
 use Rattle.laws_chip.specs.Bounds.{AreSeeking, HeadsGoOn, IsUsed, StaysHeld, heads_go, heads_steps, is_executed, seek_steps}
 use Rattle.laws_chip.specs.Calls as made
-use Rattle.laws_chip.specs.Calls.{Call, Does, WritesByte, is_step, steps_in, steps_of}
+use Rattle.laws_chip.specs.Calls.{Call, Does, is_step, steps_in, steps_of}
 use Rattle.laws_chip.specs.PacedSeeks.{pulses_left}
 use Rattle.laws_chip.specs.Seeks.{steps_left}
-use Rattle.laws_chip.specs.Sound.{IsSound, RestsBehind}
-use Rattle.laws_chip.proofs.BusyLeft.{none_of}
+use Rattle.laws_chip.specs.Sound.{IsSound}
 use Rattle.laws_chip.proofs.Channels.{front_left}
 use Rattle.laws_chip.proofs.HeadsLeft.{IsFewLater, IsPaced, paces_on}
 use Rattle.laws_chip.proofs.HeadsTold.{TellsEnd, drained_left, drained_same}
@@ -42,28 +40,27 @@ use Rattle.laws_chip.proofs.KnownEnds.{KnowsEnd, call_known, idle_counts, none_b
 use Rattle.laws_chip.proofs.PassedOn.{other_read}
 use Rattle.laws_chip.proofs.PulsesGoing.{bits_shown}
 use Rattle.laws_chip.proofs.SeeksBegun.{IsIdleAt, all_taken}
-use Rattle.laws_chip.proofs.SoundCalls.{byte_stays, call_sound, comes_free, front_anew}
+use Rattle.laws_chip.proofs.SoundCalls.{byte_stays, call_sound, front_anew}
 use Rattle.laws_chip.proofs.SoundParts.{at_rest, is_busy}
 use Rattle.laws_chip.proofs.Standing.{status_free}
 use Rattle.laws_chip.proofs.UnderWay.{clash, either_way}
 use Rattle.laws_chip.proofs.UsedWaits.{is_held_at, obeys_free, used_known}
 use Rattle.laws_chip.proofs.WholeTransfers.{drained_pace}
+use Rattle.laws_chip.proofs.TracksLast.{none_of}
+use Rattle.laws_chip.proofs.SinglesLast.{steps_less}
 
 -- ---- what is left
 
 executed_busy : (stage : ChipStage) → is_executed stage ≡ false → is_busy stage ≡ false
-executed_busy Ready idle = refl
-executed_busy Held idle = refl
 executed_busy (Busy what) idle = absurd (false≢true (sym idle))
-executed_busy (Telling answer read) idle = refl
+executed_busy _ idle = refl
 
 abbrev left_at : ℕ → ChipState → ℕ
 left_at words chip = heads_steps words chip.pace chip.front.adapter.controller.seeks.seek
 
 run_some : (motion : Motion) → not (has_ended motion) ≡ true → 1 ≤ steps_left motion
-run_some (Outward pulses) runs = omega arith
-run_some (Toward cylinder target) runs = omega arith
 run_some Ended runs = absurd (false≢true runs)
+run_some _ runs = omega arith
 
 pace_some : (all wait now : ℕ) → 0 < max wait now + (all + 257)
 pace_some all wait now = omega arith
@@ -133,16 +130,7 @@ obeys_few words n code.Version old new other is few = same_few words n old new (
 obeys_few words n code.Perpendicular old new other is few = same_few words n old new (ap (λ (chip : ChipState). chip.pace) is) (ap (λ (chip : ChipState). chip.front.adapter.controller.seeks.seek) is) few
 obeys_few words n code.DumpRegisters old new other is few = same_few words n old new (ap (λ (chip : ChipState). chip.pace) is) (ap (λ (chip : ChipState). chip.front.adapter.controller.seeks.seek) is) few
 obeys_few words n (code.Lock on) old new other is few = same_few words n old new (ap (λ (chip : ChipState). chip.pace) is) (ap (λ (chip : ChipState). chip.front.adapter.controller.seeks.seek) is) few
-obeys_few words n code.SenseDrive old new other is few = absurd (false≢true (sym other))
-obeys_few words n code.Recalibrate old new other is few = absurd (false≢true (sym other))
-obeys_few words n code.Seek old new other is few = absurd (false≢true (sym other))
-obeys_few words n (code.RelativeSeek inward) old new other is few = absurd (false≢true (sym other))
-obeys_few words n code.Configure old new other is few = absurd (false≢true (sym other))
-obeys_few words n (code.ReadId mfm) old new other is few = absurd (false≢true (sym other))
-obeys_few words n (code.FormatTrack mfm) old new other is few = absurd (false≢true (sym other))
-obeys_few words n (code.Transfer mfm) old new other is few = absurd (false≢true (sym other))
-obeys_few words n (code.Verify mfm) old new other is few = absurd (false≢true (sym other))
-obeys_few words n (code.ReadTrack mfm) old new other is few = absurd (false≢true (sym other))
+obeys_few words n _ old new other is few = absurd (false≢true (sym other))
 
 -- any other command is held, since heads move
 attends_few : (heads : Bool) (words n : ℕ) (found : ChipOpcode) (old new : ChipState) → needs_heads found ≡ heads → is_moving old ≡ true → AttendsIf (heads && is_moving old) found old new → left_at words old ≤ n → left_at words new ≤ n
@@ -180,17 +168,15 @@ told_few words n answer read old new is few =
     (same_few words n old (byte_told answer read old) (told_pace answer read old) (ap (λ (front : Front). front.adapter.controller.seeks.seek) (byte_stays answer read old).front) few)
 
 read_few : (stage : ChipStage) (words n value : ℕ) (old new : ChipState) → old.stage ≡ stage → is_busy stage ≡ false → ReadsAt stage old value new → left_at words old ≤ n → left_at words new ≤ n
-read_few Ready words n value old new at idle reads few = is_few words n old new (subst (λ b. ReadsIf b old value new) (none_by_port old (ap is_busy at)) reads).1 few
-read_few Held words n value old new at idle reads few = is_few words n old new (subst (λ b. ReadsIf b old value new) (none_by_port old (ap is_busy at)) reads).1 few
 read_few (Busy what) words n value old new at idle reads few = absurd (false≢true (sym idle))
 read_few (Telling answer read) words n value old new at idle (value_is, is) few = told_few words n answer read old new is few
+read_few _ words n value old new at idle reads few = is_few words n old new (subst (λ b. ReadsIf b old value new) (none_by_port old (ap is_busy at)) reads).1 few
 
 write_few : (stage : ChipStage) (words n value : ℕ) (old new : ChipState) → old.stage ≡ stage → is_busy stage ≡ false → IsIdleAt old.front → IsInRange old.front.adapter.controller → heads_go old ≡ true → TakesByte stage value old new
     → left_at words old ≤ n → left_at words new ≤ n
 write_few Ready words n value old new at idle free range goes comes few = comes_few (may_come old) words n value old new free range goes comes few
-write_few Held words n value old new at idle free range goes gives few = is_few words n old new (subst (λ b. GivesIf b value old new) (none_by_port old (ap is_busy at)) gives) few
 write_few (Busy what) words n value old new at idle free range goes gives few = absurd (false≢true (sym idle))
-write_few (Telling answer read) words n value old new at idle free range goes gives few = is_few words n old new (subst (λ b. GivesIf b value old new) (none_by_port old (ap is_busy at)) gives) few
+write_few _ words n value old new at idle free range goes gives few = is_few words n old new (subst (λ b. GivesIf b value old new) (none_by_port old (ap is_busy at)) gives) few
 
 -- a reset lets no heads move
 none_go : (pace : Option PacedSeek) (s : Seeking) → pace ≡ None → s.seek ≡ None → (is_some pace || is_seeking s) ≡ false
@@ -222,9 +208,7 @@ other_few (made.Writes port value) words n old new idle free range goes still do
     port_few (resets port behind) words n port behind old (latched_by port value old) new refl no_data refl still front rest few)
 other_few made.Changes words n old new idle free range goes still does no_step few =
     same_few words n old new (ap (λ (chip : ChipState). chip.pace) does.rest) (ap (λ (fdc : Fdc). fdc.seeks.seek) does.front.controller) few
-other_few (made.Straps on) words n old new idle free range goes still does no_step few =
-    same_few words n old new (ap (λ (chip : ChipState). chip.pace) does) (ap (λ (chip : ChipState). chip.front.adapter.controller.seeks.seek) does) few
-other_few (made.StrapsSteps on) words n old new idle free range goes still does no_step few =
+other_few _ words n old new idle free range goes still does no_step few =
     same_few words n old new (ap (λ (chip : ChipState). chip.pace) does) (ap (λ (chip : ChipState). chip.front.adapter.controller.seeks.seek) does) few
 
 -- ---- a device step
@@ -295,20 +279,10 @@ call_few call words n old new sound knows was still stays does few = either_way 
     by_step : (call : Call) → is_step call ≡ true → Does call old new → left_at words new ≤ n - steps_of call
     by_step made.Steps is step =
         step_few old.stage words n old step.between new refl (executed_busy old.stage was.idle) sound was still stays (knows.tells (executed_busy old.stage was.idle)) step.steps step.follows few
-    by_step (made.Takes byte) is does = absurd (false≢true is)
-    by_step (made.Gives byte given) is does = absurd (false≢true is)
-    by_step made.Counts is does = absurd (false≢true is)
-    by_step (made.Reads port value) is does = absurd (false≢true is)
-    by_step (made.Writes port value) is does = absurd (false≢true is)
-    by_step made.Changes is does = absurd (false≢true is)
-    by_step (made.Straps on) is does = absurd (false≢true is)
-    by_step (made.StrapsSteps on) is does = absurd (false≢true is)
+    by_step _ is does = absurd (false≢true is)
 
 some_few : (all n : ℕ) → 0 < all → all ≤ n → 0 < n
 some_few all n some few = omega arith
-
-steps_less : (steps more n : ℕ) → more < n - steps → steps + more < n
-steps_less steps more n less = omega arith
 
 seeks_last : (words n : ℕ) (calls : List Call) (old new : ChipState) → IsSound old → KnowsEnd old → HeadsGoOn words old → left_at words old ≤ n → AreSeeking words calls old new → steps_in calls < n
 seeks_last words n [] old new sound knows was few same = some_few (left_at words old) n (go_some words old.pace old.front.adapter.controller.seeks.seek was.goes) few

@@ -11,46 +11,33 @@ use Rattle.fdc_phases.specs.declared.phases.Phase.TheVariants.{Command as Taking
 use Rattle.fdc_core.specs.State.{is_held}
 use Rattle.fdc_core.specs.Whole.{ending_told, given_up, given_up_if, mark_of, without_seek}
 use Rattle.fdc_core.specs.declared.controller.Fdc.{Fdc}
-use Rattle.fdc_adapter.specs.Adapters.{AdapterState, StepsAdapter}
-use Rattle.fdc_sequencer.specs.Fronts.{BeginsSector, Front, with_controller, implies_seeks}
+use Rattle.fdc_sequencer.specs.Adapters.{AdapterState, StepsAdapter}
+use Rattle.fdc_sequencer.specs.Fronts.{BeginsSector, Front, GivesTransfer, results_outside, results_taken, with_controller}
 use Rattle.fdc_sequencer.specs.Moves.{EndsIf, EndsSector, FollowsStep, MovesOn, SeeksOn, StepsFront, goes_on, has_met_other, is_unwanted, judged, judged_if, passed_over_if, results_behind, results_failed}
-use Rattle.fdc_sequencer.specs.Opcodes.{opcode_of}
 use Rattle.fdc_sequencer.specs.Transfers.{next_of}
-use Rattle.fdc_sequencer.specs.declared.opcode.Opcode.{Opcode}
 use Rattle.fdc_sequencer.specs.declared.stage.Moving.{Moving as MovingSector}
 use Rattle.fdc_sequencer.specs.declared.stage.FrontStage.{FrontStage}
-use Rattle.fdc_sequencer.specs.declared.stage.FrontStage.TheVariants.{Through, Collecting, Seeking, Moving, Telling}
+use Rattle.fdc_sequencer.specs.declared.stage.FrontStage.TheVariants.{Through, Seeking, Moving, Telling}
 use Rattle.fdc_sequencer.specs.declared.transfer.Transfer.{Transfer}
-use Rattle.laws_sequencer.specs.Lasting.{is_under_way}
-use Rattle.laws_sequencer.specs.Serving.{History, IsFree, ServesAt, history_stepped, nothing_moved, sent_of}
-use Rattle.laws_sequencer.proofs.Free.{given_free, next_size, sought_free, step_free}
-use Rattle.laws_sequencer.proofs.Served.{steps_serve}
-use Rattle.fdc_chip.specs.Doing.{Sends, is_size}
-use Rattle.fdc_chip.specs.Ending.{has_results, results_taken}
-use Rattle.fdc_chip.specs.Orders.{order_bytes}
-use Rattle.fdc_chip.specs.declared.order.Order.{Order}
-use Rattle.laws_chip.specs.Beginning.{transfer_sent}
+use Rattle.laws_chip.specs.SectorLasting.{is_under_way}
+use Rattle.laws_chip.specs.Serving.{History, IsFree, ServesAt, history_stepped, nothing_moved, sent_of}
+use Rattle.laws_chip.proofs.Free.{given_free, next_size, sought_free, step_free}
+use Rattle.laws_chip.proofs.Served.{steps_serve}
+use Rattle.laws_chip.proofs.Shown.{tells_results}
+use Rattle.fdc_chip.specs.Doing.{is_size}
 use Rattle.laws_chip.specs.Sound.{ServesBehind, WaitsForHeads}
-use Rattle.laws_chip.proofs.FirstSectors.{IsBase, IsCarried, sector_carried}
-use Rattle.laws_chip.proofs.NineBytes.{order_begins}
+use Rattle.laws_chip.proofs.FirstSectors.{IsBase, IsCarried, first_begins, sector_carried}
 use Rattle.laws_chip.proofs.Rests.{base_on, adapter_base, adapter_takes}
 use Rattle.laws_chip.proofs.Standing.{Stands}
-use Rattle.laws_chip.proofs.Tellings.{results_wait, taken_is}
+use Rattle.laws_chip.proofs.Tellings.{taken_is}
 use Rattle.laws_chip.proofs.UnderWay.{not_through}
 
 -- ---- it begins
 
-pub order_serves : (opcode : Opcode) (order : Order) (start new : Front) → Stands start → opcode_of order.code ≡ Some opcode → is_size order.key.n ≡ true → Sends (order_bytes order) start new
-    → ServesBehind new × IsBase start.adapter.controller new.adapter.controller
-order_serves opcode order start new stands is size sends =
-    let (begins, carried, starts) = order_begins opcode order start new stands is size sends in (
-      record {
-        under_way = carried.under_way;
-        first = transfer_sent (implies_seeks start) opcode order;
-        history = nothing_moved false;
-        serves = begins.serves;
-        waits = carried.waits;
-      },
+pub first_serves : (first : Transfer) (start new : Front) → Stands start → is_size first.key.n ≡ true → GivesTransfer first start new → ServesBehind new × IsBase start.adapter.controller new.adapter.controller
+first_serves first start new stands size gives =
+    let (begins, carried, starts) = first_begins first start new stands size gives in (
+      record { under_way = carried.under_way; first = first; history = nothing_moved false; serves = begins.serves; waits = carried.waits },
       carried.base,
     )
 
@@ -59,7 +46,7 @@ order_serves opcode order start new stands is size sends =
 -- the results of the command are given, and the controller takes commands
 pub record TellsBehind (front : Front) : Type 0 where
   pub results : Results
-  pub told : front.stage ≡ Telling results 0
+  pub told : front.stage ≡ Telling results
   pub takes : front.adapter.controller.phase ≡ Taking
   pub rests : seek_bits front.adapter.controller.seeks ≡ 0
 
@@ -104,10 +91,10 @@ seeks_go false at counted old front new stage_is takes ended sized clear base is
 
 -- another sector begins, or results are given
 next_or : (mark : Option Bool) (ending : Ending) (moving : MovingSector) (old new : Front) → EndsSector mark moving ending old new
-    → ((results : Results) × (new ≡ record old { stage = Telling results 0 })) ⊎ ((met : Bool) × BeginsSector (next_of moving.transfer) false met old new)
+    → ((results : Results) × (new ≡ record old { stage = Telling results })) ⊎ ((met : Bool) × BeginsSector (next_of moving.transfer) false met old new)
 next_or mark (Done marked) moving old new ends = by_next (goes_on moving marked) ends
   where
-    by_next : (b : Bool) → EndsIf b moving marked old new → ((results : Results) × (new ≡ record old { stage = Telling results 0 })) ⊎ ((met : Bool) × BeginsSector (next_of moving.transfer) false met old new)
+    by_next : (b : Bool) → EndsIf b moving marked old new → ((results : Results) × (new ≡ record old { stage = Telling results })) ⊎ ((met : Bool) × BeginsSector (next_of moving.transfer) false met old new)
     by_next true begins = inr (has_met_other moving marked, begins)
     by_next false is = inl (results_behind moving marked, is)
 next_or mark NoMark moving old new is = inl (results_failed mark moving NoMark, is)
@@ -157,8 +144,7 @@ step_goes : (stage : FrontStage) (first : Transfer) (history : History) (old : F
     → ServesAt stage first history old.adapter.controller → WaitsForHeads stage old.adapter.controller.phase → old.adapter.controller.command ≡ [] → old.adapter.controller.non_dma ≡ false
     → StepsAdapter old.adapter between → FollowsStep (mark_of old.adapter.controller) stage (record old { adapter = between }) new → Goes old.adapter.controller new
 step_goes Through first history old between new stage_is under sized now waits none clear steps follows = absurd (false≢true under)
-step_goes (Collecting opcode) first history old between new stage_is under sized now waits none clear steps follows = absurd (false≢true under)
-step_goes (Telling results read) first history old between new stage_is under sized now waits none clear steps follows = absurd (false≢true under)
+step_goes (Telling results) first history old between new stage_is under sized now waits none clear steps follows = absurd (false≢true under)
 step_goes (Seeking at counted) first history old between new stage_is under sized (here, nothing) waits none clear steps follows =
     let base = adapter_base old.adapter between steps none in
     seeks_go (has_ended_seek between.controller.seeks) at counted old.adapter.controller (record old { adapter = between }) new stage_is (adapter_takes old.adapter between steps waits) refl
@@ -175,8 +161,8 @@ serves_step old new step none clear was =
 
 -- ---- its results are taken
 
-pub tells_shown : (front : Front) → TellsBehind front → has_results front ≡ true
-tells_shown front tells = results_wait front tells.results tells.told
+pub tells_shown : (front : Front) (tells : TellsBehind front) → results_outside front ≡ Some tells.results
+tells_shown front tells = tells_results front tells.results tells.told
 
 pub tells_taken : (front : Front) → is_held front.adapter.controller ≡ false → front.adapter.controller.command ≡ [] → front.adapter.controller.non_dma ≡ false → TellsBehind front
     → Stands (results_taken front) × IsBase front.adapter.controller (results_taken front).adapter.controller

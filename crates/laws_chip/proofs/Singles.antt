@@ -1,11 +1,10 @@
 -- A READ ID or a FORMAT TRACK of the inner controller: it begins, goes on through device steps, and its results wait.
-use Rattle.std.proofs.Common.{◌≡◌, ◌⊎◌, inl, inr, ℕ, ◌+◌, ◌<◌, ◌==◌, Bool, true, false, not, ◌&&◌, if◌then◌else◌, [], bit_and, bit_or, refl, sym, ◌∙◌, ap, subst, arith}
+use Rattle.std.proofs.Common.{◌≡◌, ◌⊎◌, inl, inr, ℕ, ◌+◌, ◌<◌, Bool, true, false, not, ◌&&◌, if◌then◌else◌, Some, None, [], refl, sym, ◌∙◌, ap, subst, arith}
 use Rattle.std.proofs.lemmas.Bool.{false≢true}
 use Rattle.flop_base.specs.declared.key.Chrn.{Chrn}
 use Rattle.drive_model.specs.Drive.{DriveState, at_index}
 use Rattle.fdc_registers.specs.Fifo.{Fifo, emptied}
 use Rattle.fdc_commands.specs.Seeking.{seek_bits, with_polls}
-use Rattle.fdc_commands.specs.Table.{is_begun}
 use Rattle.fdc_commands.specs.declared.command.Command.TheVariants.{FormatTrack, ReadId}
 use Rattle.fdc_commands.specs.declared.results.Results.{Results}
 use Rattle.fdc_stages.specs.declared.ending.Ending.{Ending}
@@ -18,7 +17,7 @@ use Rattle.fdc_stages.specs.Searches.{SearchOutcome}
 use Rattle.fdc_stages.specs.Searches as searched
 use Rattle.fdc_phases.specs.Answers.{no_key, results_of}
 use Rattle.fdc_phases.specs.Commands.{IsFormattingTrack, IsReadingId}
-use Rattle.fdc_phases.specs.Phases.{is_listening}
+use Rattle.fdc_phases.specs.Phases.{ending_of_phase, is_listening}
 use Rattle.fdc_phases.specs.declared.answers.Answer.TheVariants.{Long}
 use Rattle.fdc_phases.specs.declared.phases.Phase.{Phase}
 use Rattle.fdc_phases.specs.declared.phases.Phase.TheVariants.{Command as Taking, Execute, Result}
@@ -28,26 +27,24 @@ use Rattle.fdc_phases.specs.declared.transfers.Formatting.{Formatting}
 use Rattle.fdc_core.specs.Commands.{BeginsData}
 use Rattle.fdc_core.specs.Formatting.{FormatDoes, after_laid}
 use Rattle.fdc_core.specs.Listening.{ExecutesIn, ExecutesTask, StepsOn}
-use Rattle.fdc_core.specs.Ports.{main_status, phase_bits}
 use Rattle.fdc_core.specs.Reading.{after_searched}
 use Rattle.fdc_core.specs.State.{finished, is_held}
 use Rattle.fdc_core.specs.Steps.{EndsIn, IsCounted, polled, steps_left}
 use Rattle.fdc_core.specs.Tasks.{FormatsNowhere, StepsNowhere, TaskStepsNowhere}
 use Rattle.fdc_core.specs.Times.{WordTime, Saw, KeptOut, Wrote, Stopped}
+use Rattle.fdc_core.specs.Whole.{given_up_if, results_of_phase}
 use Rattle.fdc_core.specs.Writes.{WritesIn, WritesTask}
 use Rattle.fdc_core.specs.Writing.{without_byte}
 use Rattle.fdc_core.specs.declared.controller.Fdc.{Fdc}
-use Rattle.fdc_adapter.specs.Adapters.{AdapterState, StepsAdapter, selected_at}
-use Rattle.fdc_sequencer.specs.Fronts.{Front, status_at, with_controller}
+use Rattle.fdc_sequencer.specs.Adapters.{AdapterState, StepsAdapter, selected_at}
+use Rattle.fdc_sequencer.specs.Fronts.{Front, results_at, results_outside, results_taken, taken_at, with_controller}
 use Rattle.fdc_sequencer.specs.Moves.{StepsFront}
 use Rattle.fdc_sequencer.specs.declared.stage.FrontStage.TheVariants.{Through}
-use Rattle.laws_sequencer.proofs.Known.{which_drive}
-use Rattle.fdc_chip.specs.Ending.{has_results, results_taken}
+use Rattle.laws_chip.proofs.Known.{which_drive}
 use Rattle.laws_chip.specs.Sound.{ExecutesBehind, executes_single, is_single}
 use Rattle.laws_chip.proofs.FirstSectors.{IsBase}
 use Rattle.laws_chip.proofs.Rests.{adapter_base, through_step}
-use Rattle.laws_chip.proofs.Sending.{IsObeyed}
-use Rattle.laws_chip.proofs.Standing.{Stands}
+use Rattle.laws_chip.proofs.Standing.{IsObeyed, Stands}
 
 -- ---- it begins
 
@@ -217,42 +214,29 @@ executes_step old new step none was =
       adapter_base old.adapter step.between step.steps none,
     )
 
--- ---- ---- what MSR shows of the command
+-- ---- ---- its results
 
-free_status : (fdc : Fdc) (bits : ℕ) → is_held fdc ≡ false → phase_bits (is_begun fdc.command) fdc.phase ≡ bits → seek_bits fdc.seeks ≡ 0 → main_status fdc ≡ bit_or bits 0
-free_status fdc bits free phase rests =
-    ap (λ held. if held then 0 else bit_or (phase_bits (is_begun fdc.command) fdc.phase) (seek_bits fdc.seeks)) free
-    ∙ (ap (λ shown. bit_or shown (seek_bits fdc.seeks)) phase ∙ ap (λ seeks. bit_or bits seeks) rests)
+none_of : (phase : Phase) → executes_single phase ≡ true → results_of_phase phase ≡ None
+none_of Taking single = absurd (false≢true single)
+none_of (Result ended) single = absurd (false≢true single)
+none_of (Execute execution) single = refl
 
-single_bits : (begun : Bool) (phase : Phase) → executes_single phase ≡ true → phase_bits begun phase ≡ 0x10
-single_bits begun Taking single = absurd (false≢true single)
-single_bits begun (Result ended) single = absurd (false≢true single)
-single_bits begun (Execute execution) single = refl
+pub executes_none : (front : Front) → ExecutesBehind front → results_outside front ≡ None
+executes_none front was = ap (λ stage. results_at stage front.adapter.controller) was.through ∙ none_of front.adapter.controller.phase was.executes
 
-shown_by : (front : Front) (value : ℕ) → front.stage ≡ Through → main_status front.adapter.controller ≡ value → has_results front ≡ (bit_and value 0xC0 == 0xC0)
-shown_by front value through status =
-    ap (λ stage. bit_and (status_at stage front.adapter.controller) 0xC0 == 0xC0) through ∙ ap (λ shown. bit_and shown 0xC0 == 0xC0) status
+pub waits_shown : (front : Front) (waits : WaitsBehind front) → results_outside front ≡ Some waits.results
+waits_shown front waits = ap (λ stage. results_at stage front.adapter.controller) waits.through ∙ ap results_of_phase waits.at
 
-pub executes_none : (front : Front) → is_held front.adapter.controller ≡ false → ExecutesBehind front → has_results front ≡ false
-executes_none front free was =
-    let fdc = front.adapter.controller in
-    shown_by front 0x10 was.through (free_status fdc 0x10 free (single_bits (is_begun fdc.command) fdc.phase was.executes) was.rests)
-
-pub waits_shown : (front : Front) → is_held front.adapter.controller ≡ false → WaitsBehind front → has_results front ≡ true
-waits_shown front free waits =
-    let fdc = front.adapter.controller in
-    shown_by front 0xD0 waits.through (free_status fdc 0xD0 free (ap (phase_bits (is_begun fdc.command)) waits.at) waits.rests)
-
--- once all seven result bytes were read the controller takes commands
+-- once the results were taken the controller takes commands
 pub waits_taken : (front : Front) → is_held front.adapter.controller ≡ false → front.adapter.controller.command ≡ [] → front.adapter.controller.non_dma ≡ false → WaitsBehind front
     → Stands (results_taken front) × IsBase front.adapter.controller (results_taken front).adapter.controller
 waits_taken front free none by_dma waits =
     let fdc = front.adapter.controller in
     let over : Front = record front { adapter = with_controller (record fdc { phase = Taking; interrupt = false }) front.adapter } in
-    let at_stage = ap (λ stage. results_taken (record front { stage = stage })) waits.through in
-    let at_phase = ap (λ phase. results_taken (record front { adapter = with_controller (record fdc { phase = phase }) front.adapter; stage = Through })) waits.at in
-    let is : results_taken front ≡ record over { stage = Through } = at_stage ∙ at_phase in
+    let is : results_taken front ≡ over =
+    ap (λ stage. taken_at stage front) waits.through
+    ∙ ap (λ phase. record front { adapter = with_controller (given_up_if (ending_of_phase phase) fdc) front.adapter }) waits.at in
     subst (λ (f : Front). Stands f × IsBase fdc f.adapter.controller) (sym is) (
-      record { through = refl; takes = refl; none = none; free = free; rests = waits.rests; by_dma = by_dma },
+      record { through = waits.through; takes = refl; none = none; free = free; rests = waits.rests; by_dma = by_dma },
       record { dor = refl; non_dma = refl; command = none },
     )

@@ -1,20 +1,18 @@
 -- A READ ID or a FORMAT TRACK of the inner controller ends: each device step leaves fewer.
-use Rattle.std.proofs.Common.{◌≡◌, inl, inr, ℕ, ◌+◌, ◌-◌, ◌<◌, ◌≤◌, Bool, true, false, not, ◌&&◌, ◌==◌, Option, List, [], ◌∷◌, bit_and, refl, sym, ◌∙◌, ap, subst, arith}
-use Rattle.std.proofs.lemmas.Bool.{eqb-false, eqb-true, false≢true}
+use Rattle.std.proofs.Common.{◌≡◌, inl, inr, ℕ, ◌+◌, ◌-◌, ◌<◌, ◌≤◌, Bool, true, false, not, ◌&&◌, ◌==◌, Option, option_map, List, [], ◌∷◌, bit_and, refl, sym, ◌∙◌, ap, subst, arith}
+use Rattle.std.proofs.lemmas.Bool.{eqb-false, false≢true}
 use Rattle.fdc_registers.specs.St1.{missing_mark}
 use Rattle.fdc_commands.specs.declared.results.Results.{Results}
 use Rattle.fdc_phases.specs.Dma.{phase_told}
 use Rattle.fdc_phases.specs.declared.phases.Phase.{Phase}
-use Rattle.fdc_phases.specs.declared.phases.Phase.TheVariants.{Command as Taking, Execute, Result}
-use Rattle.fdc_core.specs.Ports.{resets}
+use Rattle.fdc_phases.specs.declared.phases.Phase.TheVariants.{Execute}
 use Rattle.fdc_core.specs.Steps.{IsCounted, steps_left}
 use Rattle.fdc_core.specs.declared.controller.Fdc.{Fdc}
-use Rattle.fdc_sequencer.specs.Fronts.{Front, GivesFront, TakesFront, WritesFront, count_told as front_told, told_front, told_if}
+use Rattle.fdc_sequencer.specs.Fronts.{Front, GivesFront, TakesFront, count_told as front_told, told_front, told_if, results_taken}
 use Rattle.fdc_sequencer.specs.Moves.{StepsFront}
-use Rattle.fdc_chip.specs.Chips.{ChipState, is_data, passes_by_channel, passes_by_port, with_front}
+use Rattle.fdc_chip.specs.Chips.{ChipState, with_front}
 use Rattle.fdc_chip.specs.Doing.{is_size}
-use Rattle.fdc_chip.specs.Ending.{Ends, EndsAddress, EndsAddressIf, EndsAt, EndsData, EndsIf, EndsIndex, EndsSent, MayEnd, is_over, looks_for_cylinder, results_taken, verified, without_one, results_judged}
-use Rattle.fdc_chip.specs.Ports.{GivesChipIf, GivesIf, ReadsAt, ReadsChip, ReadsIf, TakesByte, TakesIf, count_told, counted_if, latched_by, reset_if, value_behind}
+use Rattle.fdc_chip.specs.Ending.{Ends, EndsAddress, EndsAddressIf, EndsAt, EndsAs, EndsData, EndsIndex, EndsSent, MayEnd, is_over, judged, looks_for_cylinder, verified, without_one}
 use Rattle.fdc_chip.specs.Steps.{Follows, FollowsTask}
 use Rattle.fdc_chip.specs.declared.stage.Place.{Place}
 use Rattle.fdc_chip.specs.declared.stage.Place.TheVariants.{Index, Address, Data}
@@ -28,13 +26,15 @@ use Rattle.laws_chip.specs.Calls.{Call, Does, steps_in, steps_of}
 use Rattle.laws_chip.specs.Lasting.{AreAt}
 use Rattle.laws_chip.specs.Sound.{ExecutesBehind, IsSound, executes_single}
 use Rattle.laws_chip.proofs.Channels.{counts_executes, front_gives, front_takes, gives_executes, keeps_executes, port_executes, front_left, takes_executes}
-use Rattle.laws_chip.proofs.FirstSectors.{base_held}
 use Rattle.laws_chip.proofs.FormatsEnd.{FormatsOn, formats, formats_step, told_formats}
 use Rattle.laws_chip.proofs.Rests.{through_step}
 use Rattle.laws_chip.proofs.Singles.{adapter_ends, executes_none, executes_step, single_fewer, waits_shown}
 use Rattle.laws_chip.proofs.SoundCalls.{call_sound}
-use Rattle.laws_chip.proofs.SoundParts.{IsBasis, busy_at, is_busy, is_ready, sound_basis}
-use Rattle.laws_chip.proofs.UnderWay.{either_way, not_through}
+use Rattle.laws_chip.proofs.SoundParts.{busy_at, is_busy}
+use Rattle.laws_chip.proofs.UnderWay.{not_through}
+use Rattle.laws_chip.proofs.NextStages as makes
+use Rattle.laws_chip.proofs.NextStages.{Makes, call_stays, is_change}
+use Rattle.laws_chip.specs.Bounds.{has_command}
 
 -- ---- what is over leaves the stage
 
@@ -62,15 +62,15 @@ other_kind n m new other is same = eqb-false n m other (sym is ∙ same)
 -- once a command that was sent has ended, the chip looks which cylinder passes or gives results, and its stage is no
 -- other
 sent_leaves : (b : Bool) (n : ℕ) (results : Results) (old new : ChipState) → (1 == n) ≡ false → (7 == n) ≡ false → EndsSent b results old new → stage_kind new.stage ≡ n → ⊥
-sent_leaves true n results old new looked told (sends, rest) same = other_kind 1 n new looked (ap (λ (chip : ChipState). stage_kind chip.stage) rest) same
+sent_leaves true n results old new looked told (gives, rest) same = other_kind 1 n new looked (ap (λ (chip : ChipState). stage_kind chip.stage) rest) same
 sent_leaves false n results old new looked told is same = other_kind 7 n new told (ap (λ (chip : ChipState). stage_kind chip.stage) is) same
 
 index_leaves : (b : Bool) (track : Track) (old new : ChipState) → EndsIndex b track old new → stage_kind new.stage ≡ 4 → ⊥
 index_leaves true track old new is same = other_kind 7 4 new refl (ap (λ (chip : ChipState). stage_kind chip.stage) is) same
-index_leaves false track old new (sends, rest) same = other_kind 5 4 new refl (ap (λ (chip : ChipState). stage_kind chip.stage) rest) same
+index_leaves false track old new (gives, rest) same = other_kind 5 4 new refl (ap (λ (chip : ChipState). stage_kind chip.stage) rest) same
 
 sector_leaves : (b : Bool) (results : Results) (track : Track) (old new : ChipState) → EndsAddressIf b results track old new → stage_kind new.stage ≡ 5 → ⊥
-sector_leaves true results track old new (sends, rest) same = other_kind 6 5 new refl (ap (λ (chip : ChipState). stage_kind chip.stage) rest) same
+sector_leaves true results track old new (gives, rest) same = other_kind 6 5 new refl (ap (λ (chip : ChipState). stage_kind chip.stage) rest) same
 sector_leaves false results track old new is same = other_kind 7 5 new refl (ap (λ (chip : ChipState). stage_kind chip.stage) is) same
 
 address_leaves : (b : Bool) (results : Results) (track : Track) (old new : ChipState) → EndsAddress b results track old new → stage_kind new.stage ≡ 5 → ⊥
@@ -79,7 +79,7 @@ address_leaves false results track old new ends same = sector_leaves ((results.s
 
 data_leaves : (b : Bool) (track : Track) (old new : ChipState) → EndsData b track old new → stage_kind new.stage ≡ 6 → ⊥
 data_leaves true track old new is same = other_kind 7 6 new refl (ap (λ (chip : ChipState). stage_kind chip.stage) is) same
-data_leaves false track old new (sends, rest) same = other_kind 5 6 new refl (ap (λ (chip : ChipState). stage_kind chip.stage) rest) same
+data_leaves false track old new (gives, rest) same = other_kind 5 6 new refl (ap (λ (chip : ChipState). stage_kind chip.stage) rest) same
 
 place_leaves : (place : Place) (track : Track) (results : Results) (old new : ChipState) → EndsAt place track results old new → stage_kind new.stage ≡ place_kind place → ⊥
 place_leaves Index track results old new ends same = index_leaves (not (bit_and results.st1.0 missing_mark == 0)) track old new ends same
@@ -131,30 +131,27 @@ step_fewer old between step was =
     subst (λ (front : Front). steps_left front.adapter.controller.phase < steps_left phase) (sym (through_step old between step was.through)) fewer
 
 still_formats : (phase : Phase) → executes_single phase ≡ true → FormatsOn phase → formats phase ≡ true
-still_formats Taking single on = absurd (false≢true single)
-still_formats (Result ended) single on = absurd (false≢true single)
 still_formats (Execute execution) single on = on
+still_formats _ single on = absurd (false≢true single)
 
-may_single : (what : ChipTask) (old : ChipState) (between : Front) (new : ChipState) → IsBasis old → StepsFront old.front between → ExecutesBehind old.front → MayEnd what (with_front between old) new
+may_single : (what : ChipTask) (old : ChipState) (between : Front) (new : ChipState) → old.front.adapter.controller.command ≡ [] → StepsFront old.front between → ExecutesBehind old.front → MayEnd what (with_front between old) new
     → stage_kind new.stage ≡ kind_of what → StaysSingle 1 old.front new.front
-may_single what old between new basis step was may same =
-    let fdc = old.front.adapter.controller in
-    let (goes, base) = executes_step old.front between step basis.whole was in
-    let free = base_held fdc between.adapter.controller base ∙ basis.free in
-    let less = step_fewer old.front between step was in
-    elim goes [
+may_single what old between new whole step was may same =
+    let set = with_front between old in
+    let left = step_fewer old.front between step was in
+    elim (executes_step old.front between step whole was).0 [
       | inl still ↦
-          let shown = executes_none between free still in
-          let at : new ≡ with_front between old = subst (λ b. EndsIf b what (with_front between old) new) shown may in
+          let at : new ≡ set = subst (λ r. EndsAs (option_map (judged set) r) what set new) (executes_none between still) may in
           subst (λ (chip : ChipState). StaysSingle 1 old.front chip.front) (sym at)
           (record {
             executes = still;
-            left = less_left (steps_left between.adapter.controller.phase) (steps_left fdc.phase) less;
+            left = less_left (steps_left between.adapter.controller.phase) (steps_left old.front.adapter.controller.phase) left;
             formats = λ formatted. still_formats between.adapter.controller.phase still.executes (formats_step old.front between step was.through formatted);
           })
       | inr waits ↦
-          let shown = waits_shown between free waits in
-          absurd (ends_leave what (results_judged (with_front between old)) (with_front (results_taken between) old) new (subst (λ b. EndsIf b what (with_front between old) new) shown may) same)
+          let results = judged set waits.results in
+          let ends : Ends what results (with_front (results_taken between) old) new = subst (λ r. EndsAs (option_map (judged set) r) what set new) (waits_shown between waits) may in
+          absurd (ends_leave what results (with_front (results_taken between) old) new ends same)
     ]
 
 -- for a VERIFY the inner controller executes neither READ ID nor FORMAT TRACK
@@ -164,11 +161,7 @@ not_verify left old sound at was = absurd (not_through old.front (busy_at old (t
 follows_single : (what : ChipTask) (old : ChipState) (between : Front) (new : ChipState) → IsSound old → old.stage ≡ Busy what → StepsFront old.front between → ExecutesBehind old.front
     → FollowsTask what (with_front between old) new → stage_kind new.stage ≡ kind_of what → StaysSingle 1 old.front new.front
 follows_single (task.Verify left) old between new sound at step was follows same = not_verify left old sound at was
-follows_single task.Sent old between new sound at step was may same = may_single task.Sent old between new (sound_basis old (ap is_ready at) sound) step was may same
-follows_single (task.Sought first) old between new sound at step was may same = may_single (task.Sought first) old between new (sound_basis old (ap is_ready at) sound) step was may same
-follows_single (task.Refused unit key mfm) old between new sound at step was may same =
-    may_single (task.Refused unit key mfm) old between new (sound_basis old (ap is_ready at) sound) step was may same
-follows_single (task.Track track) old between new sound at step was may same = may_single (task.Track track) old between new (sound_basis old (ap is_ready at) sound) step was may same
+follows_single what old between new sound at step was may same = may_single what old between new sound.whole step was may same
 
 -- the channel
 takes_single : (old : Front) (byte : Option ℕ) (new : Front) → TakesFront old byte new → ExecutesBehind old → StaysSingle 0 old new
@@ -178,9 +171,8 @@ gives_single : (byte : ℕ) (old : Front) (given : Bool) (new : Front) → Gives
 gives_single byte old given new gives was = phase_left old new (front_gives byte old given new was.through gives).1.phase (gives_executes byte old given new gives was)
 
 told_left : (phase : Phase) → steps_left (phase_told phase) ≡ steps_left phase
-told_left Taking = refl
-told_left (Result ended) = refl
 told_left (Execute execution) = refl
+told_left _ = refl
 
 counts_single : (old new : Front) → new ≡ told_front old → ExecutesBehind old → StaysSingle 0 old new
 counts_single old new is was =
@@ -192,86 +184,44 @@ counts_single old new is was =
       formats = λ formatted. ap (λ (front : Front). formats front.adapter.controller.phase) at ∙ told_formats old.adapter.controller.phase formatted;
     }
 
-takes_if : (b : Bool) (byte : Option ℕ) (old new : ChipState) → TakesIf b old byte new → ExecutesBehind old.front → StaysSingle 0 old.front new.front
-takes_if true byte old new (takes, rest) was = takes_single old.front byte new.front takes was
-takes_if false byte old new (none, is) was = same_single old.front new.front (ap (λ (chip : ChipState). chip.front) is) was
+-- a call that is no device step
+pub makes_single : (b : Bool) (old new : Front) → Makes b old new → ExecutesBehind old → StaysSingle 0 old new
+makes_single b old new (makes.Same is) was = same_single old new is was
+makes_single b old new (makes.Takes byte takes) was = takes_single old byte new takes was
+makes_single b old new (makes.Gives byte given gives) was = gives_single byte old given new gives was
+makes_single b old new (makes.Counts is) was = counts_single old new is was
+makes_single b old new (makes.Writes port value writes no_data quiet) was =
+    phase_left old new (front_left port value old new writes no_data quiet).phase (port_executes port value old new writes no_data quiet was)
+makes_single b old new (makes.Changes changes keeps) was = phase_left old new (ap (λ (fdc : Fdc). fdc.phase) keeps.controller) (keeps_executes old new keeps was)
 
-gives_if : (b : Bool) (byte : ℕ) (given : Bool) (old new : ChipState) → GivesChipIf b byte old given new → ExecutesBehind old.front → StaysSingle 0 old.front new.front
-gives_if true byte given old new (gives, rest) was = gives_single byte old.front given new.front gives was
-gives_if false byte given old new (none, is) was = same_single old.front new.front (ap (λ (chip : ChipState). chip.front) is) was
-
-read_if : (b : Bool) (value : ℕ) (old new : ChipState) → ReadsIf b old value new → ExecutesBehind old.front → StaysSingle 0 old.front new.front
-read_if true value old new reads was = takes_single old.front reads.byte new.front reads.takes was
-read_if false value old new (none, is) was = same_single old.front new.front (ap (λ (chip : ChipState). chip.front) is) was
-
-write_if : (b : Bool) (value : ℕ) (old new : ChipState) → GivesIf b value old new → ExecutesBehind old.front → StaysSingle 0 old.front new.front
-write_if true value old new gives was = gives_single value old.front gives.was new.front gives.gives was
-write_if false value old new is was = same_single old.front new.front (ap (λ (chip : ChipState). chip.front) is) was
-
-counted_single : (b : Bool) (old set new : ChipState) → set.front ≡ old.front → new ≡ counted_if b set → ExecutesBehind old.front → StaysSingle 0 old.front new.front
-counted_single true old set new front is was =
-    let at : new.front ≡ told_front old.front = ap (λ (chip : ChipState). chip.front) is ∙ ap told_front front in counts_single old.front new.front at was
-counted_single false old set new front is was = same_single old.front new.front (ap (λ (chip : ChipState). chip.front) is ∙ front) was
-
-told_single : (what : ChipTask) (old new : ChipState) → new ≡ count_told (Busy what) old → ExecutesBehind old.front → StaysSingle 0 old.front new.front
-told_single task.Sent old new is was = counted_single true old old new refl is was
-told_single (task.Sought first) old new is was = same_single old.front new.front (ap (λ (chip : ChipState). chip.front) is) was
-told_single (task.Refused unit key mfm) old new is was = same_single old.front new.front (ap (λ (chip : ChipState). chip.front) is) was
-told_single (task.Verify left) old new is was = same_single old.front new.front (ap (λ (chip : ChipState). chip.front) is) was
-told_single (task.Track track) old new is was = counted_single (is_data track.place) old (record old { stage = Busy (task.Track (record track { counted = true })) }) new refl is was
-
--- ports, where a reset leaves the stage
-other_read : (port value : ℕ) (old new : ChipState) → (port == 0x3F5) ≡ false → ReadsChip port old value new → new ≡ old
-other_read port value old new no_data reads = either_way (port == 0x3F4)
-    (λ status. (reads.status (eqb-true port 0x3F4 status)).1)
-    (λ no_status. (reads.others no_status no_data).1)
-
-other_write : (b : Bool) (port value : ℕ) (what : ChipTask) (old set new : ChipState) → resets port value ≡ b → (port == 0x3F5) ≡ false → WritesFront port value old.front new.front → new ≡ with_front new.front (reset_if b set)
-    → is_busy new.stage ≡ true → ExecutesBehind old.front → StaysSingle 0 old.front new.front
-other_write true port value what old set new anew no_data writes rest still was = absurd (false≢true (sym (ap (λ (chip : ChipState). is_busy chip.stage) rest) ∙ still))
-other_write false port value what old set new quiet no_data writes rest still was =
-    phase_left old.front new.front (front_left port value old.front new.front writes no_data quiet).phase (port_executes port value old.front new.front writes no_data quiet was)
+pub busy_works : (stage : ChipStage) → is_busy stage ≡ true → has_command stage ≡ true
+busy_works (Busy what) busy = refl
+busy_works _ busy = absurd (false≢true busy)
 
 pub single_call : (call : Call) (what : ChipTask) (old new : ChipState) → IsSound old → old.stage ≡ Busy what → ExecutesBehind old.front → Does call old new → is_busy new.stage ≡ true
     → stage_kind new.stage ≡ kind_of what → StaysSingle (steps_of call) old.front new.front
 single_call made.Steps what old new sound at was does still same =
     follows_single what old does.between new sound at does.steps was (subst (λ stage. Follows stage (with_front does.between old) new) at does.follows) same
-single_call (made.Takes byte) what old new sound at was does still same = takes_if (passes_by_channel old) byte old new does was
-single_call (made.Gives byte given) what old new sound at was does still same = gives_if (passes_by_channel old) byte given old new does was
-single_call made.Counts what old new sound at was does still same = told_single what old new (subst (λ stage. new ≡ count_told stage old) at does) was
-single_call (made.Reads port value) what old new sound at was does still same = either_way (port == 0x3F5)
-    (λ here. read_if (passes_by_port old) value old new (subst (λ stage. ReadsAt stage old value new) at (does.byte (eqb-true port 0x3F5 here))) was)
-    (λ no_data. same_single old.front new.front (ap (λ (chip : ChipState). chip.front) (other_read port value old new no_data does)) was)
-single_call (made.Writes port value) what old new sound at was does still same = either_way (port == 0x3F5)
-    (λ here. write_if (passes_by_port old) value old new (subst (λ stage. TakesByte stage value old new) at (does.bytes (eqb-true port 0x3F5 here))) was)
-    (λ no_data.
-    let (front, rest) = does.others no_data in
-    let given = value_behind port value in
-    other_write (resets port given) port given what old (latched_by port value old) new refl no_data front rest still was)
-single_call made.Changes what old new sound at was does still same =
-    phase_left old.front new.front (ap (λ (fdc : Fdc). fdc.phase) does.front.controller) (keeps_executes old.front new.front does.front was)
-single_call (made.Straps on) what old new sound at was does still same = same_single old.front new.front (ap (λ (chip : ChipState). chip.front) does) was
-single_call (made.StrapsSteps on) what old new sound at was does still same = same_single old.front new.front (ap (λ (chip : ChipState). chip.front) does) was
+single_call call what old new sound at was does still same =
+    makes_single (is_change call) old.front new.front (call_stays call what old new does at refl (busy_works new.stage still)).front was
 
 -- ---- ---- calls one after the other
 
 pub left_some : (phase : Phase) → executes_single phase ≡ true → IsCounted phase → 1 ≤ steps_left phase
-left_some Taking single counted = absurd (false≢true single)
-left_some (Result ended) single counted = absurd (false≢true single)
 left_some (Execute execution) single counted = omega arith
+left_some _ single counted = absurd (false≢true single)
 
 pub left_most : (phase : Phase) → steps_left phase ≤ 65536
-left_most Taking = omega arith
-left_most (Result ended) = omega arith
 left_most (Execute execution) = omega arith
+left_most _ = omega arith
 
 none_less : (left n : ℕ) → 1 ≤ left → left ≤ n → 0 < n
 none_less left n some few = omega arith
 
-left_on : (old new steps n : ℕ) → new + steps ≤ old → old ≤ n → new ≤ n - steps
+pub left_on : (old new steps n : ℕ) → new + steps ≤ old → old ≤ n → new ≤ n - steps
 left_on old new steps n fewer few = omega arith
 
-steps_less : (steps more n : ℕ) → more < n - steps → steps + more < n
+pub steps_less : (steps more n : ℕ) → more < n - steps → steps + more < n
 steps_less steps more n less = omega arith
 
 singles_last : (calls : List Call) (what : ChipTask) (n : ℕ) (old new : ChipState) → IsSound old → old.stage ≡ Busy what → ExecutesBehind old.front → steps_left old.front.adapter.controller.phase ≤ n

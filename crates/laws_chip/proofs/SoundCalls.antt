@@ -9,11 +9,10 @@ use Rattle.fdc_core.specs.Ports.{Writes, dor_resets, dsr_resets, resets}
 use Rattle.fdc_core.specs.State.{is_gated, is_held, reset}
 use Rattle.fdc_core.specs.declared.controller.Fdc.{Fdc}
 use Rattle.fdc_core.specs.declared.controller.Lines.{Lines}
-use Rattle.fdc_adapter.specs.Adapters.{lines_at}
+use Rattle.fdc_sequencer.specs.Adapters.{lines_at}
 use Rattle.fdc_sequencer.specs.Fronts.{Front, KeepsFront, WritesFront}
 use Rattle.fdc_sequencer.specs.Fronts as fronts
 use Rattle.fdc_sequencer.specs.declared.stage.FrontStage.TheVariants.{Through}
-use Rattle.fdc_sequencer.specs.Senses as senses
 use Rattle.fdc_chip.specs.Answers.{answer_bytes, is_of_data}
 use Rattle.fdc_chip.specs.Chips.{ChipState, IsNewChip, KeepsChip, is_data, passes, passes_by_channel, passes_by_port, with_front}
 use Rattle.fdc_chip.specs.Codes.{code_of}
@@ -36,7 +35,7 @@ use Rattle.laws_chip.proofs.Channels.{counts_busy, counts_front_base, front_left
 use Rattle.laws_chip.proofs.FirstSectors.{IsBase}
 use Rattle.laws_chip.proofs.Rests.{base_same}
 use Rattle.laws_chip.proofs.SoundParts as parts
-use Rattle.laws_chip.proofs.SoundParts.{IsBasis, basis_busy, basis_rests, basis_same, busy_at, is_busy, not_ready, passing_of, rests_at, same_sound, sound_basis, stays_sound}
+use Rattle.laws_chip.proofs.SoundParts.{IsBasis, basis_busy, basis_rests, basis_same, basis_set, busy_at, is_busy, keep_sound, passing_of, same_sound, sound_basis, sound_set, stays_sound}
 use Rattle.laws_chip.proofs.SoundSteps.{step_sound}
 use Rattle.laws_chip.proofs.Standing.{ready_free}
 use Rattle.laws_chip.proofs.UnderWay.{clash, either_way, port_stage}
@@ -49,10 +48,6 @@ busy_sound what old new at sound rest busy base =
     basis_busy new what (basis_same old new (sound_basis old (ap parts.is_ready at) sound) base (ap (λ (chip : ChipState). chip.count) rest) (ap (λ (chip : ChipState). chip.order) rest)) busy
     (ap (λ (chip : ChipState). chip.stage) rest ∙ at)
 
--- one byte fewer of a FORMAT TRACK is left
-given_sound : (was : Bool) (old : ChipState) → IsSound old → IsSound (given_one was old)
-given_sound was old sound = record { by_dma = sound.by_dma; whole = sound.whole; held = sound.held; lets_out = sound.lets_out; comes = sound.comes; code = sound.code; now = sound.now }
-
 takes_sound : (b : Bool) (byte : Option ℕ) (old new : ChipState) → passes_by_channel old ≡ b → IsSound old → TakesIf b old byte new → IsSound new
 takes_sound true byte old new shown sound (takes, rest) =
     let (what, at) = passing_of old (and_parts (old.gated && not (is_by_port old.settings)) (passes old) shown).1 in
@@ -62,7 +57,7 @@ takes_sound false byte old new shown sound (none, is) = same_sound old new is so
 gives_sound : (b : Bool) (byte : ℕ) (was : Bool) (old new : ChipState) → passes_by_channel old ≡ b → IsSound old → GivesChipIf b byte old was new → IsSound new
 gives_sound true byte was old new shown sound (gives, rest) =
     let (what, at) = passing_of old (and_parts (old.gated && not (is_by_port old.settings)) (passes old) shown).1 in
-    busy_sound what (given_one was old) new at (given_sound was old sound) rest (gives_busy what byte old.front was new.front gives (busy_at old what at sound)) (gives_front_base byte old.front was new.front sound.whole gives)
+    busy_sound what (given_one was old) new at (sound_set old (given_one was old) sound) rest (gives_busy what byte old.front was new.front gives (busy_at old what at sound)) (gives_front_base byte old.front was new.front sound.whole gives)
 gives_sound false byte was old new shown sound (none, is) = same_sound old new is sound
 
 read_sound : (b : Bool) (value : ℕ) (old new : ChipState) → passes_by_port old ≡ b → IsSound old → ReadsIf b old value new → IsSound new
@@ -74,7 +69,7 @@ read_sound false value old new shown sound (none, is) = same_sound old new is so
 write_sound : (b : Bool) (value : ℕ) (old new : ChipState) → passes_by_port old ≡ b → IsSound old → GivesIf b value old new → IsSound new
 write_sound true value old new shown sound gives =
     let (what, at) = passing_of old (and_parts (is_by_port old.settings) (passes old) shown).1 in
-    busy_sound what (given_one gives.was old) new at (given_sound gives.was old sound) gives.rest (gives_busy what value old.front gives.was new.front gives.gives (busy_at old what at sound)) (gives_front_base value old.front gives.was new.front sound.whole gives.gives)
+    busy_sound what (given_one gives.was old) new at (sound_set old (given_one gives.was old) sound) gives.rest (gives_busy what value old.front gives.was new.front gives.gives (busy_at old what at sound)) (gives_front_base value old.front gives.was new.front sound.whole gives.gives)
 write_sound false value old new shown sound is = same_sound old new is sound
 
 -- ---- the terminal count
@@ -98,9 +93,8 @@ counts_at (Busy (task.Refused unit key mfm)) old new at sound is = same_sound ol
 counts_at (Busy (task.Verify left)) old new at sound is = same_sound old new is sound
 counts_at (Busy (task.Track track)) old new at sound is =
     let told : ChipTask = task.Track (record track { counted = true }) in
-    let basis = sound_basis old (ap parts.is_ready at) sound in
-    counted_sound (is_data track.place) told (record old { stage = Busy told }) new
-    (record { by_dma = basis.by_dma; whole = basis.whole; free = basis.free; none = basis.none; gated = basis.gated; code = basis.code }) (busy_at old (task.Track track) at sound) refl is
+    let set = record old { stage = Busy told } in
+    counted_sound (is_data track.place) told set new (basis_set old set (sound_basis old (ap parts.is_ready at) sound)) (busy_at old (task.Track track) at sound) refl is
 
 -- ---- reads
 
@@ -169,7 +163,7 @@ code_few place byte order few was = by_place (place == 0) (place == 1) (place ==
 
 -- where a byte of a command may come the controller isn't held in reset
 pub comes_free : (old : ChipState) → IsSound old → may_come old ≡ true → is_held old.front.adapter.controller ≡ false
-comes_free old sound comes = elim (or_cases (not (old.count == 0)) (senses.is_ready old.front) comes) [
+comes_free old sound comes = elim (or_cases (not (old.count == 0)) (fronts.is_ready old.front) comes) [
   | inl begun ↦ either_way (is_held old.front.adapter.controller)
       (λ held. clash (old.count == 0) (not-true (old.count == 0) begun) (ap (λ n. n == 0) (sound.held held).1))
       (λ free. free)
@@ -300,7 +294,7 @@ port_write false port value old new quiet no_data sound out writes rest =
       lets_out = out;
       comes = λ some. stage ∙ sound.comes (sym (ap (λ n. n == 0) count) ∙ some);
       code = subst (λ (order : Order). order.code < 256) (sym (ap (λ (chip : ChipState). chip.order) rest)) sound.code;
-      now = subst (λ s. IsSoundAt s new.front) (sym stage) (by_stage old.stage sound.now);
+      now = subst (λ s. IsSoundAt s new.front) (sym stage) (keep_sound old.stage old.front new.front rests (λ what. port_busy what port value old.front new.front writes no_data quiet) sound.now);
     }
   where
     rests : RestsBehind old.front → RestsBehind new.front
@@ -310,42 +304,23 @@ port_write false port value old new quiet no_data sound out writes rest =
       seek = subst (λ (seeks : Seeking). IsOfFour seeks.seek) (sym left.seeks) was.seek;
     }
 
-    by_stage : (stage : ChipStage) → IsSoundAt stage old.front → IsSoundAt stage new.front
-    by_stage Ready now = rests now
-    by_stage Held now = rests now
-    by_stage (Telling answer read) now = rests now
-    by_stage (Busy what) now = port_busy what port value old.front new.front writes no_data quiet now
-
--- INT and DRQ are let out or kept in
-gated_sound : (port value : ℕ) (old : ChipState) → IsSound old → IsSound (latched_by port value old)
-gated_sound port value old sound = record { by_dma = sound.by_dma; whole = sound.whole; held = sound.held; lets_out = sound.lets_out; comes = sound.comes; code = sound.code; now = sound.now }
-
 writes_sound : (port value : ℕ) (old new : ChipState) → value < 256 → IsSound old → WritesChip port value old new → IsSound new
 writes_sound port value old new few sound writes = either_way (port == 0x3F5)
     (λ here. data_write old.stage value old new refl few sound (writes.bytes (eqb-true port 0x3F5 here)))
     (λ no_data.
     let (front, rest) = writes.others no_data in
     let given = value_behind port value in
-    port_write (resets port given) port given (latched_by port value old) new refl no_data (gated_sound port value old sound)
+    port_write (resets port given) port given (latched_by port value old) new refl no_data (sound_set old (latched_by port value old) sound)
     (port_lets_out port value (lines_at old.front.adapter) old.front.adapter.controller new.front.adapter.controller few (front.others no_data).0.writes no_data sound.lets_out) front rest)
 
--- ---- media, and the straps
+-- ---- media
 
-kept_at : (stage : ChipStage) (old new : Front) → KeepsFront old new → IsSoundAt stage old → IsSoundAt stage new
-kept_at stage old new keeps now = by_stage stage now
-  where
-    rests : RestsBehind old → RestsBehind new
-    rests was = record {
-      through = keeps.stage ∙ was.through;
-      takes = ap (λ (fdc : Fdc). fdc.phase) keeps.controller ∙ was.takes;
-      seek = subst (λ (fdc : Fdc). IsOfFour fdc.seeks.seek) (sym keeps.controller) was.seek;
-    }
-
-    by_stage : (stage : ChipStage) → IsSoundAt stage old → IsSoundAt stage new
-    by_stage Ready now = rests now
-    by_stage Held now = rests now
-    by_stage (Telling answer read) now = rests now
-    by_stage (Busy what) now = keeps_busy what old new keeps now
+rests_kept : (old new : Front) → KeepsFront old new → RestsBehind old → RestsBehind new
+rests_kept old new keeps was = record {
+  through = keeps.stage ∙ was.through;
+  takes = ap (λ (fdc : Fdc). fdc.phase) keeps.controller ∙ was.takes;
+  seek = subst (λ (fdc : Fdc). IsOfFour fdc.seeks.seek) (sym keeps.controller) was.seek;
+}
 
 changes_sound : (old new : ChipState) → KeepsChip old new → IsSound old → IsSound new
 changes_sound old new keeps sound =
@@ -353,15 +328,7 @@ changes_sound old new keeps sound =
     stays_sound old new sound
     (record { dor = ap (λ (fdc : Fdc). fdc.dor) controller; non_dma = ap (λ (fdc : Fdc). fdc.non_dma) controller; command = ap (λ (fdc : Fdc). fdc.command) controller ∙ sound.whole })
     (ap (λ (chip : ChipState). chip.stage) keeps.rest) (ap (λ (chip : ChipState). chip.count) keeps.rest) (ap (λ (chip : ChipState). chip.order) keeps.rest)
-    (kept_at old.stage old.front new.front keeps.front sound.now)
-
-straps_sound : (on : Bool) (old new : ChipState) → new ≡ record old { strapped = on } → IsSound old → IsSound new
-straps_sound on old new is sound =
-    subst IsSound (sym is) (record { by_dma = sound.by_dma; whole = sound.whole; held = sound.held; lets_out = sound.lets_out; comes = sound.comes; code = sound.code; now = sound.now })
-
-steps_sound : (on : Bool) (old new : ChipState) → new ≡ record old { paced = on } → IsSound old → IsSound new
-steps_sound on old new is sound =
-    subst IsSound (sym is) (record { by_dma = sound.by_dma; whole = sound.whole; held = sound.held; lets_out = sound.lets_out; comes = sound.comes; code = sound.code; now = sound.now })
+    (keep_sound old.stage old.front new.front (rests_kept old.front new.front keeps.front) (λ what. keeps_busy what old.front new.front keeps.front) sound.now)
 
 -- ---- all calls
 
@@ -373,8 +340,8 @@ call_sound made.Counts old new does few sound = counts_at old.stage old new refl
 call_sound (made.Reads port value) old new does few sound = reads_sound port value old new sound does
 call_sound (made.Writes port value) old new does few sound = writes_sound port value old new few sound does
 call_sound made.Changes old new does few sound = changes_sound old new does sound
-call_sound (made.Straps on) old new does few sound = straps_sound on old new does sound
-call_sound (made.StrapsSteps on) old new does few sound = steps_sound on old new does sound
+call_sound (made.Straps on) old new does few sound = subst IsSound (sym does) (sound_set old (record old { strapped = on }) sound)
+call_sound (made.StrapsSteps on) old new does few sound = subst IsSound (sym does) (sound_set old (record old { paced = on }) sound)
 
 -- ---- a new one
 
@@ -408,19 +375,8 @@ used_sound bay0 bay1 calls start new is all = on calls start new all (new_sound 
 in_bytes : (0 < 256) × (2 < 256)
 in_bytes = (omega arith, omega arith)
 
-with_settings : (chip : ChipState) (other : ChipState) → IsSound chip → IsSound (record chip { settings = other.settings; tape = other.tape })
-with_settings chip other sound = record {
-  by_dma = sound.by_dma;
-  whole = sound.whole;
-  held = sound.held;
-  lets_out = sound.lets_out;
-  comes = sound.comes;
-  code = sound.code;
-  now = sound.now;
-}
-
 pub pin_sound : (old new : ChipState) → ResetsByPin old new → IsSound old → IsSound new
 pin_sound old new resets sound =
     let held = call_sound (made.Writes 0x3F2 0) old resets.held resets.dor in_bytes.0 sound in
     let rated = call_sound (made.Writes 0x3F7 2) resets.held resets.rated resets.ccr in_bytes.1 held in
-    subst IsSound (sym resets.settings) (with_settings resets.rated (record resets.rated { settings = pin_settings old.settings; tape = 0 }) rated)
+    subst IsSound (sym resets.settings) (sound_set resets.rated (record resets.rated { settings = pin_settings old.settings; tape = 0 }) rated)

@@ -11,8 +11,6 @@ use Rattle.fdc_chip.specs.declared.stage.ChipStage.TheVariants.{Ready, Held, Bus
 use Rattle.fdc_chip.specs.declared.stage.ChipTask.{ChipTask}
 use Rattle.laws_chip.specs.Sound.{IsBusyWith, IsSound, IsSoundAt, RestsBehind}
 use Rattle.laws_chip.proofs.FirstSectors.{IsBase, base_gated, base_held}
-use Rattle.laws_chip.proofs.Rests.{stands_rests}
-use Rattle.laws_chip.proofs.Standing.{Stands}
 use Rattle.laws_chip.proofs.UnderWay.{clash, either_way}
 
 -- ---- stages
@@ -51,6 +49,13 @@ at_rest Ready front idle now = now
 at_rest Held front idle now = now
 at_rest (Busy task) front idle now = absurd (false≢true (sym idle))
 at_rest (Telling answer read) front idle now = now
+
+-- it goes on as it was at each stage, if it goes on resting and executing
+pub keep_sound : (stage : ChipStage) (old new : Front) → (RestsBehind old → RestsBehind new) → ((what : ChipTask) → IsBusyWith what old → IsBusyWith what new) → IsSoundAt stage old → IsSoundAt stage new
+keep_sound Ready old new rests busy now = rests now
+keep_sound Held old new rests busy now = rests now
+keep_sound (Busy what) old new rests busy now = busy what now
+keep_sound (Telling answer read) old new rests busy now = rests now
 
 pub busy_at : (chip : ChipState) (task : ChipTask) → chip.stage ≡ Busy task → IsSound chip → IsBusyWith task chip.front
 busy_at chip task is sound = subst (λ stage. IsSoundAt stage chip.front) is sound.now
@@ -97,6 +102,10 @@ basis_same old new basis base count order = record {
   code = subst (λ (o : Order). o.code < 256) (sym order) basis.code;
 }
 
+-- anything but the front, the count of bytes and the order may be another
+pub basis_set : (old new : ChipState) → IsBasis old → IsBasis (record new { front = old.front; count = old.count; order = old.order })
+basis_set old new basis = record { by_dma = basis.by_dma; whole = basis.whole; free = basis.free; none = basis.none; gated = basis.gated; code = basis.code }
+
 -- a chip of such a kind is sound where its parts agree
 pub basis_sound : (chip : ChipState) → IsBasis chip → IsSoundAt chip.stage chip.front → IsSound chip
 basis_sound chip basis now = record {
@@ -129,9 +138,9 @@ stays_sound old new sound base stage count order now = record {
   now = subst (λ s. IsSoundAt s new.front) (sym stage) now;
 }
 
+-- anything else may be another
+pub sound_set : (old new : ChipState) → IsSound old → IsSound (record new { front = old.front; stage = old.stage; count = old.count; order = old.order })
+sound_set old new sound = record { by_dma = sound.by_dma; whole = sound.whole; held = sound.held; lets_out = sound.lets_out; comes = sound.comes; code = sound.code; now = sound.now }
+
 pub same_sound : (old new : ChipState) → new ≡ old → IsSound old → IsSound new
 same_sound old new is sound = subst IsSound (sym is) sound
-
--- an inner controller that stands free rests, and is free for the next command
-pub basis_stands : (chip : ChipState) → IsBasis chip → Stands chip.front → RestsBehind chip.front
-basis_stands chip basis stands = stands_rests chip.front stands

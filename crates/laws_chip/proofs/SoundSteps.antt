@@ -1,17 +1,17 @@
 -- A sound chip through device steps.
 use Rattle.std.proofs.Common.{◌≡◌, ◌⊎◌, inl, inr, ℕ, zero, suc, nat_le, Bool, true, false, not, ◌&&◌, ◌==◌, if◌then◌else◌, Option, Some, None, [], bit_and, refl, sym, ◌∙◌, ap, subst}
+use Rattle.std.specs.Option.{option_map}
 use Rattle.std.proofs.lemmas.Bool.{and_parts, not-true}
 use Rattle.flop_base.specs.declared.key.Chrn.{Chrn}
 use Rattle.fdc_registers.specs.St1.{missing_mark}
+use Rattle.fdc_commands.specs.declared.command.Command.TheVariants.{ReadId}
 use Rattle.fdc_commands.specs.declared.results.Results.{Results}
-use Rattle.fdc_core.specs.State.{is_held}
-use Rattle.fdc_sequencer.specs.Fronts.{Front, TakesFront, interrupts_outside, told_front, with_seeks}
+use Rattle.fdc_sequencer.specs.Fronts.{Front, TakesFront, interrupts_outside, is_ready as is_ready_behind, results_outside, results_taken, told_front}
 use Rattle.fdc_sequencer.specs.Moves.{StepsFront}
-use Rattle.fdc_sequencer.specs.Senses.{is_ready as is_ready_behind}
 use Rattle.fdc_chip.specs.Chips.{ChipState, asks_chip, interrupts_chip, with_front}
 use Rattle.fdc_chip.specs.Codes.{code_of}
-use Rattle.fdc_chip.specs.Doing.{SendsOn, drained, identifying, implies, is_size, moves_heads, moving}
-use Rattle.fdc_chip.specs.Ending.{Ends, EndsAddress, EndsAddressIf, EndsAt, EndsData, EndsIf, EndsIndex, EndsSent, LooksOn, MayEnd, ReadsOn, has_results, is_over, looks_for_cylinder, met_key, results_judged, results_taken, sector_met, told_results, track_at, unit_of, verified, without_one}
+use Rattle.fdc_chip.specs.Doing.{GivesOn, drained, identifying, implies, is_size, moves_heads, moving}
+use Rattle.fdc_chip.specs.Ending.{Ends, EndsAddress, EndsAddressIf, EndsAs, EndsAt, EndsData, EndsIndex, EndsSent, LooksOn, MayEnd, ReadsOn, is_over, judged, looks_for_cylinder, met_key, sector_met, told_results, track_at, unit_of, verified, without_one}
 use Rattle.fdc_chip.specs.Paces.{EndsAt as EndsPace, GoesOnIf, Paces, PulsesIf, is_due, is_over as is_over_pace, stepped}
 use Rattle.fdc_chip.specs.Settings.{step_words}
 use Rattle.fdc_chip.specs.Steps.{Follows, FollowsTask, RunsChip, RunsChipWith, StepsChip, Swallows, SwallowsAs, SwallowsBy}
@@ -26,16 +26,14 @@ use Rattle.fdc_chip.specs.declared.stage.Track.{Track}
 use Rattle.laws_chip.specs.Sound.{ExecutesBehind, IsBusyAt, IsBusyWith, IsSound, RestsBehind, ServesBehind}
 use Rattle.laws_chip.proofs.Attended.{attended_sound, done_sound, given_moves, recalibrated_rests}
 use Rattle.laws_chip.proofs.Channels.{IsOverBehind, counts_busy, counts_front_base, counts_over, takes_busy, takes_front_base, takes_over}
-use Rattle.laws_chip.proofs.CommandsBegun.{sought_stands}
 use Rattle.laws_chip.proofs.FieldsRead.{field_serves}
 use Rattle.laws_chip.proofs.FirstSectors.{IsBase}
 use Rattle.laws_chip.proofs.PassedOn.{none_wait}
 use Rattle.laws_chip.proofs.Rests.{IsResting, base_on, base_same, drained_rests, front_rests, stands_rests}
-use Rattle.laws_chip.proofs.Sending.{id_obeyed}
 use Rattle.laws_chip.proofs.ServedSteps.{serves_step, tells_shown, tells_taken}
 use Rattle.laws_chip.proofs.Singles.{executes_none, executes_step, id_executes, waits_shown, waits_taken}
-use Rattle.laws_chip.proofs.SoundParts.{IsBasis, at_rest, basis_busy, basis_front, basis_same, busy_at, is_busy, is_ready, rests_at, sound_basis, stays_sound}
-use Rattle.laws_chip.proofs.Standing.{Stands, heads_stand, ready_free}
+use Rattle.laws_chip.proofs.SoundParts.{IsBasis, at_rest, basis_busy, basis_front, basis_same, basis_set, busy_at, is_busy, is_ready, rests_at, sound_basis, stays_sound}
+use Rattle.laws_chip.proofs.Standing.{Stands, given_obeyed, heads_stand, ready_free}
 
 -- ---- what comes of results
 
@@ -45,31 +43,27 @@ told_sound results old new basis stands is =
     done_sound old (told_results results old) new basis (stands_rests old.front stands) (record { front = refl; count = refl; order = refl }) refl is
 
 -- the inner controller is given READ ID
-id_given : (what : ChipTask) (unit : ℕ) (set new : ChipState) → IsBasis set → Stands set.front → set.stage ≡ Busy what → (ExecutesBehind new.front → IsBusyWith what new.front) → SendsOn (identifying unit) set new → IsSound new
-id_given what unit set new basis stands at busy (sends, rest) =
-    let obeyed = id_obeyed unit set.front new.front stands sends in
-    let (executes, base) = id_executes unit set.front new.front stands obeyed in
+id_given : (what : ChipTask) (unit : ℕ) (set new : ChipState) → IsBasis set → Stands set.front → set.stage ≡ Busy what → (ExecutesBehind new.front → IsBusyWith what new.front) → GivesOn (identifying unit) set new → IsSound new
+id_given what unit set new basis stands at busy (gives, rest) =
+    let (executes, base) = id_executes unit set.front new.front stands (given_obeyed (ReadId unit) set.front new.front stands refl gives) in
     basis_busy new what (basis_same set new basis base (ap (λ (chip : ChipState). chip.count) rest) (ap (λ (chip : ChipState). chip.order) rest)) (busy executes)
     (ap (λ (chip : ChipState). chip.stage) rest ∙ at)
 
 -- the chip with what is then under way
 pub set_basis : (stage : ChipStage) (old : ChipState) → IsBasis old → IsBasis (record old { stage = stage })
-set_basis stage old basis = record { by_dma = basis.by_dma; whole = basis.whole; free = basis.free; none = basis.none; gated = basis.gated; code = basis.code }
-
-track_basis : (track : Track) (old : ChipState) → IsBasis old → IsBasis (track_at track old)
-track_basis track old basis = record { by_dma = basis.by_dma; whole = basis.whole; free = basis.free; none = basis.none; gated = basis.gated; code = basis.code }
+set_basis stage old basis = basis_set old (record old { stage = stage }) basis
 
 looks_sound : (track : Track) (old new : ChipState) → IsBasis old → Stands old.front → LooksOn track old new → IsSound new
 looks_sound track old new basis stands looks =
     let next : Track = record track { place = Address } in
-    id_given (task.Track next) track.unit (track_at next old) new (track_basis next old basis) (sought_stands false old.front stands) refl (λ executes. executes) looks
+    id_given (task.Track next) track.unit (track_at next old) new (basis_set old (track_at next old) basis) stands refl (λ executes. executes) looks
 
 reads_sound : (track : Track) (key : Chrn) (old new : ChipState) → IsBasis old → Stands old.front → is_size track.key.n ≡ true → ReadsOn track key old new → IsSound new
 reads_sound track key old new basis stands sized (reads, rest) =
     let met : Track = met_key key track in
     let set = track_at met old in
-    let (serves, base) = field_serves track.unit (sector_met key track) set.front new.front (sought_stands false old.front stands) sized reads in
-    basis_busy new (task.Track met) (basis_same set new (track_basis met old basis) base (ap (λ (chip : ChipState). chip.count) rest) (ap (λ (chip : ChipState). chip.order) rest)) serves
+    let (serves, base) = field_serves track.unit (sector_met key track) set.front new.front stands sized reads in
+    basis_busy new (task.Track met) (basis_same set new (basis_set old set basis) base (ap (λ (chip : ChipState). chip.count) rest) (ap (λ (chip : ChipState). chip.order) rest)) serves
     (ap (λ (chip : ChipState). chip.stage) rest)
 
 sent_sound : (b : Bool) (results : Results) (old new : ChipState) → IsBasis old → Stands old.front → EndsSent b results old new → IsSound new
@@ -114,36 +108,36 @@ ends_sound (task.Track track) results old new basis stands ends = place_sound tr
 abbrev pub IsAtStep : ChipTask → Front → Type 0
 IsAtStep what front = IsBusyWith what front ⊎ IsOverBehind front
 
-serves_none : (front : Front) → ServesBehind front → has_results front ≡ false
+serves_none : (front : Front) → ServesBehind front → results_outside front ≡ None
 serves_none front serves = none_wait front serves.under_way
 
-place_none : (place : Place) (front : Front) → is_held front.adapter.controller ≡ false → IsBusyAt place front → has_results front ≡ false
-place_none Index front free serves = serves_none front serves
-place_none Address front free executes = executes_none front free executes
-place_none Data front free serves = serves_none front serves
+place_none : (place : Place) (front : Front) → IsBusyAt place front → results_outside front ≡ None
+place_none Index front serves = serves_none front serves
+place_none Address front executes = executes_none front executes
+place_none Data front serves = serves_none front serves
 
-pub busy_none : (what : ChipTask) (front : Front) → is_held front.adapter.controller ≡ false → IsBusyWith what front → has_results front ≡ false
-busy_none task.Sent front free (inl serves) = serves_none front serves
-busy_none task.Sent front free (inr executes) = executes_none front free executes
-busy_none (task.Sought first) front free executes = executes_none front free executes
-busy_none (task.Refused unit key mfm) front free executes = executes_none front free executes
-busy_none (task.Verify left) front free serves = serves_none front serves
-busy_none (task.Track track) front free busy = place_none track.place front free busy
+pub busy_none : (what : ChipTask) (front : Front) → IsBusyWith what front → results_outside front ≡ None
+busy_none task.Sent front (inl serves) = serves_none front serves
+busy_none task.Sent front (inr executes) = executes_none front executes
+busy_none (task.Sought first) front executes = executes_none front executes
+busy_none (task.Refused unit key mfm) front executes = executes_none front executes
+busy_none (task.Verify left) front serves = serves_none front serves
+busy_none (task.Track track) front busy = place_none track.place front busy
 
-taken_sound : (what : ChipTask) (chip new : ChipState) → IsBasis chip → has_results chip.front ≡ true → Stands (results_taken chip.front) × IsBase chip.front.adapter.controller (results_taken chip.front).adapter.controller
-    → MayEnd what chip new → IsSound new
-taken_sound what chip new basis shown (stands, base) may =
-    ends_sound what (results_judged chip) (with_front (results_taken chip.front) chip) new (basis_front (results_taken chip.front) chip basis base) stands
-    (subst (λ b. EndsIf b what chip new) shown may)
+taken_sound : (what : ChipTask) (results : Results) (chip new : ChipState) → IsBasis chip → results_outside chip.front ≡ Some results
+    → Stands (results_taken chip.front) × IsBase chip.front.adapter.controller (results_taken chip.front).adapter.controller → MayEnd what chip new → IsSound new
+taken_sound what results chip new basis shown (stands, base) may =
+    ends_sound what (judged chip results) (with_front (results_taken chip.front) chip) new (basis_front (results_taken chip.front) chip basis base) stands
+    (subst (λ found. EndsAs (option_map (judged chip) found) what chip new) shown may)
 
 may_end_sound : (what under : ChipTask) (chip new : ChipState) → IsBasis chip → chip.stage ≡ Busy under → IsAtStep under chip.front → MayEnd what chip new → IsSound new
 may_end_sound what under chip new basis at (inl busy) may =
-    let same : new ≡ chip = subst (λ b. EndsIf b what chip new) (busy_none under chip.front basis.free busy) may in
+    let same : new ≡ chip = subst (λ found. EndsAs (option_map (judged chip) found) what chip new) (busy_none under chip.front busy) may in
     subst IsSound (sym same) (basis_busy chip under basis busy at)
 may_end_sound what under chip new basis at (inr (inl tells)) may =
-    taken_sound what chip new basis (tells_shown chip.front tells) (tells_taken chip.front basis.free basis.whole basis.by_dma tells) may
+    taken_sound what tells.results chip new basis (tells_shown chip.front tells) (tells_taken chip.front basis.free basis.whole basis.by_dma tells) may
 may_end_sound what under chip new basis at (inr (inr waits)) may =
-    taken_sound what chip new basis (waits_shown chip.front basis.free waits) (waits_taken chip.front basis.free basis.whole basis.by_dma waits) may
+    taken_sound what waits.results chip new basis (waits_shown chip.front waits) (waits_taken chip.front basis.free basis.whole basis.by_dma waits) may
 
 -- ---- what the front's step leaves
 
@@ -246,9 +240,9 @@ stage_rests old new sound idle rests base stage count order = stays_sound old ne
 
 -- the inner controller is given a command of that seek
 gives_rests : (unit : ℕ) (goal : Option ℕ) (old set new : ChipState) → Stands old.front → set.front ≡ old.front → set.stage ≡ old.stage → set.count ≡ old.count → set.order ≡ old.order
-    → implies set ≡ implies old → SendsOn (moving unit goal) set new → IsResting old new
-gives_rests unit goal old set new stands front stage count order implied (sends, rest) =
-    let (rests, base) = given_moves unit goal set.front new.front (subst Stands (sym front) stands) sends in
+    → implies set ≡ implies old → GivesOn (moving unit goal) set new → IsResting old new
+gives_rests unit goal old set new stands front stage count order implied (gives, rest) =
+    let (rests, base) = given_moves unit goal set.front new.front (subst Stands (sym front) stands) gives in
     record {
       rests = rests;
       base = subst (λ (f : Front). IsBase f.adapter.controller new.front.adapter.controller) front base;

@@ -1,21 +1,26 @@
--- A front whose controller takes a command and executes it.
-use Rattle.std.proofs.Common.{◌≡◌, ℕ, zero, suc, ◌<◌, ◌^◌, Bool, true, false, not, ◌==◌, if◌then◌else◌, List, [], ◌∷◌, Option, Some, None, bit_and, bit_or, refl, sym, ◌∙◌, ap, arith}
+-- A front whose controller takes a command and executes it, and a command that is given to it.
+use Rattle.std.proofs.Common.{◌≡◌, ℕ, zero, suc, ◌<◌, ◌^◌, Bool, true, false, not, ◌==◌, if◌then◌else◌, List, [], ◌∷◌, Option, Some, None, bit_and, bit_or, refl, sym, ◌∙◌, ap, subst, arith}
 use Rattle.std.specs.Option.{option_map_or}
 use Rattle.std.proofs.lemmas.Bool.{and_parts, and_from, false≢true, not-false, not-true}
 use Rattle.fdc_commands.specs.Seeking.{seek_bits}
 use Rattle.fdc_commands.specs.declared.motion.Seek.{Seek}
-use Rattle.fdc_commands.specs.Table.{is_begun}
+use Rattle.fdc_commands.specs.Table.{is_begun, whole}
+use Rattle.fdc_commands.specs.declared.bytes.Accepted.TheVariants.{Invalid, Ready}
+use Rattle.fdc_commands.specs.declared.command.Command.{Command}
+use Rattle.fdc_commands.specs.declared.command.Command.TheVariants.{FormatTrack}
 use Rattle.fdc_phases.specs.declared.phases.Phase.{Phase}
 use Rattle.fdc_phases.specs.declared.phases.Phase.TheVariants.{Command as Taking, Execute, Result}
+use Rattle.fdc_core.specs.Commands.{Obeys, TakesAs}
 use Rattle.fdc_core.specs.Ports.{is_taking, main_status, phase_bits, takes_in}
 use Rattle.fdc_core.specs.State.{is_held}
 use Rattle.fdc_core.specs.Whole.{is_idle}
 use Rattle.fdc_core.specs.declared.controller.Fdc.{Fdc}
-use Rattle.fdc_sequencer.specs.Fronts.{Front, status_at}
-use Rattle.fdc_sequencer.specs.Senses.{is_ready, is_ready_at}
+use Rattle.fdc_core.specs.declared.controller.Lines.{Lines}
+use Rattle.fdc_sequencer.specs.Adapters.{lines_at}
+use Rattle.fdc_sequencer.specs.Fronts.{Commands, CommandsIf, Front, GivesCommand, is_ready, is_ready_at, status_at}
 use Rattle.fdc_sequencer.specs.declared.stage.FrontStage.{FrontStage}
-use Rattle.fdc_sequencer.specs.declared.stage.FrontStage.TheVariants.{Through, Collecting, Seeking, Moving, Telling}
-use Rattle.fdc_chip.specs.Doing.{moves_heads}
+use Rattle.fdc_sequencer.specs.declared.stage.FrontStage.TheVariants.{Through, Seeking, Moving, Telling}
+use Rattle.fdc_chip.specs.Doing.{is_size, moves_heads}
 use Rattle.laws_chip.specs.Beginning.{IsFreeBehind, IsOfFour}
 
 -- the controller takes the first byte of a command, and executes what comes: no seek bit is set, and SPECIFY didn't set
@@ -41,10 +46,9 @@ begun_none (byte ∷ rest) is = absurd (false≢true (sym is))
 
 ready_through : (stage : FrontStage) (fdc : Fdc) → is_ready_at stage fdc ≡ true → (stage ≡ Through) × (is_idle fdc ≡ true)
 ready_through Through fdc is = (refl, is)
-ready_through (Collecting opcode) fdc is = absurd (false≢true is)
 ready_through (Seeking transfer counted) fdc is = absurd (false≢true is)
 ready_through (Moving moving) fdc is = absurd (false≢true is)
-ready_through (Telling results read) fdc is = absurd (false≢true is)
+ready_through (Telling results) fdc is = absurd (false≢true is)
 
 -- MSR shows that no seek bit is set
 no_drive : (drive : ℕ) → drive < 4 → (bit_and (bit_or 0x80 (2 ^ drive)) 0x0F == 0) ≡ true → ⊥
@@ -105,3 +109,28 @@ pub stands_idle : (front : Front) → Stands front → is_idle front.adapter.con
 stands_idle front stands =
     let fdc = front.adapter.controller in
     and_from (is_taking fdc) (not (is_begun fdc.command)) (stands_taking front stands) (ap (λ command. not (is_begun command)) stands.none)
+
+pub stands_ready : (front : Front) → Stands front → is_ready front ≡ true
+stands_ready front stands = ap (λ stage. is_ready_at stage front.adapter.controller) stands.through ∙ stands_idle front stands
+
+-- ---- a command that is given
+
+-- the controller obeys the command
+pub record IsObeyed (command : Command) (start new : Front) : Type 0 where
+  pub through : new.stage ≡ Through
+  pub lines : Lines
+  pub obeys : Obeys command lines (record start.adapter.controller { command = [] }) new.adapter.controller
+
+-- a command whose size code is in range, or that has none
+pub given_obeyed : (command : Command) (start new : Front) → Stands start → whole command ≡ Ready command → GivesCommand command start new → IsObeyed command start new
+given_obeyed command start new stands sized gives =
+    let given : Commands command start new = subst (λ ready. CommandsIf ready command start new) (stands_ready start stands) gives in
+    let fdc = record start.adapter.controller { command = [] } in
+    let obeys : Obeys command (lines_at start.adapter) fdc given.between.controller =
+    subst (λ accepted. TakesAs accepted (lines_at start.adapter) fdc given.between.controller) sized given.takes.takes in
+    subst (IsObeyed command start) (sym given.after) (record { through = stands.through; lines = lines_at start.adapter; obeys = obeys })
+
+pub format_obeyed : (unit n sectors gap fill : ℕ) (start new : Front) → Stands start → is_size n ≡ true → GivesCommand (FormatTrack unit n sectors gap fill) start new → IsObeyed (FormatTrack unit n sectors gap fill) start new
+format_obeyed unit n sectors gap fill start new stands size gives =
+    let command = FormatTrack unit n sectors gap fill in
+    given_obeyed command start new stands (ap (λ b. if b then Ready command else Invalid) size) gives

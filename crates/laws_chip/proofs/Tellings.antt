@@ -1,14 +1,15 @@
--- The results that the sequencer gives, read by the chip in the step in which they come.
-use Rattle.std.proofs.Common.{◌≡◌, inl, inr, ℕ, Bool, true, false, not, ◌&&◌, ◌||◌, ◌==◌, if◌then◌else◌, bit_and, bit_or, refl, sym, ◌∙◌, ap, subst}
+-- The results that the sequencer gives, taken by the chip in the step in which they come.
+use Rattle.std.proofs.Common.{◌≡◌, inl, inr, ℕ, Bool, true, false, not, ◌&&◌, ◌||◌, ◌==◌, if◌then◌else◌, Option, Some, None, bit_or, refl, sym, ◌∙◌, ap, subst}
+use Rattle.std.specs.Option.{option_map}
 use Rattle.std.proofs.lemmas.Bool.{and_left, and_right}
 use Rattle.std.proofs.lemmas.Nat.{or_comm}
 use Rattle.fdc_registers.specs.St2.{wrong_cylinder, bad_cylinder}
 use Rattle.fdc_commands.specs.declared.results.Results.{Results}
-use Rattle.fdc_sequencer.specs.Fronts.{Front, asks_outside, status_at}
-use Rattle.fdc_sequencer.specs.Senses.{is_through}
+use Rattle.fdc_sequencer.specs.Fronts.{Front, asks_outside, is_through, results_outside, results_taken, taken_at}
 use Rattle.fdc_sequencer.specs.declared.stage.FrontStage.TheVariants as behind
+use Rattle.laws_chip.proofs.Shown.{tells_results}
 use Rattle.fdc_chip.specs.Chips.{ChipState, asks_chip, interrupts_chip, passes, passes_at, shows_behind, with_front}
-use Rattle.fdc_chip.specs.Ending.{EndsIf, EndsSent, MayEnd, cylinder_bits, done_if, fits_selected, has_results, has_room, looks_for_cylinder, results_behind, results_taken, with_cylinder_passed, results_judged}
+use Rattle.fdc_chip.specs.Ending.{EndsAs, EndsSent, cylinder_bits, done_if, fits_selected, has_room, judged, looks_for_cylinder, results_judged, with_cylinder_passed}
 use Rattle.fdc_chip.specs.Orders.{is_format}
 use Rattle.fdc_chip.specs.Settings.{is_by_port}
 use Rattle.fdc_chip.specs.Steps.{Follows, StepsChip}
@@ -18,53 +19,50 @@ use Rattle.laws_chip.specs.Told.{AddsCylinder, AreOfCylinder, LooksFor, LooksOrT
 
 -- ---- ---- the results of a front that gives them
 
-pub results_wait : (front : Front) (results : Results) → front.stage ≡ behind.Telling results 0 → has_results front ≡ true
-results_wait front results is = ap (λ stage. bit_and (status_at stage front.adapter.controller) 0xC0 == 0xC0) is
-
-pub results_are : (front : Front) (results : Results) → front.stage ≡ behind.Telling results 0 → results_behind front ≡ results
-results_are front results is = ap (λ stage. results_behind (record front { stage = stage })) is
-
 -- what the chip doesn't judge is told as it is
-no_room : (chip : ChipState) → has_room chip ≡ false → results_judged chip ≡ results_behind chip.front
-no_room chip none = ap (λ b. done_if b (results_behind chip.front)) none
+no_room : (chip : ChipState) → has_room chip ≡ false → results_judged chip ≡ results_outside chip.front
+no_room chip none = by_found (results_outside chip.front)
+  where
+    by_found : (found : Option Results) → option_map (judged chip) found ≡ found
+    by_found None = refl
+    by_found (Some results) = ap (λ b. Some (done_if b results)) none
 
 -- a command that isn't a FORMAT TRACK
-pub judged_other : (chip : ChipState) → is_format chip.order ≡ false → results_judged chip ≡ results_behind chip.front
+pub judged_other : (chip : ChipState) → is_format chip.order ≡ false → results_judged chip ≡ results_outside chip.front
 judged_other chip other = no_room chip (and_left (is_format chip.order) (is_through chip.front.stage && fits_selected chip) other)
 
 -- a command of several sectors
-judged_are : (results : Results) (chip : ChipState) → chip.front.stage ≡ behind.Telling results 0 → results_judged chip ≡ results
+judged_are : (results : Results) (chip : ChipState) → chip.front.stage ≡ behind.Telling results → results_judged chip ≡ Some results
 judged_are results chip at =
     no_room chip
     (and_right (is_format chip.order) (is_through chip.front.stage && fits_selected chip) (and_left (is_through chip.front.stage) (fits_selected chip) (ap is_through at)))
-    ∙ results_are chip.front results at
+    ∙ tells_results chip.front results at
 
--- once all seven result bytes were read each access is the controller's again
-pub taken_is : (front : Front) (results : Results) → front.stage ≡ behind.Telling results 0 → results_taken front ≡ record front { stage = behind.Through }
-taken_is front results is = ap (λ stage. results_taken (record front { stage = stage })) is
+-- once the results were taken each access is the controller's again
+pub taken_is : (front : Front) (results : Results) → front.stage ≡ behind.Telling results → results_taken front ≡ record front { stage = behind.Through }
+taken_is front results is = ap (λ stage. taken_at stage front) is
 
 -- ---- the command that was sent
 
-ends_so : (results : Results) (old new : ChipState) (step : StepsChip old new) → old.stage ≡ Busy Sent → step.between.stage ≡ behind.Telling results 0
+ends_so : (results : Results) (old new : ChipState) (step : StepsChip old new) → old.stage ≡ Busy Sent → step.between.stage ≡ behind.Telling results
     → EndsSent (looks_for_cylinder old.order results) results (with_front (results_taken step.between) old) new
 ends_so results old new step sent told =
-    let follows : MayEnd Sent (with_front step.between old) new = subst (λ stage. Follows stage (with_front step.between old) new) sent step.follows in
-    let ends : EndsIf true Sent (with_front step.between old) new = subst (λ b. EndsIf b Sent (with_front step.between old) new) (results_wait step.between results told) follows in
-    subst (λ r. EndsSent (looks_for_cylinder old.order r) r (with_front (results_taken step.between) old) new) (judged_are results (with_front step.between old) told) ends
+    let set = with_front step.between old in
+    subst (λ found. EndsAs found Sent set new) (judged_are results set told) (subst (λ stage. Follows stage set new) sent step.follows)
 
 told_by : (results : Results) (old new : ChipState) → EndsSent false results old new → Tells results new
 told_by results old new is = record { stage = ap (λ chip. chip.stage) is; line = ap (λ chip. chip.interrupts.line) is }
 
-pub sent_told : (results : Results) (old new : ChipState) (step : StepsChip old new) → old.stage ≡ Busy Sent → step.between.stage ≡ behind.Telling results 0 → looks_for_cylinder old.order results ≡ false
+pub sent_told : (results : Results) (old new : ChipState) (step : StepsChip old new) → old.stage ≡ Busy Sent → step.between.stage ≡ behind.Telling results → looks_for_cylinder old.order results ≡ false
     → Tells results new
 sent_told results old new step sent told found =
     told_by results (with_front (results_taken step.between) old) new
     (subst (λ b. EndsSent b results (with_front (results_taken step.between) old) new) found (ends_so results old new step sent told))
 
 looks_by : (results : Results) (told : Front) (old new : ChipState) → EndsSent true results (with_front (results_taken told) old) new → LooksFor results told new
-looks_by results told old new (sends, rest) = record { stage = ap (λ chip. chip.stage) rest; sends = sends }
+looks_by results told old new (gives, rest) = record { stage = ap (λ chip. chip.stage) rest; gives = gives }
 
-pub sent_looks : (results : Results) (old new : ChipState) (step : StepsChip old new) → old.stage ≡ Busy Sent → step.between.stage ≡ behind.Telling results 0 → looks_for_cylinder old.order results ≡ true
+pub sent_looks : (results : Results) (old new : ChipState) (step : StepsChip old new) → old.stage ≡ Busy Sent → step.between.stage ≡ behind.Telling results → looks_for_cylinder old.order results ≡ true
     → LooksFor results step.between new
 sent_looks results old new step sent told missed =
     looks_by results step.between old new
@@ -89,15 +87,15 @@ adds first passed = by_found (passed.st1.0 == 0)
 
 pub cylinder_told : (first : Results) (old new : ChipState) → StepsChip old new → old.stage ≡ Busy (Sought first) → LooksOrTells first new
 cylinder_told first old new step sought =
-    by_end (has_results step.between) (subst (λ stage. Follows stage (with_front step.between old) new) sought step.follows)
+    by_end (results_judged (with_front step.between old)) (subst (λ stage. Follows stage (with_front step.between old) new) sought step.follows)
   where
-    by_end : (b : Bool) → EndsIf b (Sought first) (with_front step.between old) new → LooksOrTells first new
-    by_end true is = inr (
-      with_cylinder_passed first (results_judged (with_front step.between old)),
-      adds first (results_judged (with_front step.between old)),
+    by_end : (found : Option Results) → EndsAs found (Sought first) (with_front step.between old) new → LooksOrTells first new
+    by_end (Some results) is = inr (
+      with_cylinder_passed first results,
+      adds first results,
       record { stage = ap (λ chip. chip.stage) is; line = ap (λ chip. chip.interrupts.line) is },
     )
-    by_end false is = inl (ap (λ chip. chip.stage) is ∙ sought)
+    by_end None is = inl (ap (λ chip. chip.stage) is ∙ sought)
 
 -- ---- the lines
 

@@ -1,11 +1,11 @@
 -- A front whose command is under way, through the calls that don't end it.
-use Rattle.std.proofs.Common.{◌≡◌, ℕ, Bool, true, false, ◌==◌, if◌then◌else◌, Option, Some, None, refl, sym, ◌∙◌, ap, subst}
+use Rattle.std.proofs.Common.{◌≡◌, ℕ, Bool, true, false, ◌==◌, Option, Some, None, refl, sym, ◌∙◌, ap, subst}
 use Rattle.std.proofs.lemmas.Bool.{false≢true, eqb-true}
 use Rattle.fdc_core.specs.Ports.{resets}
-use Rattle.fdc_sequencer.specs.Fronts.{Front, GivesAt, TakesAt, TakesByte, WritesFront, after_reading, byte_given, count_told, reset_if, told_front}
+use Rattle.fdc_sequencer.specs.Fronts.{Front, GivesAt, TakesAt, WritesFront, count_told, reset_if, told_front}
 use Rattle.fdc_sequencer.specs.declared.stage.FrontStage.{FrontStage}
-use Rattle.fdc_sequencer.specs.declared.stage.FrontStage.TheVariants.{Through, Collecting, Seeking, Moving, Telling}
-use Rattle.laws_sequencer.specs.Lasting.{is_under_way}
+use Rattle.fdc_sequencer.specs.declared.stage.FrontStage.TheVariants.{Through, Seeking, Moving, Telling}
+use Rattle.laws_chip.specs.SectorLasting.{is_under_way}
 
 pub clash : {A : Type 0} (b : Bool) → b ≡ false → b ≡ true → A
 clash b is other = absurd (false≢true (sym is ∙ other))
@@ -25,24 +25,21 @@ same_under old new is under = ap (λ front. is_under_way front.stage) is ∙ und
 
 pub takes_under : (stage : FrontStage) (byte : Option ℕ) (old new : Front) → old.stage ≡ stage → is_under_way stage ≡ true → TakesAt stage old byte new → is_under_way new.stage ≡ true
 takes_under Through byte old new at under takes = absurd (false≢true under)
-takes_under (Collecting opcode) byte old new at under takes = absurd (false≢true under)
-takes_under (Telling results read) byte old new at under takes = absurd (false≢true under)
+takes_under (Telling results) byte old new at under takes = absurd (false≢true under)
 takes_under (Seeking transfer counted) byte old new at under (none, is) = ap (λ front. is_under_way front.stage) is ∙ ap is_under_way at
 takes_under (Moving moving) None old new at under (quiet, is) = ap (λ front. is_under_way front.stage) is ∙ ap is_under_way at
 takes_under (Moving moving) (Some byte) old new at under (up, byte_is, is) = ap (λ front. is_under_way front.stage) is
 
 pub gives_under : (stage : FrontStage) (byte : ℕ) (was : Bool) (old new : Front) → old.stage ≡ stage → is_under_way stage ≡ true → GivesAt stage byte old was new → is_under_way new.stage ≡ true
 gives_under Through byte was old new at under gives = absurd (false≢true under)
-gives_under (Collecting opcode) byte was old new at under gives = absurd (false≢true under)
-gives_under (Telling results read) byte was old new at under gives = absurd (false≢true under)
+gives_under (Telling results) byte was old new at under gives = absurd (false≢true under)
 gives_under (Seeking transfer counted) byte was old new at under (none, is) = ap (λ front. is_under_way front.stage) is ∙ ap is_under_way at
 gives_under (Moving moving) byte false old new at under (quiet, is) = ap (λ front. is_under_way front.stage) is ∙ ap is_under_way at
 gives_under (Moving moving) byte true old new at under (up, is) = ap (λ front. is_under_way front.stage) is
 
 counted_under : (stage : FrontStage) (old new : Front) → is_under_way stage ≡ true → new ≡ count_told stage old → is_under_way new.stage ≡ true
 counted_under Through old new under is = absurd (false≢true under)
-counted_under (Collecting opcode) old new under is = absurd (false≢true under)
-counted_under (Telling results read) old new under is = absurd (false≢true under)
+counted_under (Telling results) old new under is = absurd (false≢true under)
 counted_under (Seeking transfer counted) old new under is = ap (λ front. is_under_way front.stage) is
 counted_under (Moving moving) old new under is = ap (λ front. is_under_way front.stage) is
 
@@ -51,40 +48,9 @@ counts_under old new under is = counted_under old.stage old new under is
 
 -- ---- ports
 
-given_same : (stage : FrontStage) (front : Front) → is_under_way stage ≡ true → byte_given stage front ≡ front
-given_same Through front under = absurd (false≢true under)
-given_same (Collecting opcode) front under = absurd (false≢true under)
-given_same (Telling results read) front under = absurd (false≢true under)
-given_same (Seeking transfer counted) front under = refl
-given_same (Moving moving) front under = refl
-
-pub reads_same : (port : ℕ) (front : Front) → is_under_way front.stage ≡ true → after_reading port front ≡ front
-reads_same port front under = by_port (port == 0x3F5)
-  where
-    by_port : (b : Bool) → (if b then byte_given front.stage front else front) ≡ front
-    by_port true = given_same front.stage front under
-    by_port false = refl
-
-pub byte_ignored : (stage : FrontStage) (byte : ℕ) (old new : Front) → is_under_way stage ≡ true → TakesByte stage byte old new → new ≡ old
-byte_ignored Through byte old new under takes = absurd (false≢true under)
-byte_ignored (Collecting opcode) byte old new under takes = absurd (false≢true under)
-byte_ignored (Telling results read) byte old new under takes = absurd (false≢true under)
-byte_ignored (Seeking transfer counted) byte old new under takes = takes
-byte_ignored (Moving moving) byte old new under takes = takes
-
-ignores : (stage : FrontStage) (byte : ℕ) (front : Front) → is_under_way stage ≡ true → TakesByte stage byte front front
-ignores Through byte front under = absurd (false≢true under)
-ignores (Collecting opcode) byte front under = absurd (false≢true under)
-ignores (Telling results read) byte front under = absurd (false≢true under)
-ignores (Seeking transfer counted) byte front under = refl
-ignores (Moving moving) byte front under = refl
-
--- a byte that is written to the data port is ignored in this way
-pub ignored_write : (port byte : ℕ) (front : Front) → (port == 0x3F5) ≡ true → is_under_way front.stage ≡ true → WritesFront port byte front front
-ignored_write port byte front here under = record {
-  bytes = λ is. ignores front.stage byte front under;
-  others = λ no. clash (port == 0x3F5) no here;
-}
+-- a byte that is written to the data port is ignored
+pub ignored_write : (port byte : ℕ) (front : Front) → (port == 0x3F5) ≡ true → WritesFront port byte front front
+ignored_write port byte front here = record { bytes = λ is. refl; others = λ no. clash (port == 0x3F5) no here }
 
 -- a write of another port that doesn't reset leaves the stage
 pub port_stage : (port value : ℕ) (old new : Front) → WritesFront port value old new → (port == 0x3F5) ≡ false → resets port value ≡ false → new.stage ≡ old.stage
@@ -94,5 +60,5 @@ port_stage port value old new writes no_byte no_reset =
 
 pub writes_under : (port value : ℕ) (old new : Front) → is_under_way old.stage ≡ true → WritesFront port value old new → resets port value ≡ false → is_under_way new.stage ≡ true
 writes_under port value old new under writes no_reset = either_way (port == 0x3F5)
-    (λ here. same_under old new (byte_ignored old.stage value old new under (writes.bytes (eqb-true port 0x3F5 here))) under)
+    (λ here. same_under old new (writes.bytes (eqb-true port 0x3F5 here)) under)
     (λ no_byte. ap is_under_way (port_stage port value old new writes no_byte no_reset) ∙ under)

@@ -60,33 +60,25 @@ is_held_at Held = true
 is_held_at _ = false
 
 busy_free : (stage : ChipStage) → is_busy stage ≡ true → is_held_at stage ≡ false
-busy_free Ready busy = refl
 busy_free Held busy = absurd (false≢true busy)
-busy_free (Busy what) busy = refl
-busy_free (Telling answer read) busy = refl
+busy_free _ busy = refl
 
 moves_free : (b : Bool) (goal : Option ℕ) (old new : ChipState) → MovesIf b goal old new → is_held_at new.stage ≡ false
 moves_free true goal old new is = ap (λ (chip : ChipState). is_held_at chip.stage) is
-moves_free false goal old new (sends, rest) = ap (λ (chip : ChipState). is_held_at chip.stage) rest
+moves_free false goal old new (gives, rest) = ap (λ (chip : ChipState). is_held_at chip.stage) rest
 
 pub obeys_free : (found : ChipOpcode) (old new : ChipState) → Obeys found old new → is_held_at new.stage ≡ false
-obeys_free code.Specify old new is = ap (λ (chip : ChipState). is_held_at chip.stage) is
-obeys_free code.SenseInterrupt old new is = ap (λ (chip : ChipState). is_held_at chip.stage) is
-obeys_free code.Version old new is = ap (λ (chip : ChipState). is_held_at chip.stage) is
-obeys_free code.Perpendicular old new is = ap (λ (chip : ChipState). is_held_at chip.stage) is
-obeys_free code.DumpRegisters old new is = ap (λ (chip : ChipState). is_held_at chip.stage) is
-obeys_free (code.Lock on) old new is = ap (λ (chip : ChipState). is_held_at chip.stage) is
-obeys_free code.SenseDrive old new asks = ap (λ (chip : ChipState). is_held_at chip.stage) asks.told_is
 obeys_free code.Recalibrate old new moves = moves_free old.paced None old new moves
 obeys_free code.Seek old new moves = moves_free old.paced (Some old.order.key.c) old new moves
 obeys_free (code.RelativeSeek inward) old new moves =
     moves_free old.paced (Some (relative_target inward (cylinder_of old.order.unit old.interrupts) old.order.key.c)) old new moves
-obeys_free code.Configure old new (sends, rest) = ap (λ (chip : ChipState). is_held_at chip.stage) rest
+obeys_free code.Configure old new (gives, rest) = ap (λ (chip : ChipState). is_held_at chip.stage) rest
 obeys_free (code.ReadId mfm) old new obeys = busy_free new.stage (obeys_busy (code.ReadId mfm) old new refl obeys)
 obeys_free (code.FormatTrack mfm) old new obeys = busy_free new.stage (obeys_busy (code.FormatTrack mfm) old new refl obeys)
 obeys_free (code.Transfer mfm) old new obeys = busy_free new.stage (obeys_busy (code.Transfer mfm) old new refl obeys)
 obeys_free (code.Verify mfm) old new obeys = busy_free new.stage (obeys_busy (code.Verify mfm) old new refl obeys)
 obeys_free (code.ReadTrack mfm) old new obeys = busy_free new.stage (obeys_busy (code.ReadTrack mfm) old new refl obeys)
+obeys_free _ old new is = ap (λ (chip : ChipState). is_held_at chip.stage) is
 
 -- ---- a command that is held
 

@@ -1,42 +1,40 @@
 -- A VERIFY is a READ DATA of the sequencer, whose bytes go nowhere, and it ends as that READ DATA does. So does a
 -- transfer.
-use Rattle.std.proofs.Common.{◌≡◌, ℕ, zero, suc, ◌+◌, ◌*◌, ◌<◌, Bool, true, false, not, ◌&&◌, ◌==◌, if◌then◌else◌, Option, Some, None, List, [], ◌∷◌, ◌++◌, refl, sym, ◌∙◌, ap, subst}
-use Rattle.std.proofs.lemmas.Bool.{and_left, and_right, eqb-true, false≢true}
+use Rattle.std.proofs.Common.{◌≡◌, ℕ, zero, suc, ◌+◌, ◌*◌, ◌<◌, Bool, true, false, ◌==◌, if◌then◌else◌, Option, Some, None, List, [], ◌∷◌, ◌++◌, refl, sym, ◌∙◌, ap, subst}
+use Rattle.std.proofs.lemmas.Bool.{false≢true}
 use Rattle.fdc_commands.specs.declared.results.Results.{Results}
 use Rattle.fdc_core.specs.Ranges.{IsInRange}
-use Rattle.fdc_sequencer.specs.Fronts.{Front, TakesAt, count_told as front_told, told_front}
-use Rattle.fdc_sequencer.specs.Opcodes.{opcode_of}
+use Rattle.fdc_sequencer.specs.Fronts.{Front, GivesTransfer, TakesAt, count_told as front_told, told_front, results_taken}
 use Rattle.fdc_sequencer.specs.Transfers.{size_of}
-use Rattle.fdc_sequencer.specs.declared.opcode.Opcode.{Opcode}
 use Rattle.fdc_sequencer.specs.declared.stage.FrontStage.{FrontStage}
-use Rattle.fdc_sequencer.specs.declared.stage.FrontStage.TheVariants.{Through, Collecting, Seeking, Moving, Telling}
+use Rattle.fdc_sequencer.specs.declared.stage.FrontStage.TheVariants.{Through, Seeking, Moving, Telling}
 use Rattle.fdc_sequencer.specs.declared.transfer.Transfer.{Transfer}
-use Rattle.laws_sequencer.specs.Calls as behind
-use Rattle.laws_sequencer.specs.Lasting as lasting
-use Rattle.laws_sequencer.specs.Lasting.{HasByteNumbers, is_under_way, most_steps}
-use Rattle.laws_sequencer.proofs.Called.{both_within}
-use Rattle.laws_sequencer.proofs.Lasted.{command_within}
-use Rattle.laws_sequencer.proofs.Sectors.{steps_both}
-use Rattle.fdc_chip.specs.Chips.{ChipState, passes, passes_at, passes_by_channel, passes_by_port, with_front}
-use Rattle.fdc_chip.specs.Doing.{Obeys, TransfersIf, implies, is_size, sectors_verified, verifying, with_last}
-use Rattle.fdc_chip.specs.Ending.{EndsIf, EndsSent, has_results, looks_for_cylinder, results_taken, verified, results_judged}
-use Rattle.fdc_chip.specs.Orders.{is_format, order_bytes}
-use Rattle.fdc_chip.specs.Ports.{GivesChipIf, GivesIf, ReadsAt, ReadsChip, ReadsIf, TakesByte, TakesIf, count_told, value_behind}
-use Rattle.fdc_chip.specs.Settings.{is_by_port}
+use Rattle.laws_chip.specs.SectorCalls as behind
+use Rattle.laws_chip.specs.SectorLasting as lasting
+use Rattle.laws_chip.specs.SectorLasting.{HasByteNumbers, is_under_way, most_steps}
+use Rattle.laws_chip.proofs.Called.{both_within}
+use Rattle.laws_chip.proofs.Lasted.{command_within}
+use Rattle.laws_chip.proofs.Sectors.{steps_both}
+use Rattle.fdc_chip.specs.Chips.{ChipState, with_front}
+use Rattle.fdc_chip.specs.Doing.{Obeys, TransfersIf, implies, is_size, sectors_verified, transfer_sent, verifying, with_last}
+use Rattle.fdc_chip.specs.Ending.{EndsAs, EndsSent, looks_for_cylinder, results_judged, verified}
 use Rattle.fdc_chip.specs.Steps.{Follows, StepsChip, Swallows, SwallowsAs, SwallowsBy}
 use Rattle.fdc_chip.specs.declared.code.ChipOpcode.TheVariants.{Verify as VerifyCode}
 use Rattle.fdc_chip.specs.declared.stage.ChipStage.{ChipStage}
 use Rattle.fdc_chip.specs.declared.stage.ChipStage.TheVariants.{Busy}
 use Rattle.fdc_chip.specs.declared.stage.ChipTask.TheVariants.{Verify}
-use Rattle.laws_chip.specs.Beginning.{BeginsBehind, IsBegun, IsFreeBehind, transfer_sent}
+use Rattle.laws_chip.specs.Beginning.{BeginsBehind, IsBegun, IsFreeBehind}
 use Rattle.laws_chip.specs.Calls as made
 use Rattle.laws_chip.specs.Calls.{AreServed, Call, Does, steps_in, steps_of}
 use Rattle.laws_chip.specs.Lasting.{AreVerified, IsVerifying}
 use Rattle.laws_chip.proofs.CommandsBegun.{sought_sent}
-use Rattle.laws_chip.proofs.NineBytes.{order_begins}
+use Rattle.laws_chip.proofs.FirstSectors.{first_begins}
 use Rattle.laws_chip.proofs.PassedOn.{all_passed}
 use Rattle.laws_chip.proofs.Standing.{stands_free}
-use Rattle.laws_chip.proofs.UnderWay.{either_way, not_through}
+use Rattle.laws_chip.proofs.UnderWay.{not_through}
+use Rattle.laws_chip.proofs.NextStages as makes
+use Rattle.laws_chip.proofs.NextStages.{Makes, call_stays, is_change}
+use Rattle.laws_chip.specs.Bounds.{has_command}
 
 -- ---- a transfer
 
@@ -45,7 +43,7 @@ transfer_last first calls begun new is bytes range served =
     let passed = all_passed calls begun new served is.serving in
     let begins = is.begins in
     subst (λ n. n < most_steps first) passed.steps
-    (command_within begins.byte first begins.start begun.front new.front passed.all begins.last bytes begins.writes begins.stays range passed.within (still calls begun new served is.serving.under_way))
+    (command_within first begins.start begun.front new.front passed.all begins.begins bytes range passed.within (still calls begun new served is.serving.under_way))
   where
     still : (calls : List Call) (old new : ChipState) → AreServed calls old new → is_under_way old.front.stage ≡ true → is_under_way new.front.stage ≡ true
     still [] old new same under = ap (λ (chip : ChipState). is_under_way chip.front.stage) same ∙ under
@@ -53,24 +51,22 @@ transfer_last first calls begun new is bytes range served =
 
 -- ---- a VERIFY begins
 
-verify_sent : (opcode : Opcode) (old new : ChipState) → opcode_of (verifying old.order).code ≡ Some opcode → is_size old.order.key.n ≡ true → IsFreeBehind old.front → Obeys (VerifyCode true) old new
-    → BeginsBehind (transfer_sent (implies old) opcode (verifying old.order)) new.front × IsVerifying new
-verify_sent opcode old new is size free obeys =
+verify_sent : (old new : ChipState) → is_size old.order.key.n ≡ true → IsFreeBehind old.front → Obeys (VerifyCode true) old new → BeginsBehind (transfer_sent (implies old) (verifying old.order)) new.front × IsVerifying new
+verify_sent old new size free obeys =
     let noted = with_last old.order.last_sector old in
     let order = verifying old.order in
+    let first = transfer_sent (implies noted) order in
     let left = sectors_verified old.order * size_of old.order.key.n in
-    let begins : TransfersIf true true (Verify left) (order_bytes order) noted new = subst (λ b. TransfersIf b true (Verify left) (order_bytes order) noted new) size obeys in
-    let sent = sought_sent (implies noted) (Verify left) (implies noted) (order_bytes order) noted new (stands_free old.front free) begins in
-    let (serves, carried, starts) = order_begins opcode order sent.set new.front sent.stands is size sent.sends in
-    (subst (λ seeks. BeginsBehind (transfer_sent seeks opcode order) new.front) sent.implied serves, record { left = left; verifies = sent.stage; under_way = carried.under_way })
+    let begins : TransfersIf true true (Verify left) order noted new = subst (λ b. TransfersIf b true (Verify left) order noted new) size obeys in
+    let sent = sought_sent (implies noted) (Verify left) (GivesTransfer first) noted new (stands_free old.front free) begins in
+    let (serves, carried, starts) = first_begins first sent.set new.front sent.stands size sent.gives in
+    (serves, record { left = left; verifies = sent.stage; under_way = carried.under_way })
 
-pub verify_begins : (opcode : Opcode) (old new : ChipState) → opcode_of (verifying old.order).code ≡ Some opcode → is_size old.order.key.n ≡ true → IsFreeBehind old.front → Obeys (VerifyCode true) old new
-    → BeginsBehind (transfer_sent (implies old) opcode (verifying old.order)) new.front
-verify_begins opcode old new is size free obeys = (verify_sent opcode old new is size free obeys).0
+pub verify_begins : (old new : ChipState) → is_size old.order.key.n ≡ true → IsFreeBehind old.front → Obeys (VerifyCode true) old new → BeginsBehind (transfer_sent (implies old) (verifying old.order)) new.front
+verify_begins old new size free obeys = (verify_sent old new size free obeys).0
 
-pub verify_verifies : (opcode : Opcode) (old new : ChipState) → opcode_of (verifying old.order).code ≡ Some opcode → is_size old.order.key.n ≡ true → IsFreeBehind old.front → Obeys (VerifyCode true) old new
-    → IsVerifying new
-verify_verifies opcode old new is size free obeys = (verify_sent opcode old new is size free obeys).1
+pub verify_verifies : (old new : ChipState) → is_size old.order.key.n ≡ true → IsFreeBehind old.front → Obeys (VerifyCode true) old new → IsVerifying new
+verify_verifies old new size free obeys = (verify_sent old new size free obeys).1
 
 -- ---- each call is the sequencer's, or none
 
@@ -98,17 +94,13 @@ then_within first second old between new one two = record {
 -- if a command is under way after a byte, it was under way before
 takes_back : (stage : FrontStage) (byte : Option ℕ) (old new : Front) → old.stage ≡ stage → is_under_way new.stage ≡ true → TakesAt stage old byte new → is_under_way stage ≡ true
 takes_back Through byte old new at under (adapter, is) = sym (ap is_under_way (ap (λ (front : Front). front.stage) is ∙ at)) ∙ under
-takes_back (Collecting opcode) byte old new at under (none, is) = sym (ap is_under_way (ap (λ (front : Front). front.stage) is ∙ at)) ∙ under
-takes_back (Telling results read) byte old new at under (none, is) = sym (ap is_under_way (ap (λ (front : Front). front.stage) is ∙ at)) ∙ under
-takes_back (Seeking transfer counted) byte old new at under takes = refl
-takes_back (Moving moving) byte old new at under takes = refl
+takes_back (Telling results) byte old new at under (none, is) = sym (ap is_under_way (ap (λ (front : Front). front.stage) is ∙ at)) ∙ under
+takes_back _ byte old new at under takes = refl
 
 counts_back : (stage : FrontStage) (old new : Front) → old.stage ≡ stage → is_under_way new.stage ≡ true → new ≡ front_told stage old → is_under_way stage ≡ true
-counts_back Through old new at under is = sym (ap is_under_way (ap (λ (front : Front). front.stage) is ∙ at)) ∙ under
-counts_back (Collecting opcode) old new at under is = sym (ap is_under_way (ap (λ (front : Front). front.stage) is ∙ at)) ∙ under
-counts_back (Telling results read) old new at under is = sym (ap is_under_way (ap (λ (front : Front). front.stage) is ∙ at)) ∙ under
 counts_back (Seeking transfer counted) old new at under is = refl
 counts_back (Moving moving) old new at under is = refl
+counts_back _ old new at under is = sym (ap is_under_way (ap (λ (front : Front). front.stage) is ∙ at)) ∙ under
 
 -- a byte goes nowhere, and after the last byte the terminal count is given
 record SwallowsWithin (old new : Front) : Type 0 where
@@ -147,73 +139,39 @@ is_verify _ = false
 
 -- a VERIFY that is over isn't under way any more
 verify_over : (b : Bool) (results : Results) (old new : ChipState) → EndsSent b results old new → is_verify new.stage ≡ false
-verify_over true results old new (sends, rest) = ap (λ (chip : ChipState). is_verify chip.stage) rest
+verify_over true results old new (gives, rest) = ap (λ (chip : ChipState). is_verify chip.stage) rest
 verify_over false results old new is = ap (λ (chip : ChipState). is_verify chip.stage) is
 
-verify_same : (b : Bool) (left : ℕ) (old new : ChipState) → is_verify new.stage ≡ true → EndsIf b (Verify left) old new → new ≡ old
-verify_same true left old new still ends =
-    let results = verified old.order (results_judged old) in
-    absurd (false≢true (sym (verify_over (looks_for_cylinder old.order results) results (with_front (results_taken old.front) old) new ends) ∙ still))
-verify_same false left old new still is = is
+verify_same : (waiting : Option Results) (left : ℕ) (old new : ChipState) → is_verify new.stage ≡ true → EndsAs waiting (Verify left) old new → new ≡ old
+verify_same None left old new still is = is
+verify_same (Some results) left old new still ends =
+    let told = verified old.order results in
+    absurd (false≢true (sym (verify_over (looks_for_cylinder old.order told) told (with_front (results_taken old.front) old) new ends) ∙ still))
 
 step_within : (left : ℕ) (old new : ChipState) → old.stage ≡ Busy (Verify left) → StepsChip old new → IsVerifying new → IsWithin 1 old.front new.front
 step_within left old new at step still =
     let (set, all, may) = subst (λ stage. Follows stage (with_front step.between old) new) at step.follows in
-    let same = verify_same (has_results set.front) left set new (ap is_verify still.verifies) may in
+    let same = verify_same (results_judged set) left set new (ap is_verify still.verifies) may in
     let front : new.front ≡ all.front = ap (λ (chip : ChipState). chip.front) same ∙ ap (λ (chip : ChipState). chip.front) all.after in
     let under : is_under_way all.front.stage ≡ true = sym (ap (λ (f : Front). is_under_way f.stage) front) ∙ still.under_way in
     let swallows = swallows_within 16 left all.now step.between all.front under all.swallows in
     let one = one_within behind.Steps old.front step.between step.steps swallows.before in
     subst (IsWithin 1 old.front) (sym front) (then_within 1 0 old.front step.between all.front one swallows.within)
 
--- ---- ---- other calls: no byte of a VERIFY is the host's
+-- ---- ---- other calls
 
-none_passes : (left : ℕ) (old : ChipState) → old.stage ≡ Busy (Verify left) → passes old ≡ false
-none_passes left old at = and_left (passes_at old.stage) (not (is_format old.order && (old.keys == 0))) (ap passes_at at)
-
-none_by_channel : (left : ℕ) (old : ChipState) → old.stage ≡ Busy (Verify left) → passes_by_channel old ≡ false
-none_by_channel left old at = and_right (old.gated && not (is_by_port old.settings)) (passes old) (none_passes left old at)
-
-none_by_port : (left : ℕ) (old : ChipState) → old.stage ≡ Busy (Verify left) → passes_by_port old ≡ false
-none_by_port left old at = and_right (is_by_port old.settings) (passes old) (none_passes left old at)
-
-takes_within : (b : Bool) (byte : Option ℕ) (old new : ChipState) → b ≡ false → TakesIf b old byte new → IsWithin 0 old.front new.front
-takes_within true byte old new passes takes = absurd (false≢true (sym passes))
-takes_within false byte old new passes (none, is) = none_within old.front new.front (ap (λ (chip : ChipState). chip.front) is)
-
-gives_within : (b : Bool) (byte : ℕ) (given : Bool) (old new : ChipState) → b ≡ false → GivesChipIf b byte old given new → IsWithin 0 old.front new.front
-gives_within true byte given old new passes gives = absurd (false≢true (sym passes))
-gives_within false byte given old new passes (none, is) = none_within old.front new.front (ap (λ (chip : ChipState). chip.front) is)
-
-read_within : (b : Bool) (value : ℕ) (old new : ChipState) → b ≡ false → ReadsIf b old value new → IsWithin 0 old.front new.front
-read_within true value old new passes reads = absurd (false≢true (sym passes))
-read_within false value old new passes (none, is) = none_within old.front new.front (ap (λ (chip : ChipState). chip.front) is)
-
-write_within : (b : Bool) (value : ℕ) (old new : ChipState) → b ≡ false → GivesIf b value old new → IsWithin 0 old.front new.front
-write_within true value old new passes gives = absurd (false≢true (sym passes))
-write_within false value old new passes is = none_within old.front new.front (ap (λ (chip : ChipState). chip.front) is)
-
-other_read : (port value : ℕ) (old new : ChipState) → (port == 0x3F5) ≡ false → ReadsChip port old value new → new ≡ old
-other_read port value old new no_data reads = either_way (port == 0x3F4)
-    (λ status. (reads.status (eqb-true port 0x3F4 status)).1)
-    (λ no_status. (reads.others no_status no_data).1)
+pub makes_within : (b : Bool) (old new : Front) → Makes b old new → is_under_way new.stage ≡ true → IsWithin 0 old new
+makes_within b old new (makes.Same is) under = none_within old new is
+makes_within b old new (makes.Takes byte takes) under = one_within (behind.Takes byte) old new takes under
+makes_within b old new (makes.Gives byte given gives) under = one_within (behind.Gives byte given) old new gives under
+makes_within b old new (makes.Counts is) under = one_within behind.Counts old new is under
+makes_within b old new (makes.Writes port value writes no_data quiet) under = one_within (behind.Writes port value) old new writes under
+makes_within b old new (makes.Changes changes keeps) under = one_within behind.Changes old new keeps under
 
 pub call_within : (call : Call) (left : ℕ) (old new : ChipState) → old.stage ≡ Busy (Verify left) → Does call old new → IsVerifying new → IsWithin (steps_of call) old.front new.front
 call_within made.Steps left old new at does still = step_within left old new at does still
-call_within (made.Takes byte) left old new at does still = takes_within (passes_by_channel old) byte old new (none_by_channel left old at) does
-call_within (made.Gives byte given) left old new at does still = gives_within (passes_by_channel old) byte given old new (none_by_channel left old at) does
-call_within made.Counts left old new at does still = none_within old.front new.front (ap (λ (chip : ChipState). chip.front) (subst (λ stage. new ≡ count_told stage old) at does))
-call_within (made.Reads port value) left old new at does still = either_way (port == 0x3F5)
-    (λ here. read_within (passes_by_port old) value old new (none_by_port left old at)
-    (subst (λ stage. ReadsAt stage old value new) at (does.byte (eqb-true port 0x3F5 here))))
-    (λ no_data. none_within old.front new.front (ap (λ (chip : ChipState). chip.front) (other_read port value old new no_data does)))
-call_within (made.Writes port value) left old new at does still = either_way (port == 0x3F5)
-    (λ here. write_within (passes_by_port old) value old new (none_by_port left old at)
-    (subst (λ stage. TakesByte stage value old new) at (does.bytes (eqb-true port 0x3F5 here))))
-    (λ no_data. one_within (behind.Writes port (value_behind port value)) old.front new.front (does.others no_data).0 still.under_way)
-call_within made.Changes left old new at does still = one_within behind.Changes old.front new.front does.front still.under_way
-call_within (made.Straps on) left old new at does still = none_within old.front new.front (ap (λ (chip : ChipState). chip.front) does)
-call_within (made.StrapsSteps on) left old new at does still = none_within old.front new.front (ap (λ (chip : ChipState). chip.front) does)
+call_within call left old new at does still =
+    makes_within (is_change call) old.front new.front (call_stays call (Verify left) old new does at refl (ap has_command still.verifies)).front still.under_way
 
 -- ---- ---- calls one after the other
 
@@ -234,4 +192,4 @@ pub verify_last : (first : Transfer) (calls : List Call) (begun new : ChipState)
 verify_last first calls begun new begins was bytes range verified =
     let are = all_within calls begun new was verified in
     subst (λ n. n < most_steps first) are.within.steps_are
-    (command_within begins.byte first begins.start begun.front new.front are.within.calls begins.last bytes begins.writes begins.stays range are.within.within are.under_way)
+    (command_within first begins.start begun.front new.front are.within.calls begins.begins bytes range are.within.within are.under_way)

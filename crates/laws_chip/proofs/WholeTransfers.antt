@@ -1,13 +1,11 @@
 -- The last byte of a command: the inner controller is free for it, and it begins; or it is held until heads stand.
 use Rattle.std.proofs.Common.{if◌then◌else◌, ◌≡◌, ℕ, zero, suc, ◌+◌, ◌%◌, ◌<◌, nat_le, Bool, true, false, not, ◌||◌, ◌==◌, Option, Some, None, is_some, refl, sym, ◌∙◌, ap, subst}
 use Rattle.std.proofs.lemmas.Bool.{and_from, and_right, eqb-true, false≢true, or_parts}
-use Rattle.fdc_sequencer.specs.Fronts.{Front}
-use Rattle.fdc_sequencer.specs.Opcodes.{opcode_of}
-use Rattle.fdc_sequencer.specs.Senses.{is_ready, is_ready_at, pending_outside, sensed_outside}
-use Rattle.fdc_sequencer.specs.declared.opcode.Opcode.{Opcode}
+use Rattle.fdc_sequencer.specs.Fronts.{Front, is_ready}
+use Rattle.fdc_sequencer.specs.Senses.{pending_outside, sensed_outside}
 use Rattle.fdc_chip.specs.Chips.{ChipState, passes_by_channel, passes_by_port, with_front}
 use Rattle.fdc_chip.specs.Codes.{code_of, parameters}
-use Rattle.fdc_chip.specs.Doing.{Attends, AttendsIf, AttendsTo, drained, drained_by, implies, is_moving, is_size, is_told, kept, moves_heads, needs_heads}
+use Rattle.fdc_chip.specs.Doing.{Attends, AttendsIf, AttendsTo, drained, drained_by, implies, is_moving, is_size, is_told, kept, moves_heads, needs_heads, transfer_sent}
 use Rattle.fdc_chip.specs.Interrupts.{with_result}
 use Rattle.fdc_chip.specs.Paces.{Paces}
 use Rattle.fdc_chip.specs.Ports.{CollectsIf, ComesIf, GivesChipIf, GivesIf, ReadsAt, ReadsIf, TakesByte, TakesIf, WritesChip, count_told, latched_by, given_one, is_whole, may_come, reset_if, with_next}
@@ -16,7 +14,7 @@ use Rattle.fdc_chip.specs.declared.code.ChipOpcode.{ChipOpcode}
 use Rattle.fdc_chip.specs.declared.code.ChipOpcode.TheVariants.{ReadTrack, Specify, SenseDrive, Transfer, Recalibrate, SenseInterrupt, ReadId, FormatTrack, DumpRegisters, Seek, RelativeSeek, Version, Perpendicular, Configure, Lock, Verify}
 use Rattle.fdc_chip.specs.declared.order.Order.{Order}
 use Rattle.fdc_chip.specs.declared.stage.ChipStage.TheVariants.{Ready, Held}
-use Rattle.laws_chip.specs.Beginning.{BeginsUnless, Completes, CompletesTransfer, IsBegun, IsDoneFree, IsFreeBehind, IsHeldFor, IsTransferOf, completed, still_moves, transfer_sent}
+use Rattle.laws_chip.specs.Beginning.{BeginsUnless, Completes, CompletesTransfer, IsBegun, IsDoneFree, IsFreeBehind, IsHeldFor, IsTransferOf, completed, still_moves}
 use Rattle.laws_chip.specs.Calls as made
 use Rattle.laws_chip.specs.Calls.{Call, Does, is_reset, is_step}
 use Rattle.laws_chip.specs.Sound.{IsSound, RestsBehind}
@@ -28,7 +26,7 @@ use Rattle.laws_chip.proofs.SoundCalls.{code_few, comes_free}
 use Rattle.laws_chip.proofs.SoundParts as parts
 use Rattle.laws_chip.proofs.SoundParts.{IsBasis, at_rest, basis_same, is_busy, sound_basis}
 use Rattle.laws_chip.proofs.SoundSteps.{stepped_rests}
-use Rattle.laws_chip.proofs.Standing.{Stands, stands_idle}
+use Rattle.laws_chip.proofs.Standing.{Stands, stands_ready}
 use Rattle.laws_chip.proofs.UnderWay.{either_way}
 
 -- ---- ---- results that are taken over leave the inner controller in a state that follows from the one before
@@ -81,7 +79,7 @@ pub record IsAttended (code : ChipOpcode) (set new : ChipState) : Type 0 where
 
 free_of : (front : Front) → Stands front → RestsBehind front → moves_heads front ≡ false → IsFreeBehind front
 free_of front stands rests still = record {
-  ready = ap (λ stage. is_ready_at stage front.adapter.controller) stands.through ∙ stands_idle front stands;
+  ready = stands_ready front stands;
   stands = still;
   seek = rests.seek;
   by_dma = stands.by_dma;
@@ -107,14 +105,13 @@ attended_held code old new attended heads moves =
     let is : new ≡ record set { stage = Held } = subst (λ b. AttendsIf b code set new) (and_from (needs_heads code) (is_moving set) heads moves) attended.attends in
     record { held = ap (λ (chip : ChipState). chip.stage) is; order_is = ap (λ (chip : ChipState). chip.order) is ∙ resting.order }
 
-attended_begins : (b : Bool) (opcode : Opcode) (old new : ChipState) → still_moves old ≡ b → IsTransferOf opcode old.order → IsAttended (Transfer true) old new → BeginsUnless b (implies old) opcode old.order new
-attended_begins true opcode old new moves whole attended = attended_held (Transfer true) old new attended refl moves
-attended_begins false opcode old new still whole attended =
+attended_begins : (b : Bool) (old new : ChipState) → still_moves old ≡ b → IsTransferOf old.order → IsAttended (Transfer true) old new → BeginsUnless b (implies old) old.order new
+attended_begins true old new moves whole attended = attended_held (Transfer true) old new attended refl moves
+attended_begins false old new still whole attended =
     let done = attended_free (Transfer true) old new attended still in
-    let served : opcode_of done.set.order.code ≡ Some opcode = ap (λ (order : Order). opcode_of order.code) done.order_is ∙ whole.served in
     let size : is_size done.set.order.key.n ≡ true = ap (λ (order : Order). is_size order.key.n) done.order_is ∙ whole.size in
-    subst (λ order. IsBegun (transfer_sent (implies old) opcode order) new) done.order_is
-    (subst (λ seeks. IsBegun (transfer_sent seeks opcode done.set.order) new) done.implied (transfer_begun opcode done.set new served size done.free done.obeys))
+    subst (λ order. IsBegun (transfer_sent (implies old) order) new) done.order_is
+    (subst (λ seeks. IsBegun (transfer_sent seeks done.set.order) new) done.implied (transfer_begun done.set new size done.free done.obeys))
 
 -- ---- ---- the last byte of a command
 
@@ -171,11 +168,11 @@ pub byte_free : (code : ChipOpcode) (byte : ℕ) (old new : ChipState) → IsSou
 byte_free code byte old new sound few heads completes writes still =
     attended_free code (attending byte old) new (byte_attends code byte old new sound few heads completes writes) (same_moves (attending byte old) old refl refl ∙ still)
 
-pub byte_begins : (opcode : Opcode) (byte : ℕ) (old new : ChipState) → IsSound old → byte < 256 → CompletesTransfer opcode byte old → WritesChip 0x3F5 byte old new
-    → BeginsUnless (still_moves old) (implies old) opcode (completed byte old) new
-byte_begins opcode byte old new sound few completes writes =
+pub byte_begins : (byte : ℕ) (old new : ChipState) → IsSound old → byte < 256 → CompletesTransfer byte old → WritesChip 0x3F5 byte old new
+    → BeginsUnless (still_moves old) (implies old) (completed byte old) new
+byte_begins byte old new sound few completes writes =
     let last : Completes (Transfer true) byte old = record { others = completes.eight; whole = completes.whole.code } in
-    attended_begins (still_moves old) opcode (attending byte old) new (same_moves (attending byte old) old refl refl) completes.whole (byte_attends (Transfer true) byte old new sound few refl last writes)
+    attended_begins (still_moves old) (attending byte old) new (same_moves (attending byte old) old refl refl) completes.whole (byte_attends (Transfer true) byte old new sound few refl last writes)
 
 -- ---- ---- a device step of a held command
 
@@ -204,9 +201,9 @@ step_free code old new step sound at is =
     let attended = step_attends code old paced new sound at is was attends in
     (paced, paces, λ still. of_order code paced.order old.order (implies paced) (implies old) new was.order was.implied (attended_free code paced new attended still))
 
-pub step_begins : (opcode : Opcode) (order : Order) (old new : ChipState) (step : StepsChip old new) → IsSound old → IsHeldFor order old → IsTransferOf opcode order
-    → (paced : ChipState) × Paces old.pace (with_front step.between old) paced × BeginsUnless (still_moves paced) (implies old) opcode order new
-step_begins opcode order old new step sound held whole =
+pub step_begins : (order : Order) (old new : ChipState) (step : StepsChip old new) → IsSound old → IsHeldFor order old → IsTransferOf order
+    → (paced : ChipState) × Paces old.pace (with_front step.between old) paced × BeginsUnless (still_moves paced) (implies old) order new
+step_begins order old new step sound held whole =
     let (paced, paces, attends) = follows_held old new step held.held in
     let was = step_rests old paced new step sound held.held paces in
     let same : paced.order ≡ order = was.order ∙ held.order_is in
@@ -214,8 +211,8 @@ step_begins opcode order old new step sound held whole =
     let attended = step_attends (Transfer true) old paced new sound held.held is was attends in (
       paced,
       paces,
-      subst (λ o. BeginsUnless (still_moves paced) (implies old) opcode o new) same
-          (subst (λ seeks. BeginsUnless (still_moves paced) seeks opcode paced.order new) was.implied (attended_begins (still_moves paced) opcode paced new refl (subst (IsTransferOf opcode) (sym same) whole) attended)),
+      subst (λ o. BeginsUnless (still_moves paced) (implies old) o new) same
+          (subst (λ seeks. BeginsUnless (still_moves paced) seeks paced.order new) was.implied (attended_begins (still_moves paced) paced new refl (subst IsTransferOf (sym same) whole) attended)),
     )
 
 -- ---- ---- the command is held through each other call

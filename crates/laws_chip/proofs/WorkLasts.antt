@@ -1,5 +1,5 @@
 -- A command that was given ends: it waits for heads, if it is held, and each of its device steps leaves fewer.
-use Rattle.std.proofs.Common.{◌≡◌, ◌⊎◌, inl, inr, ℕ, zero, suc, ◌+◌, ◌-◌, ◌<◌, ◌≤◌, Bool, true, false, not, ◌&&◌, ◌==◌, Option, Some, List, [], ◌∷◌, refl, sym, ◌∙◌, ap, subst, arith}
+use Rattle.std.proofs.Common.{◌≡◌, ◌⊎◌, inl, inr, ℕ, zero, suc, ◌+◌, ◌-◌, ◌<◌, ◌≤◌, true, false, not, ◌&&◌, ◌==◌, Option, Some, List, [], ◌∷◌, refl, sym, ◌∙◌, ap, subst, arith}
 use Rattle.std.proofs.lemmas.Bool.{and_left, and_right, eqb-true, false≢true}
 use Rattle.fdc_chip.specs.Chips.{ChipState, passes, passes_at, passes_by_port}
 use Rattle.fdc_chip.specs.Codes.{code_of}
@@ -8,11 +8,10 @@ use Rattle.fdc_chip.specs.Orders.{is_format}
 use Rattle.fdc_chip.specs.Ports.{GivesIf, ReadsAt, ReadsIf, TakesByte}
 use Rattle.fdc_chip.specs.Settings.{is_by_port}
 use Rattle.fdc_chip.specs.declared.code.ChipOpcode.{ChipOpcode}
-use Rattle.fdc_chip.specs.declared.code.ChipOpcode.TheVariants as code
 use Rattle.fdc_chip.specs.declared.order.Order.{Order}
 use Rattle.fdc_chip.specs.declared.stage.ChipStage.TheVariants.{Held}
-use Rattle.laws_chip.specs.Beginning.{IsDoneFree, IsHeldFor, completed, still_moves}
-use Rattle.laws_chip.specs.Bounds.{AreWorking, IsGiven, HeadsMove, IsWorking, WaitsFor, has_command, heads_of, most_steps_of}
+use Rattle.laws_chip.specs.Beginning.{IsHeldFor, completed, still_moves}
+use Rattle.laws_chip.specs.Bounds.{AreWorking, IsGiven, HeadsMove, IsWorking, WaitsFor, heads_of, most_steps_of}
 use Rattle.laws_chip.specs.Bounds as bounds
 use Rattle.laws_chip.specs.Calls as made
 use Rattle.laws_chip.specs.Calls.{Call, Does, is_reset, is_step, steps_in, steps_of}
@@ -20,16 +19,18 @@ use Rattle.laws_chip.specs.PacedSeeks.{HeadsPaced}
 use Rattle.laws_chip.specs.Resets.{is_of_data_port}
 use Rattle.laws_chip.specs.Seeks.{HeadsGo, IsSoundInRange, most_of}
 use Rattle.laws_chip.specs.Sound.{IsSound}
-use Rattle.laws_chip.proofs.BusyLeft.{BusyLeft, call_left, left_positive, more_left, none_of}
+use Rattle.laws_chip.proofs.BusyLeft.{BusyLeft, call_left, left_positive, more_left}
 use Rattle.laws_chip.proofs.HeadsGoing.{heads_some}
 use Rattle.laws_chip.proofs.HeadsWait.{move_call, move_step}
 use Rattle.laws_chip.proofs.NextStages.{works_quiet}
 use Rattle.laws_chip.proofs.PulsesGoing.{paced_some}
 use Rattle.laws_chip.proofs.SeeksHeld.{call_going, call_paced, held_step, paced_held}
-use Rattle.laws_chip.proofs.SoundCalls.{call_sound, code_few}
-use Rattle.laws_chip.proofs.UnderWay.{clash, either_way}
+use Rattle.laws_chip.proofs.SoundCalls.{call_sound}
+use Rattle.laws_chip.proofs.UnderWay.{either_way}
 use Rattle.laws_chip.proofs.WholeTransfers.{attended_held, attending, byte_attends, byte_free, call_held, same_moves}
 use Rattle.laws_chip.proofs.WorkBegins.{done_left, is_data}
+use Rattle.laws_chip.proofs.TracksLast.{none_of}
+use Rattle.laws_chip.proofs.SinglesLast.{steps_less}
 
 -- ---- what is left
 
@@ -58,13 +59,7 @@ data_same (made.Reads port value) old new at does here =
 data_same (made.Writes port value) old new at does here =
     let gives : GivesIf (passes_by_port old) value old new = subst (λ stage. TakesByte stage value old new) at (does.bytes (eqb-true port 0x3F5 here)) in
     subst (λ b. GivesIf b value old new) (none_pass old at) gives
-data_same made.Steps old new at does here = absurd (false≢true here)
-data_same (made.Takes byte) old new at does here = absurd (false≢true here)
-data_same (made.Gives byte was) old new at does here = absurd (false≢true here)
-data_same made.Counts old new at does here = absurd (false≢true here)
-data_same made.Changes old new at does here = absurd (false≢true here)
-data_same (made.Straps on) old new at does here = absurd (false≢true here)
-data_same (made.StrapsSteps on) old new at does here = absurd (false≢true here)
+data_same _ old new at does here = absurd (false≢true here)
 
 other_waits : (wait : ℕ) (call : Call) (old new : ChipState) → old.stage ≡ Held → WaitsFor wait old → Does call old new → is_step call ≡ false → is_reset call ≡ false → is_of_data_port call ≡ false → WaitsFor wait new
 other_waits wait call old new at (bounds.move was) does no_step quiet other = bounds.move (move_call wait call old new at does no_step quiet other was)
@@ -111,7 +106,7 @@ move_done wait most n some few = omega arith
 next : (n : ℕ) → suc n ≡ n + 1
 next n = omega arith
 
-module _ (found : ChipOpcode) (order : Order) (kind : is_data found ≡ true) (heads : needs_heads found ≡ true) (few_code : order.code < 256) (is : code_of order.code ≡ Some found) where
+module _ (found : ChipOpcode) (order : Order) (kind : is_data found ≡ true) (heads : needs_heads found ≡ true) (is : code_of order.code ≡ Some found) where
   abbrev most : ℕ
   most = most_steps_of found order
 
@@ -121,7 +116,7 @@ module _ (found : ChipOpcode) (order : Order) (kind : is_data found ≡ true) (h
       let all : wait + 1 + most ≤ n = subst (λ m. m + most ≤ n) (next wait) few in
       elim (held_step wait drive goal found order old new sound held is heads (subst (λ m. HeadsGo m drive goal Held old) (next wait) was) does) [
         | inl (on, going) ↦ inr (record { held = on; wait = wait; waits = bounds.go drive goal going; few = one_waited wait most n all })
-        | inr done ↦ inl (more_left most (n - 1) new (all_waited wait most n all) (done_left found order (implies old) new kind still few_code is done working))
+        | inr done ↦ inl (more_left most (n - 1) new (all_waited wait most n all) (done_left found order (implies old) new kind still is done working))
       ]
 
   pace_step : (pulses wait n drive : ℕ) (goal : Option ℕ) (old new : ChipState) → IsSoundInRange old → IsSoundInRange new → IsHeldFor order old → HeadsPaced pulses drive goal Held old → pulses + most_of goal ≤ wait → wait + most ≤ n
@@ -142,7 +137,7 @@ module _ (found : ChipOpcode) (order : Order) (kind : is_data found ≡ true) (h
       let some = move_some (heads_of old) wait was.some was.within in
       elim (move_step wait found order old new sound worked.ranges.controller working.ranges.controller held is heads was does) [
         | inl (on, going) ↦ inr (record { held = on; wait = wait - 1; waits = bounds.move going; few = move_waited wait most n some few })
-        | inr done ↦ inl (more_left most (n - 1) new (move_done wait most n some few) (done_left found order (implies old) new kind still few_code is done working))
+        | inr done ↦ inl (more_left most (n - 1) new (move_done wait most n some few) (done_left found order (implies old) new kind still is done working))
       ]
 
   held_by_step : (n : ℕ) (old new : ChipState) → IsSound old → IsSound new → IsWorking old → IsWorking new → HeldLeft most n order old → Does made.Steps old new → WorkLeft most order (n - 1) new
@@ -157,15 +152,9 @@ module _ (found : ChipOpcode) (order : Order) (kind : is_data found ≡ true) (h
 
   held_left : (call : Call) (n : ℕ) (old new : ChipState) → IsSound old → IsSound new → IsWorking old → IsWorking new → HeldLeft most n order old → Does call old new → WorkLeft most order (n - steps_of call) new
   held_left made.Steps n old new sound still worked working was does = held_by_step n old new sound still worked working was does
-  held_left (made.Takes byte) n old new sound still worked working was does = inr (held_call most n order (made.Takes byte) old new was does refl refl)
-  held_left (made.Gives byte given) n old new sound still worked working was does = inr (held_call most n order (made.Gives byte given) old new was does refl refl)
-  held_left made.Counts n old new sound still worked working was does = inr (held_call most n order made.Counts old new was does refl refl)
-  held_left (made.Reads port value) n old new sound still worked working was does = inr (held_call most n order (made.Reads port value) old new was does refl refl)
   held_left (made.Writes port value) n old new sound still worked working was does =
       inr (held_call most n order (made.Writes port value) old new was does refl (works_quiet (made.Writes port value) old new does working.works))
-  held_left made.Changes n old new sound still worked working was does = inr (held_call most n order made.Changes old new was does refl refl)
-  held_left (made.Straps on) n old new sound still worked working was does = inr (held_call most n order (made.Straps on) old new was does refl refl)
-  held_left (made.StrapsSteps on) n old new sound still worked working was does = inr (held_call most n order (made.StrapsSteps on) old new was does refl refl)
+  held_left call n old new sound still worked working was does = inr (held_call most n order call old new was does refl refl)
 
   pub work_call : (call : Call) (n : ℕ) (old new : ChipState) → IsSound old → IsSound new → IsWorking old → IsWorking new → WorkLeft most order n old → Does call old new → WorkLeft most order (n - steps_of call) new
   work_call call n old new sound still worked working (inl was) does = inl (call_left call n old new sound still was does working.works)
@@ -193,9 +182,6 @@ module _ (found : ChipOpcode) (order : Order) (kind : is_data found ≡ true) (h
   work_some n chip sound (inl was) = left_positive n chip sound was
   work_some n chip sound (inr was) = held_some was.wait n (waits_some was.wait chip was.waits) was.few
 
-  steps_less : (steps more n : ℕ) → more < n - steps → steps + more < n
-  steps_less steps more n less = omega arith
-
   works_last : (calls : List Call) (n : ℕ) (old new : ChipState) → IsSound old → IsWorking old → WorkLeft most order n old → AreWorking calls old new → steps_in calls < n
   works_last [] n old new sound worked was same = work_some n old sound was
   works_last (call ∷ calls) n old new sound worked was (between, does, writes, working, rest) =
@@ -216,7 +202,6 @@ pub given_left : (wait : ℕ) (found : ChipOpcode) (byte : ℕ) (old begun : Chi
 given_left wait found byte old begun kind heads given =
     let order = completed byte old in
     let most = most_steps_of found order in
-    let few = code_few old.count byte old.order given.few given.sound.code in
     let still = call_sound (made.Writes 0x3F5 byte) old begun given.writes given.few given.sound in
     either_way (still_moves old)
     (λ moves.
@@ -225,11 +210,11 @@ given_left wait found byte old begun kind heads given =
     inr (record { held = held; wait = wait; waits = given.waits held.held; few = same_most (wait + most) }))
     (λ stands.
     let done = byte_free found byte old begun given.sound given.few heads given.last given.writes stands in
-    inl (more_left most (wait + most) begun (at_most wait most) (done_left found order (implies old) begun kind still few given.last.whole done given.working)))
+    inl (more_left most (wait + most) begun (at_most wait most) (done_left found order (implies old) begun kind still given.last.whole done given.working)))
 
 pub given_lasts : (found : ChipOpcode) → is_data found ≡ true → needs_heads found ≡ true → (wait byte : ℕ) (calls : List Call) (old begun new : ChipState) → IsGiven wait found byte old begun → AreWorking calls begun new
     → steps_in calls < wait + most_steps_of found (completed byte old)
 given_lasts found kind heads wait byte calls old begun new given are =
     let order = completed byte old in
-    works_last found order kind heads (code_few old.count byte old.order given.few given.sound.code) given.last.whole calls (wait + most_steps_of found order) begun new
+    works_last found order kind heads given.last.whole calls (wait + most_steps_of found order) begun new
     (call_sound (made.Writes 0x3F5 byte) old begun given.writes given.few given.sound) given.working (given_left wait found byte old begun kind heads given) are

@@ -1,20 +1,18 @@
 -- How a command of several sectors begins, and what is then known of it.
-use Rattle.std.specs.Prelude.{◌≡◌, ◌<◌, ℕ, Bool, true, false, List, [], ◌∷◌, ◌++◌, Option, Some, None}
+use Rattle.std.specs.Prelude.{◌≡◌, ◌<◌, ◌+◌, ℕ, Bool, true, false, List, [], ◌∷◌, ◌++◌, Option, Some, None, if◌then◌else◌}
 use Rattle.fdc_commands.specs.declared.motion.Seek.{Seek}
 use Rattle.fdc_commands.specs.declared.results.Results.{Results}
-use Rattle.fdc_sequencer.specs.Fronts.{Front, WritesFront}
-use Rattle.fdc_sequencer.specs.Opcodes.{opcode_of}
-use Rattle.fdc_sequencer.specs.Senses.{is_ready}
-use Rattle.fdc_sequencer.specs.Transfers.{transfer_with}
+use Rattle.fdc_sequencer.specs.Fronts.{Front, is_ready}
 use Rattle.fdc_sequencer.specs.declared.opcode.Opcode.{Opcode}
-use Rattle.fdc_sequencer.specs.declared.stage.FrontStage.TheVariants.{Through}
+use Rattle.fdc_sequencer.specs.declared.opcode.Operation.{Operation}
+use Rattle.fdc_sequencer.specs.declared.opcode.Operation.TheVariants.{Read, Write}
 use Rattle.fdc_sequencer.specs.declared.transfer.Transfer.{Transfer}
-use Rattle.laws_sequencer.specs.Calls as behind
-use Rattle.laws_sequencer.specs.Calls.{IsLastByte, Served}
-use Rattle.laws_sequencer.specs.Serving.{Serves, nothing_moved}
+use Rattle.laws_chip.specs.SectorCalls as behind
+use Rattle.laws_chip.specs.SectorCalls.{Served}
+use Rattle.laws_chip.specs.Serving.{Serves, nothing_moved}
 use Rattle.fdc_chip.specs.Chips.{ChipState}
 use Rattle.fdc_chip.specs.Codes.{code_of, parameters}
-use Rattle.fdc_chip.specs.Doing.{Obeys, drained, implies, is_moving, is_size, moves_heads}
+use Rattle.fdc_chip.specs.Doing.{Obeys, drained, implies, is_moving, is_size, moves_heads, transfer_sent}
 use Rattle.fdc_chip.specs.Orders.{with_byte}
 use Rattle.fdc_chip.specs.Steps.{StepsChip}
 use Rattle.fdc_chip.specs.declared.code.ChipOpcode.{ChipOpcode}
@@ -35,17 +33,10 @@ pub record IsFreeBehind (front : Front) : Type 0 where
   pub seek : IsOfFour front.adapter.controller.seeks.seek
   pub by_dma : front.adapter.controller.non_dma ≡ false
 
--- the command that nine bytes spell, at its first sector. The Bool says whether the heads go to its cylinder first
-abbrev pub transfer_sent : Bool → Opcode → Order → Transfer
-transfer_sent seeks opcode order = transfer_with seeks opcode order.unit order.key order.last_sector order.gap order.length
-
--- with this byte the sequencer has the whole command, and serves it from then on. Nothing of it has passed yet
+-- the sequencer is given the command, and serves it from then on. Nothing of it has passed yet
 pub record BeginsBehind (first : Transfer) (front : Front) : Type 0 where
-  pub byte : ℕ
   pub start : Front
-  pub last : IsLastByte byte first start
-  pub writes : WritesFront 0x3F5 byte start front
-  pub stays : front.stage ≡ Through → ⊥
+  pub begins : behind.Begins first start front
   pub serves : Serves first (nothing_moved false) front
 
 -- the command that was sent begins
@@ -73,15 +64,14 @@ pub record Completes (code : ChipOpcode) (byte : ℕ) (old : ChipState) : Type 0
   pub whole : code_of (completed byte old).code ≡ Some code
 
 -- a command of several sectors that this medium can have, which the sequencer serves
-pub record IsTransferOf (opcode : Opcode) (order : Order) : Type 0 where
+pub record IsTransferOf (order : Order) : Type 0 where
   pub code : code_of order.code ≡ Some (TransferCode true)
-  pub served : opcode_of order.code ≡ Some opcode
   pub size : is_size order.key.n ≡ true
 
 -- eight bytes of such a command came, and this is the ninth
-pub record CompletesTransfer (opcode : Opcode) (byte : ℕ) (old : ChipState) : Type 0 where
+pub record CompletesTransfer (byte : ℕ) (old : ChipState) : Type 0 where
   pub eight : old.count ≡ 8
-  pub whole : IsTransferOf opcode (completed byte old)
+  pub whole : IsTransferOf (completed byte old)
 
 -- heads move, after results of seeks were taken over
 abbrev pub still_moves : ChipState → Bool
@@ -93,9 +83,9 @@ pub record IsHeldFor (order : Order) (chip : ChipState) : Type 0 where
   pub order_is : chip.order ≡ order
 
 -- the command is held (first Bool), or it begins. The second Bool says whether a seek is implied for it
-abbrev pub BeginsUnless : Bool → Bool → Opcode → Order → ChipState → Type 0
-BeginsUnless true seeks opcode order new = IsHeldFor order new
-BeginsUnless false seeks opcode order new = IsBegun (transfer_sent seeks opcode order) new
+abbrev pub BeginsUnless : Bool → Bool → Order → ChipState → Type 0
+BeginsUnless true seeks order new = IsHeldFor order new
+BeginsUnless false seeks order new = IsBegun (transfer_sent seeks order) new
 
 -- a chip does a command while its inner controller is free. The Bool says whether the chip implies seeks
 pub record IsDoneFree (code : ChipOpcode) (order : Order) (seeks : Bool) (new : ChipState) : Type 0 where
@@ -104,3 +94,16 @@ pub record IsDoneFree (code : ChipOpcode) (order : Order) (seeks : Bool) (new : 
   pub implied : implies set ≡ seeks
   pub free : IsFreeBehind set.front
   pub obeys : Obeys code set new
+
+-- ---- the code of a command
+
+-- the code of a command with MFM that asks for this, without MT
+abbrev pub operation_code : Operation → ℕ
+operation_code (Read false skip) = if skip then 0x66 else 0x46
+operation_code (Read true skip) = if skip then 0x6C else 0x4C
+operation_code (Write false) = 0x45
+operation_code (Write true) = 0x49
+
+-- the code of a command with MFM that asks for this
+abbrev pub spelled_opcode : Opcode → ℕ
+spelled_opcode opcode = (if opcode.multitrack then 0x80 else 0) + operation_code opcode.operation

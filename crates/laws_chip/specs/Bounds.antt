@@ -6,7 +6,7 @@ use Rattle.fdc_commands.specs.declared.motion.Seek.{Seek as DriveSeek}
 use Rattle.fdc_commands.specs.declared.results.Results.{Results}
 use Rattle.fdc_core.specs.Ranges.{IsInRange}
 use Rattle.fdc_core.specs.State.{is_held}
-use Rattle.laws_sequencer.specs.Lasting.{HasByteNumbers}
+use Rattle.laws_chip.specs.SectorLasting.{HasByteNumbers}
 use Rattle.fdc_chip.specs.Chips.{ChipState, IsNewChip}
 use Rattle.fdc_chip.specs.Codes.{has_bit, has_multitrack}
 use Rattle.fdc_chip.specs.Doing.{sectors_to, verifying}

@@ -6,9 +6,9 @@ use Rattle.fdc_chip.specs.Ports.{GivesChip, ReadsChip, TakesChip, WritesChip, to
 use Rattle.fdc_chip.specs.Steps.{StepsChip}
 use Rattle.fdc_chip.specs.declared.stage.ChipStage.TheVariants.{Busy}
 use Rattle.fdc_chip.specs.declared.stage.ChipTask.TheVariants.{Sent}
-use Rattle.laws_sequencer.specs.Calls as behind
-use Rattle.laws_sequencer.specs.Lasting as lasting
-use Rattle.laws_sequencer.specs.Lasting.{is_under_way}
+use Rattle.laws_chip.specs.SectorCalls as behind
+use Rattle.laws_chip.specs.SectorLasting as lasting
+use Rattle.laws_chip.specs.SectorLasting.{is_under_way}
 
 -- one call, which does one of these things:
 -- - a device step passes;

@@ -5,18 +5,19 @@ use Rattle.drive_model.specs.Drive.{DriveState}
 use Rattle.fdc_stages.specs.Formats.{Numbers}
 use Rattle.fdc_stages.specs.History.{Past}
 use Rattle.fdc_phases.specs.Phases.{head_of}
+use Rattle.fdc_commands.specs.declared.command.Command.TheVariants.{FormatTrack}
 use Rattle.fdc_core.specs.Drives.Hearing.{Outset}
 use Rattle.fdc_core.specs.Drives.Writing.{HasMedium, start_in}
 use Rattle.fdc_core.specs.Tellings.{FormatTells, LaysTrack}
 use Rattle.fdc_core.specs.declared.controller.Fdc.{Fdc}
-use Rattle.fdc_adapter.specs.Adapters.{drive_at, selected_at}
-use Rattle.fdc_sequencer.specs.Fronts.{GivesFront}
+use Rattle.fdc_sequencer.specs.Adapters.{drive_at, selected_at}
+use Rattle.fdc_sequencer.specs.Fronts.{GivesCommand, GivesFront}
 use Rattle.fdc_chip.specs.Chips.{ChipState, passes_by_port}
 use Rattle.fdc_chip.specs.Doing.{Begins, is_size}
 use Rattle.fdc_chip.specs.declared.order.Order.{Order}
 use Rattle.fdc_chip.specs.declared.stage.ChipStage.{ChipStage}
 use Rattle.fdc_chip.specs.declared.stage.ChipTask.TheVariants.{Sent}
-use Rattle.laws_sequencer.specs.Serving.{passed_in}
+use Rattle.laws_chip.specs.Serving.{passed_in}
 use Rattle.laws_chip.specs.Beginning.{IsFreeBehind}
 use Rattle.laws_chip.specs.Calls as call
 use Rattle.laws_chip.specs.Calls.{Call}
@@ -32,7 +33,7 @@ pub record IsFormatBegun (unit : ℕ) (numbers : Numbers) (new : ChipState) : Ty
   pub sized : is_size numbers.n ≡ true
   pub set : ChipState
   pub free : IsFreeBehind set.front
-  pub begins : Begins Sent false (0x4D ∷ unit ∷ numbers.n ∷ numbers.sectors ∷ numbers.gap3 ∷ numbers.fill ∷ []) set new
+  pub begins : Begins Sent (GivesCommand (FormatTrack unit numbers.n numbers.sectors numbers.gap3 numbers.fill)) set new
 
 -- ---- ---- the bytes of the sector IDs
 

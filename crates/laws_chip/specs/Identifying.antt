@@ -1,13 +1,14 @@
 -- READ ID over a medium that stays in.
-use Rattle.std.specs.Prelude.{◌≡◌, ℕ, Bool, true, false, ◌==◌, List, [], ◌∷◌, bit_and}
+use Rattle.std.specs.Prelude.{◌≡◌, ℕ, Bool, true, ◌==◌, List, [], ◌∷◌, bit_and}
 use Rattle.drive_model.specs.Drive.{DriveState}
-use Rattle.fdc_adapter.specs.Adapters.{drive_at}
+use Rattle.fdc_sequencer.specs.Adapters.{drive_at}
+use Rattle.fdc_sequencer.specs.Fronts.{GivesCommand}
 use Rattle.fdc_chip.specs.Chips.{ChipState}
 use Rattle.fdc_chip.specs.Doing.{Begins, identifying}
 use Rattle.fdc_chip.specs.declared.order.Order.{Order}
 use Rattle.fdc_chip.specs.declared.stage.ChipStage.{ChipStage}
 use Rattle.fdc_chip.specs.declared.stage.ChipTask.TheVariants.{Sent}
-use Rattle.laws_sequencer.specs.Media.{IsAt, Place, TurnsOn}
+use Rattle.laws_chip.specs.Media.{IsAt, Place, TurnsOn}
 use Rattle.laws_chip.specs.Beginning.{IsFreeBehind}
 use Rattle.laws_chip.specs.Calls as call
 use Rattle.laws_chip.specs.Calls.{Call}
@@ -22,7 +23,7 @@ pub record IsIdBegun (unit : ℕ) (new : ChipState) : Type 0 where
   pub order : is_read_id new.order ≡ true
   pub set : ChipState
   pub free : IsFreeBehind set.front
-  pub begins : Begins Sent false (identifying unit) set new
+  pub begins : Begins Sent (GivesCommand (identifying unit)) set new
 
 -- the same medium turns on where another one is put in or taken out
 abbrev pub TurnsOnBy : Call → DriveState → DriveState → Type 0

@@ -1,6 +1,6 @@
 -- How long a command lasts, in device steps.
 use Rattle.std.specs.Prelude.{◌≡◌, ℕ, ◌+◌, ◌*◌, true, List, [], ◌∷◌}
-use Rattle.laws_sequencer.specs.Lasting.{is_under_way}
+use Rattle.laws_chip.specs.SectorLasting.{is_under_way}
 use Rattle.fdc_chip.specs.Chips.{ChipState}
 use Rattle.fdc_chip.specs.Doing.{sectors_of_track}
 use Rattle.fdc_chip.specs.declared.order.Order.{Order}

@@ -1,3 +1,9 @@
+pub mod Serving
+pub mod Outcomes
+pub mod SectorCalls
+pub mod Media
+pub mod SectorLasting
+pub mod Written
 pub mod Calls
 pub mod Told
 pub mod Beginning

@@ -6,7 +6,7 @@ use Rattle.fdc_commands.specs.declared.motion.Motion.TheVariants.{Outward, Towar
 use Rattle.fdc_phases.specs.declared.phases.Phase.TheVariants.{Command as Taking}
 use Rattle.fdc_core.specs.Ranges.{IsInRange}
 use Rattle.fdc_core.specs.State.{is_held}
-use Rattle.fdc_adapter.specs.Adapters.{lines_at}
+use Rattle.fdc_sequencer.specs.Adapters.{lines_at}
 use Rattle.fdc_sequencer.specs.Fronts.{Front}
 use Rattle.fdc_sequencer.specs.declared.stage.FrontStage.TheVariants.{Through}
 use Rattle.fdc_chip.specs.Chips.{ChipState}

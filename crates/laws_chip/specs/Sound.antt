@@ -11,8 +11,8 @@ use Rattle.fdc_sequencer.specs.Fronts.{Front}
 use Rattle.fdc_sequencer.specs.declared.stage.FrontStage.{FrontStage}
 use Rattle.fdc_sequencer.specs.declared.stage.FrontStage.TheVariants.{Through, Seeking}
 use Rattle.fdc_sequencer.specs.declared.transfer.Transfer.{Transfer}
-use Rattle.laws_sequencer.specs.Lasting.{is_under_way}
-use Rattle.laws_sequencer.specs.Serving.{History, Serves}
+use Rattle.laws_chip.specs.SectorLasting.{is_under_way}
+use Rattle.laws_chip.specs.Serving.{History, Serves}
 use Rattle.fdc_chip.specs.Chips.{ChipState}
 use Rattle.fdc_chip.specs.declared.stage.Place.{Place}
 use Rattle.fdc_chip.specs.declared.stage.Place.TheVariants.{Address}

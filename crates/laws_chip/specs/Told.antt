@@ -3,10 +3,10 @@ use Rattle.std.specs.Prelude.{◌≡◌, ◌⊎◌, ℕ, true}
 use Rattle.std.specs.Int.RustNames.{bit_or}
 use Rattle.fdc_registers.specs.St2.{wrong_cylinder, bad_cylinder}
 use Rattle.fdc_commands.specs.declared.results.Results.{Results}
-use Rattle.fdc_sequencer.specs.Fronts.{Front}
+use Rattle.fdc_sequencer.specs.Fronts.{Front, GivesCommand, results_taken}
 use Rattle.fdc_chip.specs.Chips.{ChipState}
-use Rattle.fdc_chip.specs.Doing.{Sends, identifying}
-use Rattle.fdc_chip.specs.Ending.{results_taken, unit_of}
+use Rattle.fdc_chip.specs.Doing.{identifying}
+use Rattle.fdc_chip.specs.Ending.{unit_of}
 use Rattle.fdc_chip.specs.declared.answer.ChipAnswer.TheVariants as answer
 use Rattle.fdc_chip.specs.declared.stage.ChipStage.TheVariants.{Busy, Telling}
 use Rattle.fdc_chip.specs.declared.stage.ChipTask.{ChipTask}
@@ -17,10 +17,10 @@ pub record Tells (results : Results) (chip : ChipState) : Type 0 where
   pub stage : chip.stage ≡ Telling (answer.Results results) 0
   pub line : chip.interrupts.line ≡ true
 
--- once the chip has read these results from the front, READ ID looks which cylinder passes
+-- once the chip has taken these results from the front, READ ID looks which cylinder passes
 pub record LooksFor (results : Results) (told : Front) (new : ChipState) : Type 0 where
   pub stage : new.stage ≡ Busy (Sought results)
-  pub sends : Sends (identifying (unit_of results)) (results_taken told) new.front
+  pub gives : GivesCommand (identifying (unit_of results)) (results_taken told) new.front
 
 -- WC, or WC and BC, or neither
 abbrev pub AreOfCylinder : ℕ → Type 0

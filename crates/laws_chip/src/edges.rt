@@ -1,9 +1,9 @@
 // INT from call to call: whoever looks at INT after each call sees each edge. A run of device steps stops at the first
 // edge. The bodies are empty: the contracts say what follows from what each call does.
-ghost use Rattle.std.specs.Prelude.{◌≡◌, ℕ, Bool, true, false, Some, List};
+ghost use Rattle.std.specs.Prelude.{◌≡◌, ℕ, true, false, Some};
 ghost use Rattle.fdc_commands.specs.declared.results.Results.{Results};
-ghost use Rattle.fdc_chip.specs.Chips.{ChipState, interrupts_chip};
-ghost use Rattle.fdc_chip.specs.Doing.{Begins, sensing};
+ghost use Rattle.fdc_chip.specs.Chips.{ChipState, KeepsRest, interrupts_chip};
+ghost use Rattle.fdc_chip.specs.Doing.{Opens, sensing};
 ghost use Rattle.fdc_chip.specs.Interrupts.{sensed};
 ghost use Rattle.fdc_chip.specs.Ports.{ReadsChip, byte_told, told_chip};
 ghost use Rattle.fdc_chip.specs.Settings.{is_by_port};
@@ -25,10 +25,10 @@ pub fn a_read_raises_int_with_an_answer()
 {}
 
 /// After each call that takes an interrupt INT is down: the first result byte of a data command is read; SENSE
-/// INTERRUPT finds a result; with DMA, a data command begins. So INT can't have risen again unseen.
+/// INTERRUPT finds a result; with DMA, a data command begins, whatever the inner controller is given for it. So INT can't
+/// have risen again unseen.
 pub fn a_taken_interrupt_is_seen()
     ensures results { (results : Results) (old : ChipState) → interrupts_chip (byte_told (answer.Results results) 0 old) ≡ false }
     ensures sense { (status cylinder : ℕ) (old : ChipState) → sensed old.interrupts ≡ Some (status, cylinder) → interrupts_chip (sensing old) ≡ false }
-    ensures begins { (task : ChipTask) (seeks : Bool) (bytes : List ℕ) (old new : ChipState) → is_by_port old.settings ≡ false → Begins task seeks bytes old new
-        → interrupts_chip new ≡ false }
+    ensures begins { (task : ChipTask) (old set new : ChipState) → is_by_port old.settings ≡ false → Opens task old set → KeepsRest set new → interrupts_chip new ≡ false }
 {}

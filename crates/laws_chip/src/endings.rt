@@ -1,17 +1,15 @@
 // How long a command lasts. `ranges` says of a chip at each time what is assumed of numbers here. The bodies are empty:
 // the contracts say what follows from what each call does.
-ghost use Rattle.std.specs.Prelude.{◌≡◌, ◌<◌, ℕ, true, Some, List};
+ghost use Rattle.std.specs.Prelude.{◌≡◌, ◌<◌, true, List};
 ghost use Rattle.fdc_core.specs.Ranges.{IsInRange};
-ghost use Rattle.fdc_sequencer.specs.Opcodes.{opcode_of};
-ghost use Rattle.fdc_sequencer.specs.declared.opcode.Opcode.{Opcode};
 ghost use Rattle.fdc_sequencer.specs.declared.transfer.Transfer.{Transfer};
-ghost use Rattle.laws_sequencer.specs.Lasting.{HasByteNumbers, most_steps};
+ghost use Rattle.laws_chip.specs.SectorLasting.{HasByteNumbers, most_steps};
 ghost use Rattle.fdc_chip.specs.Chips.{ChipState};
-ghost use Rattle.fdc_chip.specs.Doing.{Obeys, implies, is_size, verifying};
+ghost use Rattle.fdc_chip.specs.Doing.{Obeys, implies, is_size, transfer_sent, verifying};
 ghost use Rattle.fdc_chip.specs.declared.code.ChipOpcode.TheVariants.{ReadTrack, Verify as VerifyCode};
 ghost use Rattle.fdc_chip.specs.declared.stage.ChipStage.TheVariants.{Busy};
 ghost use Rattle.fdc_chip.specs.declared.stage.ChipTask.{ChipTask};
-ghost use Rattle.laws_chip.specs.Beginning.{BeginsBehind, IsBegun, IsFreeBehind, transfer_sent};
+ghost use Rattle.laws_chip.specs.Beginning.{BeginsBehind, IsBegun, IsFreeBehind};
 ghost use Rattle.laws_chip.specs.Calls.{AreServed, Call, steps_in};
 ghost use Rattle.laws_chip.specs.Lasting.{AreAt, AreTracked, AreVerified, IsVerifying, most_track_steps};
 ghost use Rattle.laws_chip.specs.Sound.{ExecutesBehind, IsSound};
@@ -30,9 +28,9 @@ pub fn each_command_ends()
 /// A VERIFY that this medium can have begins in the sequencer as the READ DATA of its sectors, if the inner controller
 /// is free. It ends as soon as such a READ DATA.
 pub fn a_verify_ends()
-    ensures begins { (opcode : Opcode) (old new : ChipState) → opcode_of (verifying old.order).code ≡ Some opcode → is_size old.order.key.n ≡ true → IsFreeBehind old.front
-        → Obeys (VerifyCode true) old new → BeginsBehind (transfer_sent (implies old) opcode (verifying old.order)) new.front }
-    ensures verifies { (opcode : Opcode) (old new : ChipState) → opcode_of (verifying old.order).code ≡ Some opcode → is_size old.order.key.n ≡ true → IsFreeBehind old.front
+    ensures begins { (old new : ChipState) → is_size old.order.key.n ≡ true → IsFreeBehind old.front
+        → Obeys (VerifyCode true) old new → BeginsBehind (transfer_sent (implies old) (verifying old.order)) new.front }
+    ensures verifies { (old new : ChipState) → is_size old.order.key.n ≡ true → IsFreeBehind old.front
         → Obeys (VerifyCode true) old new → IsVerifying new }
     ensures within { (first : Transfer) (calls : List Call) (begun new : ChipState) → BeginsBehind first begun.front → IsVerifying begun → HasByteNumbers begun.front.stage
         → IsInRange begun.front.adapter.controller → AreVerified calls begun new → steps_in calls < most_steps first }

@@ -3,7 +3,7 @@
 ghost use Rattle.std.specs.Prelude.{◌≡◌, ℕ, true, List};
 ghost use Rattle.fdc_stages.specs.Formats.{Numbers};
 ghost use Rattle.fdc_core.specs.Drives.Hearing.{Outset};
-ghost use Rattle.fdc_adapter.specs.Adapters.{drive_at};
+ghost use Rattle.fdc_sequencer.specs.Adapters.{drive_at};
 ghost use Rattle.fdc_chip.specs.Chips.{ChipState};
 ghost use Rattle.fdc_chip.specs.Doing.{Obeys, is_size};
 ghost use Rattle.fdc_chip.specs.Steps.{StepsChip};

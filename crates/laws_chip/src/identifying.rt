@@ -10,7 +10,7 @@ ghost use Rattle.fdc_chip.specs.Steps.{StepsChip};
 ghost use Rattle.fdc_chip.specs.declared.code.ChipOpcode.TheVariants.{ReadId};
 ghost use Rattle.fdc_chip.specs.declared.stage.ChipStage.TheVariants.{Busy};
 ghost use Rattle.fdc_chip.specs.declared.stage.ChipTask.TheVariants.{Sent};
-ghost use Rattle.laws_sequencer.specs.Media.{Place, track_at};
+ghost use Rattle.laws_chip.specs.Media.{Place, track_at};
 ghost use Rattle.laws_chip.specs.Beginning.{IsFreeBehind};
 ghost use Rattle.laws_chip.specs.Calls.{Call};
 ghost use Rattle.laws_chip.specs.Identifying.{IsIdBegun, StaysUnder};

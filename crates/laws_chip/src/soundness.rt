@@ -1,7 +1,6 @@
 // What is true of a chip at each time. The bodies are empty: the contracts say what follows from what each call does.
 ghost use Rattle.std.specs.Prelude.{◌≡◌, ◌<◌, ℕ, true, false, Some, List};
 ghost use Rattle.drive_model.specs.Drive.{DriveState};
-ghost use Rattle.fdc_sequencer.specs.declared.opcode.Opcode.{Opcode};
 ghost use Rattle.fdc_chip.specs.Chips.{ChipState, IsNewChip, with_front};
 ghost use Rattle.fdc_chip.specs.Codes.{code_of};
 ghost use Rattle.fdc_chip.specs.Doing.{implies, needs_heads};
@@ -41,12 +40,12 @@ pub fn what_stands_behind_is_free()
 /// A command of sectors that this medium can have begins with its ninth byte. If heads move then, the command is held,
 /// through all calls except a reset, up to the device step in which they stand. It begins in that step.
 pub fn a_whole_transfer_begins()
-    ensures comes { (opcode : Opcode) (byte : ℕ) (old new : ChipState) → IsSound old → byte < 256 → CompletesTransfer opcode byte old
-        → WritesChip 0x3F5 byte old new → BeginsUnless (still_moves old) (implies old) opcode (completed byte old) new }
+    ensures comes { (byte : ℕ) (old new : ChipState) → IsSound old → byte < 256 → CompletesTransfer byte old
+        → WritesChip 0x3F5 byte old new → BeginsUnless (still_moves old) (implies old) (completed byte old) new }
     ensures held { (order : Order) (made : Call) (old new : ChipState) → IsHeldFor order old → Does made old new → is_step made ≡ false → is_reset made ≡ false
         → IsHeldFor order new }
-    ensures released { (opcode : Opcode) (order : Order) (old new : ChipState) (step : StepsChip old new) → IsSound old → IsHeldFor order old → IsTransferOf opcode order
-        → (paced : ChipState) × Paces old.pace (with_front step.between old) paced × BeginsUnless (still_moves paced) (implies old) opcode order new }
+    ensures released { (order : Order) (old new : ChipState) (step : StepsChip old new) → IsSound old → IsHeldFor order old → IsTransferOf order
+        → (paced : ChipState) × Paces old.pace (with_front step.between old) paced × BeginsUnless (still_moves paced) (implies old) order new }
 {}
 
 /// A chip that is busy stays busy until it gives results, and INT with them, or until it is reset.

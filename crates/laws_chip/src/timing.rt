@@ -20,5 +20,5 @@ pub fn a_host_in_time_gets_no_overrun()
     ensures channel { (chip : ChipState) → passes_by_channel chip ≡ true → asks_chip chip ≡ asks_outside chip.front }
     ensures port { (chip : ChipState) → passes_by_port chip ≡ true → chip.gated ≡ true → interrupts_chip chip ≡ asks_outside chip.front }
     ensures calm { (first : Transfer) (calls : List Call) (begun last new : ChipState) (step : StepsChip last new) (results : Results) → IsSound begun → IsBegun first begun
-        → AreInTime calls begun last → IsPrompt last → step.between.stage ≡ behind.Telling results 0 → bit_and results.st1.0 overrun ≡ 0 }
+        → AreInTime calls begun last → IsPrompt last → step.between.stage ≡ behind.Telling results → bit_and results.st1.0 overrun ≡ 0 }
 {}

@@ -1,31 +1,29 @@
 // A command of several sectors, from its last byte to what the host reads. The bodies are empty: the contracts say what
 // follows from what each call does.
-ghost use Rattle.std.specs.Prelude.{◌≡◌, ◌<◌, ℕ, true, false, IsSome, Some, List};
+ghost use Rattle.std.specs.Prelude.{◌≡◌, ◌<◌, ℕ, true, false, Some, List};
 ghost use Rattle.fdc_commands.specs.declared.results.Results.{Results};
 ghost use Rattle.fdc_sequencer.specs.Opcodes.{opcode_of};
-ghost use Rattle.fdc_sequencer.specs.declared.opcode.Opcode.{Opcode};
 ghost use Rattle.fdc_sequencer.specs.declared.stage.FrontStage.TheVariants as behind;
 ghost use Rattle.fdc_sequencer.specs.declared.transfer.Transfer.{Transfer};
-ghost use Rattle.laws_sequencer.specs.Lasting.{is_under_way};
+ghost use Rattle.laws_chip.specs.SectorLasting.{is_under_way};
 ghost use Rattle.fdc_chip.specs.Chips.{ChipState, with_front, interrupts_chip, asks_chip};
 ghost use Rattle.fdc_chip.specs.Codes.{code_of};
-ghost use Rattle.fdc_chip.specs.Doing.{Obeys, implies, is_size};
+ghost use Rattle.fdc_chip.specs.Doing.{Obeys, implies, is_size, transfer_sent};
 ghost use Rattle.fdc_chip.specs.Ending.{looks_for_cylinder};
 ghost use Rattle.fdc_chip.specs.Steps.{StepsChip};
 ghost use Rattle.fdc_chip.specs.declared.code.ChipOpcode.TheVariants.{Transfer as TransferCode};
 ghost use Rattle.fdc_chip.specs.declared.stage.ChipStage.TheVariants.{Busy};
 ghost use Rattle.fdc_chip.specs.declared.stage.ChipTask.TheVariants.{Sent, Sought};
-ghost use Rattle.laws_chip.specs.Beginning.{IsBegun, IsFreeBehind, IsServed, transfer_sent};
+ghost use Rattle.laws_chip.specs.Beginning.{IsBegun, IsFreeBehind, IsServed, spelled_opcode};
 ghost use Rattle.laws_chip.specs.Calls.{AreServed, ArePassedOn, Call, Does, IsPassedOn, IsServing, is_reset, is_step};
 ghost use Rattle.laws_chip.specs.Told.{LooksFor, LooksOrTells, Tells};
 
-/// A command of sectors that this medium can have begins in the sequencer with its nine bytes, if the inner controller
-/// is free. It is served from then on, and nothing of it has passed yet. The code of each such command is one that the
-/// sequencer serves.
+/// A command of sectors that this medium can have begins in the sequencer, if the inner controller is free. It is served
+/// from then on, and nothing of it has passed yet. What the sequencer makes of its code spells this code again.
 pub fn a_transfer_is_begun()
-    ensures codes { (code : ℕ) → code < 256 → code_of code ≡ Some (TransferCode true) → IsSome (opcode_of code) }
-    ensures begins { (opcode : Opcode) (old new : ChipState) → opcode_of old.order.code ≡ Some opcode → is_size old.order.key.n ≡ true
-        → IsFreeBehind old.front → Obeys (TransferCode true) old new → IsBegun (transfer_sent (implies old) opcode old.order) new }
+    ensures codes { (code : ℕ) → code < 256 → code_of code ≡ Some (TransferCode true) → spelled_opcode (opcode_of code) ≡ code }
+    ensures begins { (old new : ChipState) → is_size old.order.key.n ≡ true → IsFreeBehind old.front → Obeys (TransferCode true) old new
+        → IsBegun (transfer_sent (implies old) old.order) new }
 {}
 
 /// While the command is under way each call of the chip is the sequencer's: a device step, each byte, by the channel or
@@ -45,9 +43,9 @@ pub fn a_served_chip_goes_on()
 /// error is ND and the command has a sector ID, READ ID first looks which cylinder passes. The chip gives the results
 /// once READ ID ended, with nothing but WC and BC added.
 pub fn what_the_sequencer_tells_is_told()
-    ensures told { (results : Results) (old new : ChipState) (step : StepsChip old new) → old.stage ≡ Busy Sent → step.between.stage ≡ behind.Telling results 0
+    ensures told { (results : Results) (old new : ChipState) (step : StepsChip old new) → old.stage ≡ Busy Sent → step.between.stage ≡ behind.Telling results
         → looks_for_cylinder old.order results ≡ false → Tells results new }
-    ensures looks { (results : Results) (old new : ChipState) (step : StepsChip old new) → old.stage ≡ Busy Sent → step.between.stage ≡ behind.Telling results 0
+    ensures looks { (results : Results) (old new : ChipState) (step : StepsChip old new) → old.stage ≡ Busy Sent → step.between.stage ≡ behind.Telling results
         → looks_for_cylinder old.order results ≡ true → LooksFor results step.between new }
     ensures cylinder { (first : Results) (old new : ChipState) → StepsChip old new → old.stage ≡ Busy (Sought first) → LooksOrTells first new }
     ensures interrupt { (results : Results) (chip : ChipState) → Tells results chip → interrupts_chip chip ≡ chip.gated }
@@ -58,5 +56,5 @@ pub fn what_the_sequencer_tells_is_told()
 /// in order. The results say of the sectors how the command ended.
 pub fn a_transfer_moves_its_sectors()
     ensures { (first : Transfer) (calls : List Call) (begun last new : ChipState) (served : AreServed calls begun last) (step : StepsChip last new) (results : Results)
-        → IsBegun first begun → step.between.stage ≡ behind.Telling results 0 → IsServed first calls begun last new served step results }
+        → IsBegun first begun → step.between.stage ≡ behind.Telling results → IsServed first calls begun last new served step results }
 {}

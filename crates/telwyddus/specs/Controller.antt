@@ -8,8 +8,8 @@ pub use Rattle.fdc_core.specs.Written
 pub use Rattle.fdc_core.specs.Drives.Lines
 pub use Rattle.fdc_core.specs.Drives.Following
 pub use Rattle.fdc_core.specs.Drives.WordTimes
-pub use Rattle.fdc_adapter.specs.Adapters
-pub use Rattle.fdc_adapter.specs.History
+pub use Rattle.fdc_sequencer.specs.Adapters
+pub use Rattle.fdc_sequencer.specs.History
 pub use Rattle.fdc_sequencer.specs.Fronts
 pub use Rattle.fdc_chip.specs.Chips
 pub use Rattle.fdc_chip.specs.Ports as ChipPorts

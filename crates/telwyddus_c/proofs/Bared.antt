@@ -7,7 +7,7 @@ use Rattle.flop_base.specs.declared.answers.Rate.{Rate}
 use Rattle.flop_base.specs.declared.answers.Rate.TheVariants.{R500, R250}
 use Rattle.raw_image.specs.Disk.{Disk}
 use Rattle.drive_model.specs.Drive.{same_length}
-use Rattle.fdc_adapter.specs.declared.adapter.DisketteAdapter.{DisketteAdapter}
+use Rattle.fdc_sequencer.specs.declared.adapter.DisketteAdapter.{DisketteAdapter}
 use Rattle.fdc_chip.specs.Chips.{chip_with_drive}
 use Rattle.fdc_chip.specs.declared.chip.Chip.{Chip}
 use Rattle.c_bay_drive.specs.Bays.{bay_state}

@@ -3,8 +3,8 @@ use Rattle.std.proofs.Common.{◌≡◌, ℕ, zero, suc, ◌+◌, ◌<◌, true,
 use Rattle.std.specs.Prelude.{slice_index, slice_set, Some, None}
 use Rattle.std.proofs.lemmas.Grind.{get_or-set_at}
 use Rattle.std.proofs.lemmas.List.{get_or-set_other, length-set}
-use Rattle.fdc_adapter.specs.Adapters.{SameDrives}
-use Rattle.fdc_adapter.specs.declared.adapter.DisketteAdapter.{DisketteAdapter}
+use Rattle.fdc_sequencer.specs.Adapters.{SameDrives}
+use Rattle.fdc_sequencer.specs.declared.adapter.DisketteAdapter.{DisketteAdapter}
 use Rattle.fdc_chip.specs.Chips.{ChipState}
 use Rattle.fdc_chip.specs.Ports.{TakesChip, GivesChip}
 use Rattle.telwyddus_c.specs.Blocks.{TakesFirst, TakesSome, TakesBlock, GivesFirst, GivesBlock}

@@ -7,9 +7,6 @@ keeps_twice a b c first second = record {
   front = record {
     controller = second.front.controller ∙ first.front.controller;
     stage = second.front.stage ∙ first.front.stage;
-    bytes = second.front.bytes ∙ first.front.bytes;
-    strapped = second.front.strapped ∙ first.front.strapped;
-    configured = second.front.configured ∙ first.front.configured;
   };
   rest = second.rest ∙ ap (with_front c.front) first.rest;
 }

@@ -46,9 +46,6 @@ planned_both plan old mid new plain first second =
             second = second.state ∙ replanned_new (held mid 1) plan.bay1 (ap bay_state first.beside.other ∙ plain.front.adapter.second);
           };
           stage = keeps.front.stage ∙ plain.front.stage;
-          bytes = keeps.front.bytes ∙ plain.front.bytes;
-          strapped = keeps.front.strapped ∙ plain.front.strapped;
-          configured = keeps.front.configured ∙ plain.front.configured;
         };
         stage = ap (λ (it : ChipState). it.stage) keeps.rest ∙ plain.stage;
         order = ap (λ (it : ChipState). it.order) keeps.rest ∙ plain.order;

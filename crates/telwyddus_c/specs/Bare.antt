@@ -14,9 +14,9 @@ use Rattle.telwyddus_c.specs.Buffers.{WritesBytes}
 use Rattle.telwyddus_c.specs.Drives.{held}
 use Rattle.telwyddus_c.specs.States.{behind, ControllerFits, HasBytes, HasNone}
 
--- what such a state begins with: the name TELWYDB, and the number of the form of what comes after it, 3
+-- what such a state begins with: the name TELWYDB, and the number of the form of what comes after it, 4
 abbrev pub bare_name : List ℕ
-bare_name = 0x54 ∷ 0x45 ∷ 0x4C ∷ 0x57 ∷ 0x59 ∷ 0x44 ∷ 0x42 ∷ 0x03 ∷ []
+bare_name = 0x54 ∷ 0x45 ∷ 0x4C ∷ 0x57 ∷ 0x59 ∷ 0x44 ∷ 0x42 ∷ 0x04 ∷ []
 
 -- the bytes of a controller that follow that name
 abbrev pub spelled_bare : ControllerValue → List ℕ → List ℕ

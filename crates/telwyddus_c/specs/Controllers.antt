@@ -4,7 +4,7 @@ use Rattle.c_bay_drive.specs.Bays.{bay_state, new_in_bay}
 use Rattle.c_slots.specs.Controllers.{ControllerValue}
 use Rattle.c_slots.specs.Trays.{TrayValue}
 use Rattle.drive_model.specs.Drive.{DriveState, forgotten}
-use Rattle.fdc_adapter.specs.Adapters.{SameDrives, drive_at, selected_at}
+use Rattle.fdc_sequencer.specs.Adapters.{SameDrives, drive_at, selected_at}
 use Rattle.fdc_chip.specs.Chips.{ChipState, chip_state, behind_of, IsNewChip, KeepsChip, interrupts_chip, asks_chip, indexes_chip}
 use Rattle.fdc_chip.specs.Ports.{TakesChip, GivesChip}
 use Rattle.fdc_core.specs.Dma.{to_memory_of}

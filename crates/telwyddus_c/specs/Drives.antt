@@ -8,7 +8,7 @@ use Rattle.drive_model.specs.Fault.{total_left}
 use Rattle.drive_model.specs.ScriptDrive.{told}
 use Rattle.drive_model.specs.declared.fault.Fault.{Fault}
 use Rattle.fault_plan.specs.Plan.{Plan, plan_spelled}
-use Rattle.fdc_adapter.specs.Adapters.{drive_held}
+use Rattle.fdc_sequencer.specs.Adapters.{drive_held}
 use Rattle.fdc_chip.specs.Chips.{behind_of, IsNewChip, KeepsChip}
 use Rattle.fdc_sequencer.specs.Fronts.{adapter_of}
 use Rattle.telwyddus_c.specs.Controllers.{drive_of, state_of}

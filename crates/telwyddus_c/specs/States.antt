@@ -11,9 +11,9 @@ use Rattle.saved_state.specs.declared.whole.RestoreError.{RestoreError}
 use Rattle.saved_state.specs.declared.whole.RestoreError.TheVariants.{NoState, NoMemory}
 use Rattle.telwyddus_c.specs.Buffers.{WritesOr}
 
--- what each state begins with: the name TELWYDD, and the number of the form of what comes after it, 3
+-- what each state begins with: the name TELWYDD, and the number of the form of what comes after it, 4
 abbrev pub state_name : List ℕ
-state_name = 0x54 ∷ 0x45 ∷ 0x4C ∷ 0x57 ∷ 0x59 ∷ 0x44 ∷ 0x44 ∷ 0x03 ∷ []
+state_name = 0x54 ∷ 0x45 ∷ 0x4C ∷ 0x57 ∷ 0x59 ∷ 0x44 ∷ 0x44 ∷ 0x04 ∷ []
 
 -- the bytes of a value, with a name in front of them
 abbrev pub behind : {V : Type 0} → (name : List ℕ) → (V → List ℕ → List ℕ) → V → List ℕ → List ℕ

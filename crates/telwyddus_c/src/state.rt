@@ -10,10 +10,10 @@ use saved_state::{RestoreError, SavedBytes, SavedWhole, Source};
 use std::alloc::Global;
 
 /// What each state begins with: a name, and the number of the form of the bytes that follow.
-const NAME: [u8; 8] = *b"TELWYDD\x03";
+const NAME: [u8; 8] = *b"TELWYDD\x04";
 
 /// What the state of a controller without its media begins with.
-pub(crate) const BARE: [u8; 8] = *b"TELWYDB\x03";
+pub(crate) const BARE: [u8; 8] = *b"TELWYDB\x04";
 
 /// The bytes of a state, with a name in front of them.
 pub(crate) fn save_behind<T: SavedWhole>(

@@ -14,24 +14,20 @@ pub fn pass_word_time<D: Drive>(controller: &mut Fdc, first: &mut D, second: &mu
         controller.new (D.state first.new) (D.state second.new) }
 {
     match controller.selected() {
-        0 => work(controller, first, second),
-        1 => work(controller, second, first),
+        0 => {
+            controller.step(first);
+            second.idle();
+        }
+        1 => {
+            controller.step(second);
+            first.idle();
+        }
         _ => {
             work_alone(controller);
             first.idle();
             second.idle();
         }
     }
-}
-
-/// The controller's device step with the selected drive, and the word time of the other one.
-#[inline(always)]
-fn work<D: Drive>(controller: &mut Fdc, drive: &mut D, other: &mut D)
-    ensures works { Works controller.old (D.state drive.old) controller.new (D.state drive.new) }
-    ensures passes { Passes (D.state other.old) (D.state other.new) }
-{
-    controller.step(drive);
-    other.idle();
 }
 
 /// The controller's device step where no drive is selected.

@@ -1,7 +1,7 @@
 -- How many bytes the whole controller has in a state, except for its drives.
 use Rattle.std.proofs.Common.{◌+◌, ◌≤◌, ℕ, List, length, arith}
-use Rattle.fdc_adapter.specs.Saving.{AdapterFits, spelled_adapter}
-use Rattle.fdc_adapter.specs.declared.adapter.DisketteAdapter.{DisketteAdapter}
+use Rattle.fdc_sequencer.specs.AdapterSaving.{AdapterFits, spelled_adapter}
+use Rattle.fdc_sequencer.specs.declared.adapter.DisketteAdapter.{DisketteAdapter}
 use Rattle.fdc_chip.specs.Interrupts.{AreFour, Interrupting}
 use Rattle.fdc_chip.specs.Saving as chips
 use Rattle.fdc_chip.specs.Saving.{ChipFits, spelled_answer, spelled_chip, spelled_interrupts, spelled_order, spelled_pace, spelled_place, spelled_registers, spelled_settings, spelled_task, spelled_track}
@@ -13,9 +13,9 @@ use Rattle.fdc_chip.specs.declared.stage.ChipTask.TheVariants as tasks
 use Rattle.fdc_sequencer.specs.Saving.{SequencerFits, spelled_moving, spelled_opcode, spelled_operation, spelled_sequencer, spelled_stage, spelled_transfer}
 use Rattle.fdc_sequencer.specs.declared.opcode.Operation.TheVariants.{Read, Write}
 use Rattle.fdc_sequencer.specs.declared.sequencer.Sequencer.{Sequencer}
-use Rattle.fdc_sequencer.specs.declared.stage.FrontStage.TheVariants.{Through, Collecting, Seeking, Moving, Telling}
-use Rattle.saved_state.specs.Saved.{spelled_bytes, spelled_byte, spelled_each, spelled_flag, spelled_option, spelled_word}
-use Rattle.telwyddus_c.proofs.Lengths.Bytes.{HasMost, length-byte, length-bytes, length-double, length-each, length-flag, length-key, length-word, most-byte, most-each, most-option}
+use Rattle.fdc_sequencer.specs.declared.stage.FrontStage.TheVariants.{Through, Seeking, Moving, Telling}
+use Rattle.saved_state.specs.Saved.{spelled_byte, spelled_each, spelled_flag, spelled_option, spelled_word}
+use Rattle.telwyddus_c.proofs.Lengths.Bytes.{HasMost, length-byte, length-double, length-each, length-flag, length-key, length-word, most-byte, most-each, most-option}
 use Rattle.telwyddus_c.proofs.Lengths.Fdcs.{most-fdc, most-results}
 
 -- a drive has at most so many bytes
@@ -52,25 +52,19 @@ most-moving moving rest = omega (arith, most-transfer, length-word, length-flag)
 most-front_stage : HasMost spelled_stage 19
 unfolding spelled_stage
 most-front_stage Through rest = omega arith
-most-front_stage (Collecting opcode) rest = omega (arith, most-opcode)
 most-front_stage (Seeking transfer counted) rest = omega (arith, most-transfer, length-flag)
 most-front_stage (Moving moving) rest = omega (arith, most-moving)
-most-front_stage (Telling results read) rest = omega (arith, most-results, length-byte)
+most-front_stage (Telling results) rest = omega (arith, most-results)
 
 most-sequencer : {D : Type 0} (spelled : D → List ℕ → List ℕ) (fits : D → Type 0) (sequencer : Sequencer D) (first second : ℕ) (rest : List ℕ)
     → SequencerFits fits sequencer → IsWithin spelled sequencer.adapter.first first → IsWithin spelled sequencer.adapter.second second
-    → length (spelled_sequencer spelled sequencer rest) ≤ 153 + first + second + length rest
+    → length (spelled_sequencer spelled sequencer rest) ≤ 135 + first + second + length rest
 unfolding spelled_sequencer
 most-sequencer spelled fits sequencer first second rest is one two =
-    let last = spelled_flag sequencer.strapped (spelled_flag sequencer.configured rest) in
-    let bytes = spelled_bytes sequencer.bytes last in
     omega (
       arith,
-      most-adapter spelled fits sequencer.adapter first second (spelled_stage sequencer.stage bytes) is.0 one two,
-      most-front_stage sequencer.stage bytes,
-      length-bytes sequencer.bytes last,
-      is.1,
-      length-flag,
+      most-adapter spelled fits sequencer.adapter first second (spelled_stage sequencer.stage rest) is one two,
+      most-front_stage sequencer.stage rest,
     )
 
 -- ---- the chip
@@ -140,7 +134,7 @@ most-stage (stages.Telling answer read) rest = omega (arith, most-answer, length
 pub most-chip : {D : Type 0} (spelled : D → List ℕ → List ℕ) (fits : D → Type 0) (chip : Chip D) (first second : ℕ) (rest : List ℕ)
     → ChipFits fits chip → ((left : List ℕ) → length (spelled chip.behind.adapter.first left) ≤ first + length left)
     → ((left : List ℕ) → length (spelled chip.behind.adapter.second left) ≤ second + length left)
-    → length (spelled_chip spelled chip rest) ≤ 214 + first + second + length rest
+    → length (spelled_chip spelled chip rest) ≤ 196 + first + second + length rest
 unfolding spelled_chip
 most-chip spelled fits chip first second rest is one two =
     let paced = spelled_flag chip.paced (spelled_byte chip.tape rest) in

@@ -89,7 +89,7 @@ most-controller controller fits =
     let second = 67 + medium_most + 10 * length (faults_in_bay adapter.second) in
     omega (
       arith,
-      most-chip spelled_bay BayFits controller first second [] fits (λ left. most-bay adapter.first left fits.0.0.1) (λ left. most-bay adapter.second left fits.0.0.2),
+      most-chip spelled_bay BayFits controller first second [] fits (λ left. most-bay adapter.first left fits.0.1) (λ left. most-bay adapter.second left fits.0.2),
     )
 
 told_by : (done short : Bool) (X Y other : Type 0) (told most : ℕ) → MatchBool done X (MatchBool short Y other)

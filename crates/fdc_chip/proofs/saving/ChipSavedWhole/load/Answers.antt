@@ -7,7 +7,7 @@ pub returns : goal.returns
 unfolding spelled_chip
 returns g c = record {
   gives = λ value rest fits left.
-      let kind = c.byte-kind.ensures.gives 71 _ left in
+      let kind = c.byte-kind.ensures.gives 72 _ left in
       let behind = c.in_ok-behind.ensures.gives value.behind _ fits.0 kind.1 in
       let stage = c.load-stage.ensures.gives value.stage _ tt behind.1 in
       let order = c.load-order.ensures.gives value.order _ tt stage.1 in

@@ -1,5 +1,5 @@
 use Rattle.std.proofs.Common.{false, ap, ◌∙◌}
-use Rattle.fdc_adapter.specs.Adapters.{adapter_state}
+use Rattle.fdc_sequencer.specs.Adapters.{adapter_state}
 use Rattle.fdc_sequencer.specs.Fronts.{front_state, moving_of}
 use Rattle.fdc_sequencer.specs.declared.stage.FrontStage.TheVariants.{Moving}
 use Rattle.fdc_sequencer.specs.declared.transfer.Transfer.{Transfer}

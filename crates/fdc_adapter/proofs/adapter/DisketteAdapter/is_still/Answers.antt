@@ -1,5 +1,0 @@
-use Rattle.fdc_adapter.proofs.Standing.{stands}
-use Rattle.fdc_adapter.proofs.adapter.DisketteAdapter.is_still.Goals as goal
-
-pub returns-clause-still : goal.returns-clause-still
-returns-clause-still g c = λ is. stands c.args.self.now.controller (c.is_still.ensures.still is)

@@ -1,0 +1,202 @@
+-- Device steps in a row that surely change neither line.
+use Rattle.std.proofs.Common.{◌≡◌, ◌≤◌, ◌<◌, ◌+◌, ℕ, zero, suc, true, false, List, [], ◌∷◌, ◌++◌, length, take, Some, refl, sym, ap, subst, ◌∙◌, arith}
+use Rattle.std.proofs.lemmas.Bool.{false≢true}
+use Rattle.std.proofs.lemmas.List.{append_assoc}
+use Rattle.flop_base.specs.Counts.{CanTell}
+use Rattle.drive_model.specs.Ahead.{AreAhead}
+use Rattle.drive_model.specs.Drive.{DriveState, Becomes, InRange, at_index, is_protected, rate_of, word_under}
+use Rattle.track_separator.specs.Parts.{with_word}
+use Rattle.fdc_stages.specs.History.{Past, heard}
+use Rattle.fdc_stages.specs.Writings.{is_due, needs_byte, opens}
+use Rattle.fdc_stages.specs.declared.ending.Ending.{Ending}
+use Rattle.fdc_stages.specs.declared.ending.Ending.TheVariants.{Done, NoMark, NoSector, NoField, BadCheck, Overrun, NoCount, Protected, Late}
+use Rattle.fdc_phases.specs.Phases.{head_of, is_listening}
+use Rattle.fdc_phases.specs.Rates.{rate_fits}
+use Rattle.fdc_phases.specs.declared.phases.Phase.TheVariants.{Execute}
+use Rattle.fdc_phases.specs.declared.phases.Task.{Task}
+use Rattle.fdc_phases.specs.declared.phases.Task.TheVariants.{Write}
+use Rattle.fdc_phases.specs.declared.rates.DataRate.{DataRate}
+use Rattle.fdc_phases.specs.declared.transfers.Writing.{Writing}
+use Rattle.fdc_core.specs.Courses.{HoldsLines, Works}
+use Rattle.fdc_core.specs.Listening.{ExecutesIn, Listens, SeesTask, SeesWord, StepsOn, ExecutesTask}
+use Rattle.fdc_core.specs.Quiet.{Foresees, IsQuietBy, WorksBy}
+use Rattle.fdc_core.specs.Steps.{MovesDrive, MovesIn, MovesTask, let_pass, polled}
+use Rattle.fdc_core.specs.Times.{IsTime, KeptOut, Saw, Stopped, WordTime, Wrote}
+use Rattle.fdc_core.specs.Writes.{WritesIn, WritesOn}
+use Rattle.fdc_core.specs.Writing.{HearsWord, Stops, StopsWriting, WriteDoes, byte_taken}
+use Rattle.fdc_core.specs.declared.controller.Fdc.{Fdc}
+use Rattle.fdc_core.proofs.Coursing.{ahead_first, none_comes, unpolled}
+use Rattle.fdc_core.proofs.Quieting.{HasNoFaults, ahead_after, fits_after, passes_calm, sees_ahead, some_none}
+
+-- ---- one device step
+
+-- a command that listens hears the word that is ahead
+pub record HearsAhead (was new : Fdc) (before after : DriveState) (head_drive steps word : ℕ) (task : Task) : Type 0 where
+  pub passes : Becomes (let_pass before) before after
+  pub does : StepsOn head_drive steps task false word was new
+
+module _ (was new : Fdc) (before after : DriveState) (head_drive steps word : ℕ) (task : Task) (due : was.poll_due ≡ false) (at : was.phase ≡ Execute (record { head_drive = head_drive; steps = steps; task = task })) (listens : is_listening task ≡ true)
+    (no_index : at_index before ≡ false) (under : word_under before (head_of head_drive) ≡ word) (calm : HasNoFaults before) (fits : rate_fits was.rate (rate_of before.medium) ≡ true) (works : Works was before new after) where
+  pub hears_ahead : HearsAhead was new before after head_drive steps word task
+  hears_ahead =
+      let unpoll : polled was ≡ was = unpolled was (none_comes was due) in
+      let moves : MovesDrive was before after = subst (λ polls. MovesDrive polls before after) unpoll works.drive in
+      let passes : MovesTask true before after = subst (λ listens. MovesTask listens before after) listens (subst (λ phase. MovesIn phase was before after) at moves) in
+      let hears : Listens was (at_index before) was before after new = subst (λ polls. Listens polls (at_index before) was before after new) unpoll works.reads in
+      let sees : SeesTask true (head_of head_drive) was.rate before hears.word after =
+      subst (λ listens. SeesTask listens (head_of head_drive) was.rate before hears.word after) listens (subst (λ phase. SeesWord phase was.rate before hears.word after) at hears.sees) in
+      let does : ExecutesTask true head_drive steps task (at_index before) hears.word was new =
+      subst (λ listens. ExecutesTask listens head_drive steps task (at_index before) hears.word was new) listens (subst (λ phase. ExecutesIn phase (at_index before) hears.word was new) at hears.follows.executes) in
+      let same : hears.word ≡ word = sees_ahead before after passes calm was.rate (head_of head_drive) hears.word fits sees ∙ under in
+      record {
+        passes = passes;
+        does = subst (λ index. StepsOn head_drive steps task index word was new) no_index (subst (λ w. StepsOn head_drive steps task (at_index before) w was new) same does);
+      }
+
+-- a write in its search hears the word that is ahead
+pub record HearsToWriteAhead (was new : Fdc) (before after : DriveState) (head_drive steps word : ℕ) (writing : Writing) : Type 0 where
+  pub passes : Becomes (let_pass before) before after
+  pub does : HearsWord head_drive steps writing false word was new
+
+no_stop : (head_drive steps : ℕ) (writing : Writing) (old : Fdc) (before : DriveState) (new : Fdc) → 1 ≤ steps → steps < 65535 → needs_byte writing.stage ≡ false → StopsWriting head_drive steps writing old before new → ⊥
+no_stop head_drive steps writing old before new some few needs is =
+    none_stops is.ending (subst (λ needs. Stops steps (is_protected before.medium) (byte_taken needs writing.counted old.fifo) is.ending) needs is.stops)
+  where
+    none_stops : (ending : Ending) → Stops steps (is_protected before.medium) (Some 0) ending → ⊥
+    none_stops Late stops = omega (arith, stops, few)
+    none_stops Protected stops = omega (arith, stops.0, some)
+    none_stops Overrun stops = some_none stops.1
+    none_stops (Done deleted) stops = stops
+    none_stops NoMark stops = stops
+    none_stops NoSector stops = stops
+    none_stops NoField stops = stops
+    none_stops BadCheck stops = stops
+    none_stops NoCount stops = stops
+
+module _ (was new : Fdc) (before after : DriveState) (head_drive steps word : ℕ) (writing : Writing) (due : was.poll_due ≡ false) (at : was.phase ≡ Execute (record { head_drive = head_drive; steps = steps; task = Write writing })) (some : 1 ≤ steps) (few : steps < 65535) (closed : is_due writing.stage ≡ false) (shut : opens writing.stage ≡ false) (needs : needs_byte writing.stage ≡ false)
+    (no_index : at_index before ≡ false) (under : word_under before (head_of head_drive) ≡ word) (calm : HasNoFaults before) (fits : rate_fits was.rate (rate_of before.medium) ≡ true) (works : Works was before new after) where
+  by_time : (time : WordTime) → IsTime time was.rate (head_of head_drive) before after → WriteDoes time head_drive steps writing was before new → HearsToWriteAhead was new before after head_drive steps word writing
+  by_time (Saw index raw) is does =
+      let same : raw ≡ word = sees_ahead before after is.passes calm was.rate (head_of head_drive) raw fits is.sees ∙ under in
+      record {
+        passes = is.passes;
+        does = subst (λ index. HearsWord head_drive steps writing index word was new) (is.index_is ∙ no_index) (subst (λ w. HearsWord head_drive steps writing index w was new) same does.1);
+      }
+  by_time (KeptOut index raw) is does = absurd (false≢true (sym shut ∙ does.0))
+  by_time (Wrote opened closes index raw) is does = absurd (false≢true (sym closed ∙ does.due))
+  by_time Stopped is does = absurd (no_stop head_drive steps writing was before new some few needs does)
+
+  pub writes_ahead : HearsToWriteAhead was new before after head_drive steps word writing
+  writes_ahead =
+      let unpoll : polled was ≡ was = unpolled was (none_comes was due) in
+      let on : WritesOn was was before after new = subst (λ polls. WritesOn polls was before after new) unpoll works.writes in
+      let step : WritesIn (Execute (record { head_drive = head_drive; steps = steps; task = Write writing })) was.asking was.fifo was before after new =
+      subst (λ phase. WritesIn phase was.asking was.fifo was before after new) at on in
+      by_time step.step.does.time step.step.does.is step.step.does.does
+
+-- ---- device steps in a row
+
+-- what goes on stands at `next` after a device step
+pub record GoesOnWith {S : Type 0} (at : S → Fdc) (Is : Past → S → Type 0) (past : Past) (new : Fdc) : Type 0 where
+  pub next : S
+  pub is : new ≡ at next
+  pub stands : Is past next
+
+-- each device step takes a command one step on. `Is` says what goes on in it after what was heard, where so many words
+-- are left, and `May` what the words of the revolution are
+abbrev pub EachGoesOnWith : {S : Type 0} (at : ℕ → S → Fdc) (Is : ℕ → Past → S → Type 0) (May : List ℕ → Type 0) (least head : ℕ) (rate : DataRate) → Type 0
+EachGoesOnWith {S = S} at Is May least head rate =
+    (steps word left : ℕ) (now : S) (past : Past) (new : Fdc) (before after : DriveState) → least ≤ steps → steps < 65535 → Is (suc left) past now → May (with_word past.seen word)
+    → at_index before ≡ false → word_under before head ≡ word → HasNoFaults before → rate_fits rate (rate_of before.medium) ≡ true → Works (at steps now) before new after
+    → Becomes (let_pass before) before after × GoesOnWith (at (steps + 1)) (Is left) (heard false word past) new
+
+-- so many device steps after the command stood at `steps`. These words are still ahead
+pub record IsAfterSteps {S : Type 0} (at : ℕ → S → Fdc) (Is : ℕ → Past → S → Type 0) (head : ℕ) (rate : DataRate) (steps count : ℕ) (rest whole : List ℕ) (new : Fdc) (after : DriveState) : Type 0 where
+  pub now : S
+  pub past : Past
+  pub is : new ≡ at (steps + count) now
+  pub stands : Is (length rest) past now
+  pub whole_is : past.seen ++ rest ≡ whole
+  pub ahead : AreAhead head rest after
+  pub calm : HasNoFaults after
+  pub fits : rate_fits rate (rate_of after.medium) ≡ true
+
+-- `May` holds of the first of the words too
+abbrev pub HoldsOfFirst : (May : List ℕ → Type 0) → Type 0
+HoldsOfFirst May = (first rest whole : List ℕ) → first ++ rest ≡ whole → May whole → May first
+
+module _ (S : Type 0) (at : ℕ → S → Fdc) (Is : ℕ → Past → S → Type 0) (May : List ℕ → Type 0) (least head : ℕ) (rate : DataRate) (each : EachGoesOnWith at Is May least head rate) (of_first : HoldsOfFirst May) (steps : ℕ) (later : least ≤ steps) (whole : List ℕ) (may : May whole) where
+  -- one step more
+  one_more : (count word : ℕ) (rest : List ℕ) (mid new : Fdc) (between after : DriveState) → steps + count < 65535 → IsAfterSteps at Is head rate steps count (word ∷ rest) whole mid between → Works mid between new after → IsAfterSteps at Is head rate steps (suc count) rest whole new after
+  unfolding AreAhead
+  one_more count word rest mid new between after few was works =
+      let (under, no_index, ahead) = was.ahead in
+      let reach : with_word was.past.seen word ++ rest ≡ whole = append_assoc was.past.seen (word ∷ []) rest ∙ was.whole_is in
+      let (passes, on) = each (steps + count) word (length rest) was.now was.past new between after (omega (arith, later)) few was.stands (of_first (with_word was.past.seen word) rest whole reach may) no_index under was.calm was.fits (subst (λ fdc. Works fdc between new after) was.is works) in
+      let sum : steps + count + 1 ≡ steps + suc count = omega arith in
+      record {
+        now = on.next;
+        past = heard false word was.past;
+        is = on.is ∙ ap (λ n. at n on.next) sum;
+        stands = on.stands;
+        whole_is = reach;
+        ahead = ahead_after between after passes was.calm head rest ahead;
+        calm = (passes_calm between after passes was.calm).calm;
+        fits = fits_after between after passes was.calm rate was.fits;
+      }
+
+  module _ (now : S) (past : Past) (words : List ℕ) (before : DriveState) (few : steps + length words ≤ 65535) (stands : Is (length words) past now) (whole_is : past.seen ++ words ≡ whole) (ahead : AreAhead head words before) (calm : HasNoFaults before) (fits : rate_fits rate (rate_of before.medium) ≡ true) where
+    -- what is left of the words
+    onward : (count : ℕ) (rest : List ℕ) (mid new : Fdc) (between after : DriveState) → suc count ≤ length words → count + length rest ≡ length words → IsAfterSteps at Is head rate steps count rest whole mid between → Works mid between new after
+        → (left : List ℕ) × (suc count + length left ≡ length words) × IsAfterSteps at Is head rate steps (suc count) left whole new after
+    onward count [] mid new between after some sum amid works = absurd (omega (arith, some, sum))
+    onward count (word ∷ rest) mid new between after some sum amid works =
+        (rest, omega (arith, sum), one_more count word rest mid new between after (omega (arith, few, some)) amid works)
+
+    amid : (count : ℕ) (new : Fdc) (after : DriveState) → count ≤ length words → WorksBy count (at steps now) before new after
+        → (left : List ℕ) × (count + length left ≡ length words) × IsAfterSteps at Is head rate steps count left whole new after
+    unfolding WorksBy
+    amid zero new after some (same, still) = (
+      words,
+      omega arith,
+      record {
+        now = now;
+        past = past;
+        is = same ∙ ap (λ n. at n now) (omega arith);
+        stands = stands;
+        whole_is = whole_is;
+        ahead = subst (λ drive. AreAhead head words drive) (sym still) ahead;
+        calm = subst HasNoFaults (sym still) calm;
+        fits = subst (λ drive. rate_fits rate (rate_of drive.medium) ≡ true) (sym still) fits;
+      },
+    )
+    amid (suc count) new after some (mid, between, by, works) =
+        let (rest, sum, was) = amid count mid between (omega (arith, some)) by in
+        onward count rest mid new between after some sum was works
+
+    -- the lines stay
+    pub quiet_by : ((n left : ℕ) (later : Past) (next : S) → Is left later next → HoldsLines (at steps now) (at n next)) → IsQuietBy (length words) (at steps now) before
+    quiet_by holds count new after some by =
+        let (rest, sum, was) = amid count new after some by in
+        subst (λ fdc. HoldsLines (at steps now) fdc) (sym was.is) (holds (steps + count) (length rest) was.past was.now was.stands)
+
+-- ---- what is certain
+
+none_by : (old : Fdc) (before : DriveState) → IsQuietBy 0 old before
+unfolding WorksBy
+none_by old before zero new after some (same, still) = subst (λ fdc. HoldsLines old fdc) (sym same) (record { request = refl; interrupt = refl; ended = refl; mark = refl })
+none_by old before (suc count) new after some by = absurd (omega (arith, some))
+
+-- in no device step nothing changes
+pub nothing_foreseen : (old : Fdc) (before : DriveState) → Foresees 0 old before
+nothing_foreseen old before = record { identifies = λ past sent may certain. none_by old before; reads = λ past sent may certain single. none_by old before; writes = λ past sent deleted may certain. none_by old before }
+
+-- some of the words ahead are ahead
+pub some_words : (head count : ℕ) (some ahead : List ℕ) (before : DriveState) → some ≡ take (length some) ahead → AreAhead head ahead before → AreAhead head (take count some) before
+some_words head count some ahead before first are =
+    ahead_first head count some before (subst (λ words. AreAhead head words before) (sym first) (ahead_first head (length some) ahead before are))
+
+pub calm_told : (before : DriveState) → InRange before → before.left ≡ Some 0 → HasNoFaults before
+calm_told before range left =
+    let told : CanTell before.faults (Some 0) = subst (λ left. CanTell before.faults left) left range.told in
+    record { left = left; below = omega (arith, told) }

@@ -1,0 +1,84 @@
+-- Where no command is executed and no answer is given, a call leaves the heads and all results as they are, unless it is a
+-- device step, a reset or an access of the data port.
+use Rattle.std.proofs.Common.{◌≡◌, ℕ, Bool, true, false, not, ◌&&◌, ◌==◌, refl, sym, ◌∙◌, ap, subst}
+use Rattle.std.proofs.lemmas.Bool.{and_right, false≢true}
+use Rattle.fdc_core.specs.Ports.{resets}
+use Rattle.fdc_core.specs.State.{is_held}
+use Rattle.fdc_core.specs.declared.controller.Fdc.{Fdc}
+use Rattle.fdc_chip.specs.Chips.{ChipState, passes, passes_at, passes_by_channel, with_front}
+use Rattle.fdc_chip.specs.Orders.{is_format}
+use Rattle.fdc_chip.specs.Ports.{GivesChipIf, TakesIf, WritesChip, count_told, latched_by, reset_if, value_behind}
+use Rattle.fdc_chip.specs.Settings.{is_by_port}
+use Rattle.fdc_chip.specs.declared.stage.ChipStage.{ChipStage}
+use Rattle.fdc_chip.specs.declared.stage.ChipStage.TheVariants.{Busy, Telling}
+use Rattle.laws_chip.specs.Calls as made
+use Rattle.laws_chip.specs.Calls.{Call, Does, is_reset, is_step}
+use Rattle.laws_chip.specs.Resets.{is_of_data_port}
+use Rattle.laws_chip.specs.Seeks.{waits_for_heads}
+use Rattle.laws_chip.proofs.Channels.{IsLeft, front_left}
+use Rattle.laws_chip.proofs.PassedOn.{other_read}
+use Rattle.laws_chip.proofs.UnderWay.{clash, either_way, port_stage}
+
+pub record KeepsHeads (old new : ChipState) : Type 0 where
+  pub stage : new.stage ≡ old.stage
+  pub count : new.count ≡ old.count
+  pub interrupts : new.interrupts ≡ old.interrupts
+  pub settings : new.settings ≡ old.settings
+  pub pace : new.pace ≡ old.pace
+  pub through : new.front.stage ≡ old.front.stage
+  pub left : IsLeft old.front.adapter.controller new.front.adapter.controller
+
+same_left : (old new : Fdc) → new ≡ old → IsLeft old new
+same_left old new is = subst (IsLeft old) (sym is) (record { phase = refl; seeks = refl; non_dma = refl; command = refl; poll = refl; interrupt = refl; free = λ held. held })
+
+pub left_free : (old new : Fdc) → IsLeft old new → is_held old ≡ false → is_held new ≡ false
+left_free old new left free = either_way (is_held new) (λ held. clash (is_held old) free (left.free held)) (λ unheld. unheld)
+
+-- nothing changes but the front, straps, and what DOR and TDR latch
+rest_kept : (old set new : ChipState) → set ≡ record old { gated = set.gated; tape = set.tape; strapped = set.strapped; paced = set.paced } → new ≡ with_front new.front set → new.front.stage ≡ old.front.stage
+    → IsLeft old.front.adapter.controller new.front.adapter.controller → KeepsHeads old new
+rest_kept old set new set_is rest through left = record {
+  stage = ap (λ (chip : ChipState). chip.stage) rest ∙ ap (λ (chip : ChipState). chip.stage) set_is;
+  count = ap (λ (chip : ChipState). chip.count) rest ∙ ap (λ (chip : ChipState). chip.count) set_is;
+  interrupts = ap (λ (chip : ChipState). chip.interrupts) rest ∙ ap (λ (chip : ChipState). chip.interrupts) set_is;
+  settings = ap (λ (chip : ChipState). chip.settings) rest ∙ ap (λ (chip : ChipState). chip.settings) set_is;
+  pace = ap (λ (chip : ChipState). chip.pace) rest ∙ ap (λ (chip : ChipState). chip.pace) set_is;
+  through = through;
+  left = left;
+}
+
+same_kept : (old set new : ChipState) → set ≡ record old { gated = set.gated; tape = set.tape; strapped = set.strapped; paced = set.paced } → new ≡ set → KeepsHeads old new
+same_kept old set new set_is is =
+    let front = ap (λ (chip : ChipState). chip.front) is ∙ ap (λ (chip : ChipState). chip.front) set_is in
+    rest_kept old set new set_is (is ∙ ap (λ f. with_front f set) (sym (ap (λ (chip : ChipState). chip.front) is))) (ap (λ f. f.stage) front)
+    (same_left old.front.adapter.controller new.front.adapter.controller (ap (λ f. f.adapter.controller) front))
+
+port_kept : (port value : ℕ) (old new : ChipState) → WritesChip port value old new → (port == 0x3F5) ≡ false → resets port (value_behind port value) ≡ false → KeepsHeads old new
+port_kept port value old new writes no_data quiet =
+    let given = value_behind port value in
+    let set = latched_by port value old in
+    let (front, rest) = writes.others no_data in
+    rest_kept old set new refl (subst (λ b. new ≡ with_front new.front (reset_if b set)) quiet rest) (port_stage port given old.front new.front front no_data quiet) (front_left port given old.front new.front front no_data quiet)
+
+no_bytes_at : (stage : ChipStage) → waits_for_heads stage ≡ true → passes_at stage ≡ false
+no_bytes_at (Busy task) waits = absurd (false≢true waits)
+no_bytes_at _ waits = refl
+
+no_channel : (chip : ChipState) → waits_for_heads chip.stage ≡ true → passes_by_channel chip ≡ false
+no_channel chip waits = and_right (chip.gated && not (is_by_port chip.settings)) (passes chip) (ap (λ b. b && not (is_format chip.order && (chip.keys == 0))) (no_bytes_at chip.stage waits))
+
+not_counted : (stage : ChipStage) (chip : ChipState) → waits_for_heads stage ≡ true → count_told stage chip ≡ chip
+not_counted (Busy task) chip waits = absurd (false≢true waits)
+not_counted _ chip waits = refl
+
+pub call_heads : (call : Call) (old new : ChipState) → waits_for_heads old.stage ≡ true → Does call old new → is_step call ≡ false → is_reset call ≡ false → is_of_data_port call ≡ false → KeepsHeads old new
+call_heads made.Steps old new waits does no_step quiet other = absurd (false≢true (sym no_step))
+call_heads (made.Takes byte) old new waits does no_step quiet other = same_kept old old new refl (subst (λ b. TakesIf b old byte new) (no_channel old waits) does).1
+call_heads (made.Gives byte given) old new waits does no_step quiet other = same_kept old old new refl (subst (λ b. GivesChipIf b byte old given new) (no_channel old waits) does).1
+call_heads made.Counts old new waits does no_step quiet other = same_kept old old new refl (does ∙ not_counted old.stage old waits)
+call_heads (made.Reads port value) old new waits does no_step quiet other = same_kept old old new refl (other_read port value old new other does)
+call_heads (made.Writes port value) old new waits does no_step quiet other = port_kept port value old new does other quiet
+call_heads made.Changes old new waits does no_step quiet other =
+    rest_kept old old new refl does.rest does.front.stage (same_left old.front.adapter.controller new.front.adapter.controller does.front.controller)
+call_heads (made.Straps on) old new waits does no_step quiet other = same_kept old (record old { strapped = on }) new refl does
+call_heads (made.StrapsSteps on) old new waits does no_step quiet other = same_kept old (record old { paced = on }) new refl does

@@ -1,0 +1,460 @@
+-- What is known of the controller's own command for a sector, through device steps, transfers, the terminal count and
+-- port accesses.
+use Rattle.std.proofs.Common.{◌≡◌, ◌⊎◌, inl, inr, ℕ, zero, suc, ◌+◌, ◌≤◌, Bool, true, false, not, ◌&&◌, ◌==◌, if◌then◌else◌, Option, List, [], ◌∷◌, ◌++◌, refl, sym, ◌∙◌, ap, subst, arith}
+use Rattle.std.proofs.lemmas.Bool.{false≢true, and_parts, eqb-true}
+use Rattle.drive_model.specs.Drive.{DriveState, at_index}
+use Rattle.flop_base.specs.declared.key.Chrn.{Chrn}
+use Rattle.fdc_registers.specs.Fifo.{Fifo}
+use Rattle.fdc_commands.specs.Seeking.{with_polls}
+use Rattle.fdc_stages.specs.History.{Past}
+use Rattle.fdc_stages.specs.declared.ending.Ending.TheVariants.{Late}
+use Rattle.fdc_stages.specs.Writings.{is_due, is_open, opens}
+use Rattle.fdc_stages.specs.declared.writing.WriteNext.TheVariants.{On}
+use Rattle.fdc_stages.specs.declared.writing.WriteStage.{WriteStage}
+use Rattle.fdc_stages.specs.declared.writing.WriteStage.TheVariants as stage
+use Rattle.fdc_core.specs.Dma.{byte_out, taken_out, taken_in, told_count, to_memory_of}
+use Rattle.fdc_phases.specs.Dma.{phase_told}
+use Rattle.fdc_phases.specs.Heard.{Sent, MayReadIn, MayReadTask, gave, stepped, told_in}
+use Rattle.fdc_core.specs.Listening.{Follows, SeesTask, SeesUnder, SeesWord, after_step, is_executing}
+use Rattle.fdc_core.specs.Steps.{MovesIn, MovesTask, polled}
+use Rattle.fdc_phases.specs.declared.rates.DataRate.{DataRate}
+use Rattle.fdc_phases.specs.Phases.{head_of, is_listening, is_reading, mark_of_phase}
+use Rattle.fdc_core.specs.Ports.{Writes, dor_resets, dsr_resets, resets}
+use Rattle.fdc_phases.specs.Rates.{rate_chosen}
+use Rattle.fdc_core.specs.State.{asks, is_gated, is_held, reset}
+use Rattle.fdc_core.specs.Tasks.{StepsNowhere, TaskStepsNowhere, WritesNowhere}
+use Rattle.fdc_core.specs.Times.{WordTime, IsTime, Saw, KeptOut, Wrote, Stopped, after_time}
+use Rattle.fdc_core.specs.Whole.{ending_told, mark_of}
+use Rattle.fdc_core.specs.Writes.{WritesIn, WritesTask}
+use Rattle.fdc_core.specs.Writing.{WriteDoes, after_next}
+use Rattle.fdc_core.specs.Written.{MayWrite}
+use Rattle.fdc_phases.specs.Written.{MayWriteIn, MayWriteTask, took}
+use Rattle.fdc_core.specs.declared.controller.Fdc.{Fdc}
+use Rattle.fdc_core.specs.declared.controller.Lines.{Lines}
+use Rattle.fdc_phases.specs.declared.phases.Phase.{Phase}
+use Rattle.fdc_phases.specs.declared.phases.Phase.TheVariants.{Command, Execute, Result as Telling}
+use Rattle.fdc_phases.specs.declared.phases.Task.{Task}
+use Rattle.fdc_phases.specs.declared.phases.Task.TheVariants.{ReadId, Read as ReadTask, Write as WriteTask, Format}
+use Rattle.fdc_phases.specs.declared.transfers.Writing.{Writing}
+use Rattle.fdc_core.proofs.MayRead.{out_reads, told_reads}
+use Rattle.fdc_core.proofs.MayWrite.{in_writes, told_writes, writes_on}
+use Rattle.fdc_phases.proofs.AtFirst.{rule_room}
+use Rattle.fdc_sequencer.specs.Adapters.{AdapterState, StepsAdapter, selected_at}
+use Rattle.laws_chip.specs.Serving.{IsNowhere, IsTimeOf, MayMove, PassesAt, StopsAtEnd, bytes_moved}
+use Rattle.fdc_sequencer.specs.declared.opcode.Operation.{Operation}
+use Rattle.fdc_sequencer.specs.declared.opcode.Operation.TheVariants.{Read, Write}
+use Rattle.laws_chip.proofs.Marks.{EndsBadly, MarkStays, mark_then, step_bad, step_stays}
+
+pub clash : {A : Type 0} (b : Bool) → b ≡ false → b ≡ true → A
+clash b is other = absurd (false≢true (sym is ∙ other))
+
+pub either_way : {P : Type 0} (b : Bool) → (b ≡ true → P) → (b ≡ false → P) → P
+either_way true set clear = set refl
+either_way false set clear = clear refl
+
+-- ---- a device step
+
+-- the mark of a field that is read stays, and before the mark was met no byte passed
+abbrev pub MarkGoes : Operation → List ℕ → Option Bool → Option Bool → Type 0
+MarkGoes (Read _ _) bytes was now = MarkStays bytes was now
+MarkGoes (Write _) bytes was now = Unit {0}
+
+-- where a read ends with a wrong CRC, the mark of that field was known
+abbrev pub BadGoes : Operation → Past → Chrn → Option Bool → Fdc → Type 0
+BadGoes (Read _ _) past key was new = EndsBadly past key was new
+BadGoes (Write _) past key was new = Unit {0}
+
+-- after a device step the same is known, with the word that passed in the step added. `Is` holds of this word time. No
+-- byte moved
+pub record KnownOn (operation : Operation) (past : Past) (sent : Sent) (mark : Option Bool) (Is : WordTime → Type 0) (new : Fdc) : Type 0 where
+  pub time : WordTime
+  pub is : Is time
+  pub bytes : bytes_moved operation (after_time time past) ≡ bytes_moved operation past
+  pub counted : (after_time time past).counted ≡ past.counted
+  pub moves : MayMove operation (after_time time past) sent new
+  pub marks : MarkGoes operation (bytes_moved operation past) mark (mark_then mark new.phase)
+  pub bad : BadGoes operation (after_time time past) sent.key mark new
+
+known_as : (operation : Operation) (past : Past) (sent : Sent) (mark : Option Bool) (Is Was : WordTime → Type 0) (new : Fdc) → ((time : WordTime) → Was time → Is time)
+    → KnownOn operation past sent mark Was new → KnownOn operation past sent mark Is new
+known_as operation past sent mark Is Was new goes known = record {
+  time = known.time;
+  is = goes known.time known.is;
+  bytes = known.bytes;
+  counted = known.counted;
+  moves = known.moves;
+  marks = known.marks;
+  bad = known.bad;
+}
+
+-- the poll changes neither the phase nor the rate
+polled_phase : (b : Bool) (old : Fdc) → (if b then record old { poll_due = false; interrupt = true; seeks = with_polls old.seeks } else old).phase ≡ old.phase
+polled_phase true old = refl
+polled_phase false old = refl
+
+pub polled_rate : (b : Bool) (old : Fdc) → (if b then record old { poll_due = false; interrupt = true; seeks = with_polls old.seeks } else old).rate ≡ old.rate
+polled_rate true old = refl
+polled_rate false old = refl
+
+-- the drive that is selected
+module _ (head : ℕ) (old new : AdapterState) where
+  at_first_drive : selected_at old ≡ 0 → (time : WordTime) → IsTime time old.controller.rate head old.first new.first × StopsAtEnd time new.controller
+      → PassesAt (selected_at old) head time old new
+  at_first_drive at time is = record { at_first = λ same. is; at_second = λ other. absurd (omega (arith, at, other)); at_none = λ more. absurd (omega (arith, at, more)) }
+
+  at_second_drive : selected_at old ≡ 1 → (time : WordTime) → IsTime time old.controller.rate head old.second new.second × StopsAtEnd time new.controller
+      → PassesAt (selected_at old) head time old new
+  at_second_drive at time is = record { at_first = λ other. absurd (omega (arith, at, other)); at_second = λ same. is; at_none = λ more. absurd (omega (arith, at, more)) }
+
+  at_no_drive : 2 ≤ selected_at old → (time : WordTime) → IsNowhere time → PassesAt (selected_at old) head time old new
+  at_no_drive at time is = record { at_first = λ other. absurd (omega (arith, at, other)); at_second = λ other. absurd (omega (arith, at, other)); at_none = λ same. is }
+
+pub which_drive : (n : ℕ) → (n ≡ 0) ⊎ ((n ≡ 1) ⊎ (2 ≤ n))
+which_drive zero = inl refl
+which_drive (suc zero) = inr (inl refl)
+which_drive (suc (suc n)) = inr (inr (omega arith))
+
+-- ---- a read
+
+read_on : (wanted skip : Bool) (past : Past) (sent : Sent) (phase : Phase) (polls old new : Fdc) (index : Bool) (word : ℕ) (Is : WordTime → Type 0) → Is (Saw index word) → is_executing phase ≡ true
+    → Follows phase polls index word old new → MayReadIn past sent phase old.asking old.fifo.bytes → KnownOn (Read wanted skip) past sent (mark_of_phase phase) Is new
+read_on wanted skip past sent phase polls old new index word Is is busy follows was = record {
+  time = Saw index word;
+  is = is;
+  bytes = refl;
+  counted = refl;
+  moves = subst (λ b. MayMove (Read wanted skip) (after_step b index word past) sent new) busy (follows.reads past sent was);
+  marks = step_stays past sent index word polls new phase old busy follows was;
+  bad = step_bad past sent index word polls new phase old busy follows was;
+}
+
+-- a read sees the word under its head, and lets it pass
+read_seen : (past : Past) (sent : Sent) (phase : Phase) (asking : Bool) (fifo : List ℕ) (rate : DataRate) (fdc : Fdc) (before after : DriveState) (word : ℕ) → is_executing phase ≡ true
+    → MayReadIn past sent phase asking fifo → SeesWord phase rate before word after → MovesIn phase fdc before after → IsTime (Saw (at_index before) word) rate (head_of sent.head_drive) before after
+read_seen past sent Command asking fifo rate fdc before after word busy was sees moves = absurd was
+read_seen past sent (Telling answer) asking fifo rate fdc before after word busy was sees moves = absurd (false≢true busy)
+read_seen past sent (Execute execution) asking fifo rate fdc before after word busy was sees moves = in_task execution.task execution.head_drive execution.steps was sees moves
+  where
+    in_task : (task : Task) (head_drive steps : ℕ) → MayReadTask past sent head_drive steps task asking fifo → SeesTask (is_listening task) (head_of head_drive) rate before word after
+        → MovesTask (is_listening task) before after → IsTime (Saw (at_index before) word) rate (head_of sent.head_drive) before after
+    in_task (ReadTask reading) head_drive steps (asks, (told, was)) sees moves = record {
+      index_is = refl;
+      sees = subst (λ head_drive. SeesUnder rate (head_of head_drive) before word after) (ap (λ s. s.head_drive) was.sent_is) sees;
+      passes = moves;
+    }
+    in_task _ head_drive steps was sees moves = absurd was
+
+reads_on : (wanted skip : Bool) (past : Past) (sent : Sent) (old new : AdapterState) → StepsAdapter old new → is_executing old.controller.phase ≡ true
+    → MayMove (Read wanted skip) past sent old.controller → KnownOn (Read wanted skip) past sent (mark_of old.controller) (λ time. IsTimeOf (Read wanted skip) time × PassesAt (selected_at old) (head_of sent.head_drive) time old new) new.controller
+reads_on wanted skip past sent old new steps busy was =
+    let fdc = old.controller in
+    let head = head_of sent.head_drive in
+    let same = polled_phase (fdc.poll_due && not (is_held fdc)) fdc in
+    elim (which_drive (selected_at old)) [
+      | inl at ↦ let works = (steps.at_first at).0 in let hears = works.reads in
+          read_on wanted skip past sent fdc.phase (polled fdc) fdc new.controller (at_index old.first) hears.word (λ time. IsTimeOf (Read wanted skip) time × PassesAt (selected_at old) head time old new) (
+            tt,
+            at_first_drive head old new at (Saw (at_index old.first) hears.word) (
+              read_seen past sent fdc.phase fdc.asking fdc.fifo.bytes fdc.rate (polled fdc) old.first new.first hears.word busy was hears.sees
+                  (subst (λ phase. MovesIn phase (polled fdc) old.first new.first) same works.drive),
+              tt,
+            ),
+          )
+          busy hears.follows was
+      | inr (inl at) ↦ let works = (steps.at_second at).0 in let hears = works.reads in
+          read_on wanted skip past sent fdc.phase (polled fdc) fdc new.controller (at_index old.second) hears.word (λ time. IsTimeOf (Read wanted skip) time × PassesAt (selected_at old) head time old new) (
+            tt,
+            at_second_drive head old new at (Saw (at_index old.second) hears.word) (
+              read_seen past sent fdc.phase fdc.asking fdc.fifo.bytes fdc.rate (polled fdc) old.second new.second hears.word busy was hears.sees
+                  (subst (λ phase. MovesIn phase (polled fdc) old.second new.second) same works.drive),
+              tt,
+            ),
+          )
+          busy hears.follows was
+      | inr (inr at) ↦ read_on wanted skip past sent fdc.phase (polled fdc) fdc new.controller false 0 (λ time. IsTimeOf (Read wanted skip) time × PassesAt (selected_at old) head time old new)
+          (tt, at_no_drive head old new at (Saw false 0) (refl, refl)) busy (steps.at_none at).0.reads was
+    ]
+
+-- ---- a write
+
+pub time_taken : (time : WordTime) (past : Past) → (after_time time past).taken ≡ past.taken
+time_taken (Saw index word) past = refl
+time_taken (KeptOut index word) past = refl
+time_taken (Wrote opened closed index word) past = refl
+time_taken Stopped past = refl
+
+pub time_counted : (time : WordTime) (past : Past) → (after_time time past).counted ≡ past.counted
+time_counted (Saw index word) past = refl
+time_counted (KeptOut index word) past = refl
+time_counted (Wrote opened closed index word) past = refl
+time_counted Stopped past = refl
+
+module _ (deleted : Bool) (past : Past) (sent : Sent) (mark : Option Bool) where
+  -- what a write's step is at the drive
+  abbrev IsWriteAt : DataRate → DriveState → DriveState → Fdc → WordTime → Type 0
+  IsWriteAt rate before after new time = IsTime time rate (head_of sent.head_drive) before after × StopsAtEnd time new
+
+  pub write_stops : (time : WordTime) (head_drive steps : ℕ) (writing : Writing) (old : Fdc) (before : DriveState) (new : Fdc) → WriteDoes time head_drive steps writing old before new → StopsAtEnd time new
+  write_stops (Saw index word) head_drive steps writing old before new does = tt
+  write_stops (KeptOut index word) head_drive steps writing old before new does = tt
+  write_stops (Wrote opened closed index word) head_drive steps writing old before new does = tt
+  write_stops Stopped head_drive steps writing old before new does = (does.ending, ap ending_told does.after_is)
+
+  write_task : (task : Task) (head_drive steps : ℕ) (asking : Bool) (fifo : Fifo) (polls : Fdc) (before after : DriveState) (new : Fdc) → WritesTask task head_drive steps asking fifo polls before after new
+      → MayWriteTask past sent deleted head_drive steps task asking fifo → KnownOn (Write deleted) past sent mark (IsWriteAt polls.rate before after new) new
+  write_task (ReadId search) head_drive steps asking fifo polls before after new writes was = absurd was
+  write_task (ReadTask reading) head_drive steps asking fifo polls before after new writes was = absurd was
+  write_task (Format formatting) head_drive steps asking fifo polls before after new writes was = absurd was
+  write_task (WriteTask writing) head_drive steps asking fifo polls before after new writes (asks, (handed, was)) = record {
+    time = writes.step.does.time;
+    is = (
+      subst (λ head_drive. IsTime writes.step.does.time polls.rate (head_of head_drive) before after) (ap (λ s. s.head_drive) was.sent_is) writes.step.does.is,
+      write_stops writes.step.does.time head_drive steps writing polls before new writes.step.does.does,
+    );
+    bytes = time_taken writes.step.does.time past;
+    counted = time_counted writes.step.does.time past;
+    moves = writes.writes past sent deleted (asks, (handed, was));
+    marks = tt;
+    bad = tt;
+  }
+
+  write_in : (phase : Phase) (asking : Bool) (fifo : Fifo) (polls : Fdc) (before after : DriveState) (new : Fdc) → is_executing phase ≡ true → WritesIn phase asking fifo polls before after new
+      → MayWriteIn past sent deleted phase asking fifo → KnownOn (Write deleted) past sent mark (IsWriteAt polls.rate before after new) new
+  write_in Command asking fifo polls before after new busy writes was = absurd was
+  write_in (Telling answer) asking fifo polls before after new busy writes was = absurd (false≢true busy)
+  write_in (Execute execution) asking fifo polls before after new busy writes was = write_task execution.task execution.head_drive execution.steps asking fifo polls before after new writes was
+
+  -- ---- where no drive is selected
+
+  by_time : (head_drive steps : ℕ) (writing : Writing) (old : Fdc) (before : DriveState) (new : Fdc) (time : WordTime) → IsNowhere time → WriteDoes time head_drive steps writing old before new
+      → MayWriteTask past sent deleted head_drive steps (WriteTask writing) old.asking old.fifo → KnownOn (Write deleted) past sent mark IsNowhere new
+  by_time head_drive steps writing old before new time is does was = record {
+    time = time;
+    is = is;
+    bytes = time_taken time past;
+    counted = time_counted time past;
+    moves = writes_on time head_drive steps writing old before new does past sent deleted was;
+    marks = tt;
+    bad = tt;
+  }
+
+  -- while its gate is open, a write stays at its stage
+  waits_open : (head_drive steps : ℕ) (writing : Writing) (old : Fdc) → MayWriteTask past sent deleted head_drive steps (WriteTask writing) old.asking old.fifo
+      → MayWrite (stepped past) sent deleted (after_next head_drive (steps + 1) writing (On writing.stage) old)
+  waits_open head_drive steps writing old (asks, (handed, was)) = (
+    rule_room writing.counted old.asking old.fifo,
+    (
+      handed,
+      record {
+        sent_is = was.sent_is;
+        deleted_is = was.deleted_is;
+        counted_is = was.counted_is;
+        steps_are = ap (λ n. n + 1) was.steps_are;
+        fresh = λ none. absurd (omega arith);
+        writes = was.writes;
+        handed_is = was.handed_is;
+      },
+    ),
+  )
+
+which_word : (now : WriteStage) → (is_due now ≡ false) ⊎ ((opens now ≡ true) ⊎ (is_open now ≡ true))
+which_word (stage.Search search) = inl refl
+which_word (stage.Gap zero) = inr (inl refl)
+which_word (stage.Gap (suc left)) = inl refl
+which_word (stage.Window window) = inr (inr refl)
+
+module _ (deleted : Bool) (past : Past) (sent : Sent) (mark : Option Bool) (before : DriveState) where
+  nowhere_write : (head_drive steps : ℕ) (writing : Writing) (old new : Fdc) → WritesNowhere head_drive steps writing old new
+      → MayWriteTask past sent deleted head_drive steps (WriteTask writing) old.asking old.fifo → KnownOn (Write deleted) past sent mark IsNowhere new
+  nowhere_write head_drive steps writing old new (inl (last, is)) was =
+      by_time deleted past sent mark head_drive steps writing old before new Stopped tt (record { ending = Late; stops = last; after_is = is }) was
+  nowhere_write head_drive steps writing old new (inr (few, (next, hears, is))) was = elim (which_word writing.stage) [
+    | inl due ↦ by_time deleted past sent mark head_drive steps writing old before new (Saw false 0) (refl, refl) (due, record { few = few; next = next; hears = hears; after_is = is }) was
+    | inr (inl first) ↦ by_time deleted past sent mark head_drive steps writing old before new (KeptOut false 0) (refl, refl) (first, record { few = few; next = next; hears = hears; after_is = is }) was
+    | inr (inr opened) ↦ record {
+      time = Stopped;
+      is = tt;
+      bytes = refl;
+      counted = refl;
+      moves = subst (MayWrite (stepped past) sent deleted) (sym (is ∙ ap (λ n. after_next head_drive (steps + 1) writing n old) (hears.3 opened)))
+          (waits_open deleted past sent mark head_drive steps writing old was);
+      marks = tt;
+      bad = tt;
+    }
+  ]
+
+  nowhere_task : (task : Task) (head_drive steps : ℕ) (old new : Fdc) → TaskStepsNowhere task head_drive steps old new
+      → MayWriteTask past sent deleted head_drive steps task old.asking old.fifo → KnownOn (Write deleted) past sent mark IsNowhere new
+  nowhere_task (ReadId search) head_drive steps old new does was = absurd was
+  nowhere_task (ReadTask reading) head_drive steps old new does was = absurd was
+  nowhere_task (Format formatting) head_drive steps old new does was = absurd was
+  nowhere_task (WriteTask writing) head_drive steps old new does was = nowhere_write head_drive steps writing old new does was
+
+  nowhere_in : (phase : Phase) (old new : Fdc) → is_executing phase ≡ true → StepsNowhere phase old new → MayWriteIn past sent deleted phase old.asking old.fifo
+      → KnownOn (Write deleted) past sent mark IsNowhere new
+  nowhere_in Command old new busy does was = absurd was
+  nowhere_in (Telling answer) old new busy does was = absurd (false≢true busy)
+  nowhere_in (Execute execution) old new busy does was = nowhere_task execution.task execution.head_drive execution.steps old new does was
+
+  -- the poll moves nothing of this
+  nowhere_polled : (b : Bool) (old new : Fdc) → is_executing old.phase ≡ true
+      → StepsNowhere old.phase (if b then record old { poll_due = false; interrupt = true; seeks = with_polls old.seeks } else old) new
+      → MayWriteIn past sent deleted old.phase old.asking old.fifo → KnownOn (Write deleted) past sent mark IsNowhere new
+  nowhere_polled true old new busy does was = nowhere_in old.phase (record old { poll_due = false; interrupt = true; seeks = with_polls old.seeks }) new busy does was
+  nowhere_polled false old new busy does was = nowhere_in old.phase old new busy does was
+
+writes_on_adapter : (deleted : Bool) (past : Past) (sent : Sent) (old new : AdapterState) → StepsAdapter old new → is_executing old.controller.phase ≡ true
+    → MayMove (Write deleted) past sent old.controller
+    → KnownOn (Write deleted) past sent (mark_of old.controller) (λ time. PassesAt (selected_at old) (head_of sent.head_drive) time old new) new.controller
+writes_on_adapter deleted past sent old new steps busy was =
+    let fdc = old.controller in
+    let head = head_of sent.head_drive in
+    let Is : WordTime → Type 0 = λ time. PassesAt (selected_at old) head time old new in
+    let rate = polled_rate (fdc.poll_due && not (is_held fdc)) fdc in
+    elim (which_drive (selected_at old)) [
+      | inl at ↦ known_as (Write deleted) past sent (mark_of fdc) Is (IsWriteAt deleted past sent (mark_of fdc) (polled fdc).rate old.first new.first new.controller) new.controller
+          (λ time is. at_first_drive head old new at time (subst (λ r. IsTime time r head old.first new.first) rate is.0, is.1))
+          (write_in deleted past sent (mark_of fdc) fdc.phase fdc.asking fdc.fifo (polled fdc) old.first new.first new.controller busy (steps.at_first at).0.writes was)
+      | inr (inl at) ↦ known_as (Write deleted) past sent (mark_of fdc) Is (IsWriteAt deleted past sent (mark_of fdc) (polled fdc).rate old.second new.second new.controller) new.controller
+          (λ time is. at_second_drive head old new at time (subst (λ r. IsTime time r head old.second new.second) rate is.0, is.1))
+          (write_in deleted past sent (mark_of fdc) fdc.phase fdc.asking fdc.fifo (polled fdc) old.second new.second new.controller busy (steps.at_second at).0.writes was)
+      | inr (inr at) ↦ known_as (Write deleted) past sent (mark_of fdc) Is IsNowhere new.controller (λ time is. at_no_drive head old new at time is)
+          (nowhere_polled deleted past sent (mark_of fdc) old.first (fdc.poll_due && not (is_held fdc)) fdc new.controller busy (steps.at_none at).0.nowhere was)
+    ]
+
+-- what is known after a device step of a data command: what passed in it under the sector's head is added to what was
+-- known
+pub steps_on : (operation : Operation) (past : Past) (sent : Sent) (old new : AdapterState) → StepsAdapter old new → is_executing old.controller.phase ≡ true
+    → MayMove operation past sent old.controller
+    → KnownOn operation past sent (mark_of old.controller) (λ time. IsTimeOf operation time × PassesAt (selected_at old) (head_of sent.head_drive) time old new) new.controller
+steps_on (Read wanted skip) past sent old new steps busy was = reads_on wanted skip past sent old new steps busy was
+steps_on (Write deleted) past sent old new steps busy was =
+    known_as (Write deleted) past sent (mark_of old.controller) (λ time. IsTimeOf (Write deleted) time × PassesAt (selected_at old) (head_of sent.head_drive) time old new)
+    (λ time. PassesAt (selected_at old) (head_of sent.head_drive) time old new) new.controller (λ time is. (tt, is)) (writes_on_adapter deleted past sent old new steps busy was)
+
+-- ---- the terminal count
+
+pub bytes_told : (operation : Operation) (b : Bool) (past : Past) → bytes_moved operation (told_in b past) ≡ bytes_moved operation past
+bytes_told (Read wanted skip) true past = refl
+bytes_told (Read wanted skip) false past = refl
+bytes_told (Write deleted) true past = refl
+bytes_told (Write deleted) false past = refl
+
+pub told_busy : (phase : Phase) → is_executing phase ≡ true → is_executing (phase_told phase) ≡ true
+told_busy Command busy = busy
+told_busy (Execute execution) busy = refl
+told_busy (Telling answer) busy = busy
+
+pub told_on : (operation : Operation) (past : Past) (sent : Sent) (old : Fdc) → is_executing old.phase ≡ true → MayMove operation past sent old
+    → MayMove operation (told_in true past) sent (told_count old)
+told_on (Read wanted skip) past sent old busy was =
+    subst (λ b. MayMove (Read wanted skip) (told_in b past) sent (told_count old)) busy (told_reads past sent old.phase old.asking old.fifo was)
+told_on (Write deleted) past sent old busy was =
+    subst (λ b. MayMove (Write deleted) (told_in b past) sent (told_count old)) busy (told_writes past sent deleted old.phase old.asking old.fifo was)
+
+-- ---- bytes
+
+-- after a byte the same is known, with the byte added
+pub record MovedOn (operation : Operation) (past : Past) (sent : Sent) (byte : ℕ) (now : Past) (new : Fdc) : Type 0 where
+  pub bytes : bytes_moved operation now ≡ bytes_moved operation past ++ byte ∷ []
+  pub counted : now.counted ≡ past.counted
+  pub moves : MayMove operation now sent new
+
+read_phase : (past : Past) (sent : Sent) (phase : Phase) (asking : Bool) (fifo : List ℕ) → is_executing phase ≡ true → MayReadIn past sent phase asking fifo → is_reading phase ≡ true
+read_phase past sent Command asking fifo busy was = absurd was
+read_phase past sent (Telling answer) asking fifo busy was = absurd (false≢true busy)
+read_phase past sent (Execute execution) asking fifo busy was = in_task execution.task execution.head_drive execution.steps was
+  where
+    in_task : (task : Task) (head_drive steps : ℕ) → MayReadTask past sent head_drive steps task asking fifo → is_reading (Execute (record { head_drive = head_drive; steps = steps; task = task })) ≡ true
+    in_task (ReadTask reading) head_drive steps was = refl
+    in_task _ head_drive steps was = absurd was
+
+write_phase : (past : Past) (sent : Sent) (deleted : Bool) (phase : Phase) (asking : Bool) (fifo : Fifo) → MayWriteIn past sent deleted phase asking fifo → is_reading phase ≡ false
+write_phase past sent deleted Command asking fifo was = absurd was
+write_phase past sent deleted (Telling answer) asking fifo was = refl
+write_phase past sent deleted (Execute execution) asking fifo was = in_task execution.task execution.head_drive execution.steps was
+  where
+    in_task : (task : Task) (head_drive steps : ℕ) → MayWriteTask past sent deleted head_drive steps task asking fifo → is_reading (Execute (record { head_drive = head_drive; steps = steps; task = task })) ≡ false
+    in_task (WriteTask writing) head_drive steps was = refl
+    in_task _ head_drive steps was = absurd was
+
+-- the channel takes a byte
+pub out_on : (operation : Operation) (past : Past) (sent : Sent) (old : Fdc) → (asks old && to_memory_of old) ≡ true → MayMove operation past sent old
+    → MovedOn operation past sent (byte_out old) (gave (byte_out old) past) (taken_out old)
+out_on (Read wanted skip) past sent old up was = record {
+  bytes = refl;
+  counted = refl;
+  moves = out_reads past sent old.phase old.asking old.fifo (and_parts (is_gated old) old.asking (and_parts (asks old) (to_memory_of old) up).0).1 (and_parts (asks old) (to_memory_of old) up).1 was;
+}
+out_on (Write deleted) past sent old up was =
+    clash (is_reading old.phase) (write_phase past sent deleted old.phase old.asking old.fifo was) (and_parts (asks old) (to_memory_of old) up).1
+
+-- the channel gives a byte
+pub in_on : (operation : Operation) (past : Past) (sent : Sent) (byte : ℕ) (old : Fdc) → is_executing old.phase ≡ true → (asks old && not (to_memory_of old)) ≡ true → MayMove operation past sent old
+    → MovedOn operation past sent byte (took byte past) (taken_in byte old)
+in_on (Read wanted skip) past sent byte old busy up was =
+    let reading = read_phase past sent old.phase old.asking old.fifo.bytes busy was in
+    absurd (false≢true (sym (ap not reading) ∙ (and_parts (asks old) (not (to_memory_of old)) up).1))
+in_on (Write deleted) past sent byte old busy up was = record {
+  bytes = refl;
+  counted = refl;
+  moves = in_writes past sent deleted old.phase old.asking old.fifo byte (and_parts (is_gated old) old.asking (and_parts (asks old) (not (to_memory_of old)) up).0).1 was;
+}
+
+-- ---- port accesses
+
+-- what the knowledge of the command depends on stays, and so does what the next command needs to begin
+pub record SameCommand (old new : Fdc) : Type 0 where
+  pub phase : new.phase ≡ old.phase
+  pub asking : new.asking ≡ old.asking
+  pub fifo : new.fifo ≡ old.fifo
+  pub seeks : new.seeks ≡ old.seeks
+  pub non_dma : new.non_dma ≡ old.non_dma
+
+same_known : (operation : Operation) (past : Past) (sent : Sent) (old new : Fdc) → SameCommand old new → MayMove operation past sent old → MayMove operation past sent new
+same_known (Read wanted skip) past sent old new same was =
+    subst (λ phase. MayReadIn past sent phase new.asking new.fifo.bytes) (sym same.phase)
+    (subst (λ asking. MayReadIn past sent old.phase asking new.fifo.bytes) (sym same.asking)
+    (subst (λ fifo. MayReadIn past sent old.phase old.asking fifo.bytes) (sym same.fifo) was))
+same_known (Write deleted) past sent old new same was =
+    subst (λ phase. MayWriteIn past sent deleted phase new.asking new.fifo) (sym same.phase)
+    (subst (λ asking. MayWriteIn past sent deleted old.phase asking new.fifo) (sym same.asking)
+    (subst (λ fifo. MayWriteIn past sent deleted old.phase old.asking fifo) (sym same.fifo) was))
+
+same_as : (old set new : Fdc) → SameCommand old set → new ≡ set → SameCommand old new
+same_as old set new same is = subst (SameCommand old) (sym is) same
+
+not_reset : (b : Bool) (old set : Fdc) → b ≡ false → SameCommand old set → SameCommand old (if b then reset set else set)
+not_reset true old set is same = absurd (false≢true (sym is))
+not_reset false old set is same = same
+
+pub port_same : (port value : ℕ) (lines : Lines) (old new : Fdc) → Writes port value lines old new → (port == 0x3F5) ≡ false → resets port value ≡ false → SameCommand old new
+port_same port value lines old new writes no_byte no_reset = either_way (port == 0x3F2)
+    (λ output.
+    let quiet : dor_resets value ≡ false =
+    sym (ap (λ b. if b then dor_resets value else (if port == 0x3F4 then dsr_resets value else false)) output) ∙ no_reset in
+    same_as old _ new (not_reset (dor_resets value) old (record old { dor = record { 0 = value } }) quiet (record { phase = refl; asking = refl; fifo = refl; seeks = refl; non_dma = refl }))
+    (writes.output (eqb-true port 0x3F2 output)))
+    (λ no_output. either_way (port == 0x3F4)
+    (λ select.
+    let quiet : dsr_resets value ≡ false =
+    sym (ap (λ b. if b then dsr_resets value else false) select)
+    ∙ (sym (ap (λ b. if b then dor_resets value else (if port == 0x3F4 then dsr_resets value else false)) no_output) ∙ no_reset) in
+    same_as old _ new (not_reset (dsr_resets value) old (record old { rate = rate_chosen value }) quiet (record { phase = refl; asking = refl; fifo = refl; seeks = refl; non_dma = refl }))
+    (writes.select (eqb-true port 0x3F4 select)))
+    (λ no_select. either_way (port == 0x3F7)
+    (λ control. same_as old _ new (record { phase = refl; asking = refl; fifo = refl; seeks = refl; non_dma = refl }) (writes.control (eqb-true port 0x3F7 control)))
+    (λ no_control. same_as old _ new (record { phase = refl; asking = refl; fifo = refl; seeks = refl; non_dma = refl }) (writes.others no_output no_select no_byte no_control))))
+
+-- a write of another port than the data port's that doesn't reset the controller
+pub port_on : (operation : Operation) (past : Past) (sent : Sent) (port value : ℕ) (lines : Lines) (old new : Fdc) → Writes port value lines old new → (port == 0x3F5) ≡ false
+    → resets port value ≡ false → MayMove operation past sent old → MayMove operation past sent new
+port_on operation past sent port value lines old new writes no_byte no_reset was =
+    same_known operation past sent old new (port_same port value lines old new writes no_byte no_reset) was
+
+pub port_busy : (port value : ℕ) (lines : Lines) (old new : Fdc) → Writes port value lines old new → (port == 0x3F5) ≡ false → resets port value ≡ false
+    → is_executing old.phase ≡ true → is_executing new.phase ≡ true
+port_busy port value lines old new writes no_byte no_reset busy = ap is_executing (port_same port value lines old new writes no_byte no_reset).phase ∙ busy
+
+pub port_mark : (port value : ℕ) (lines : Lines) (old new : Fdc) → Writes port value lines old new → (port == 0x3F5) ≡ false → resets port value ≡ false → mark_of new ≡ mark_of old
+port_mark port value lines old new writes no_byte no_reset = ap mark_of_phase (port_same port value lines old new writes no_byte no_reset).phase

@@ -1,0 +1,5 @@
+use Rattle.laws_chip.proofs.Outcome as lemmas
+use Rattle.laws_chip.proofs.several.results_say.Goals as goal
+
+pub returns : goal.returns
+returns c = lemmas.results_say

@@ -1,5 +1,0 @@
-use Rattle.laws_sequencer.proofs.Outcome.{passes_of}
-use Rattle.laws_sequencer.proofs.laws.bytes_are_of_the_sector.Goals as goal
-
-pub returns : goal.returns
-returns c = passes_of

@@ -1,5 +1,0 @@
-use Rattle.laws_sequencer.proofs.Silent.{told_silent}
-use Rattle.laws_sequencer.proofs.laws.no_byte_passes_behind_the_count.Goals as goal
-
-pub returns : goal.returns
-returns c = told_silent
