@@ -404,7 +404,7 @@ TELWYDDUS_NEWS uint32_t telwyddus_controller_plan(telwyddus_controller *controll
 
 /* A SAVED STATE is the whole controller as bytes, between any two calls, also in the middle of a command. It has the
  * drives, the media in them, what written reports, and the faults that are still to come of a plan. The format of
- * the bytes belongs to this version: they begin with the eight bytes "TELWYDD" and 3. Another format has another
+ * the bytes belongs to this version: they begin with the eight bytes "TELWYDD" and 4. Another format has another
  * last byte there, so that its bytes aren't taken for a state. */
 
 /* Writes the state to the beginning of a buffer; the controller goes on. *length is the length of the state, and is
@@ -426,7 +426,7 @@ TELWYDDUS_NEWS uint32_t telwyddus_controller_restore(telwyddus_controller *contr
 /* A BARE STATE is a saved state without the media, for an emulator that keeps each disk in a file of its own. In
  * place of a medium it has a stand-in of one empty track, which keeps the length of the tracks and the rate: an
  * image file of 25,014 bytes for 1.44 MB, 12,514 for 720 KB. The cells and the write-protect tab are left out. A
- * bare state begins with "TELWYDB" and 3. So restore refuses it with BAD_STATE, and restore_bare refuses a whole
+ * bare state begins with "TELWYDB" and 4. So restore refuses it with BAD_STATE, and restore_bare refuses a whole
  * state with BAD_STATE.
  *
  * save_bare writes it as save writes a state. The controller is then as it was, also if memory is out. DONE, EMPTY,

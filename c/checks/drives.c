@@ -255,7 +255,7 @@ static void pin(void) {
 }
 
 static void states(void) {
-    static const uint8_t name[8] = {'T', 'E', 'L', 'W', 'Y', 'D', 'D', 3};
+    static const uint8_t name[8] = {'T', 'E', 'L', 'W', 'Y', 'D', 'D', 4};
     telwyddus_controller other = {0};
     size_t length = 0;
     uint32_t nanoseconds;
@@ -325,7 +325,7 @@ static void take(uint8_t *data, size_t from, size_t to, uint8_t results[7]) {
 }
 
 static void goes_on_bare(void) {
-    static const uint8_t name[8] = {'T', 'E', 'L', 'W', 'Y', 'D', 'B', 3};
+    static const uint8_t name[8] = {'T', 'E', 'L', 'W', 'Y', 'D', 'B', 4};
     uint8_t one[SECTOR], two[SECTOR], first[7], second[7];
     size_t length;
     for (int i = 0; i < 9; i++) out(0x3F5, READ[i]);

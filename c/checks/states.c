@@ -750,8 +750,8 @@ static void each_stage(void) {
  * Counts have eight bytes, the low one first. */
 static void made_as_written(void) {
     static const uint8_t wanted[] = {
-        'T', 'E', 'L', 'W', 'Y', 'D', 'D', 3,
-        'G', 'C',
+        'T', 'E', 'L', 'W', 'Y', 'D', 'D', 4,
+        'H', 'D',
         0, 2, 0, 1, 1, 0, 0, 0,             /* DOR, the rate, non-DMA, polling, poll due, INT, DRQ, the command phase */
         0, 0, 0, 0, 0, 0, 0, 0, 0,          /* the cylinders, no seek, no results */
         0, 0, 0, 0, 0, 0, 0, 0,             /* no command bytes */
@@ -767,7 +767,7 @@ static void made_as_written(void) {
         0, 0, 0, 0, 0, 0, 0, 0, 0,
         0, 20, 0, 0, 0, 0, 0, 0, 0,
         0, 0, 0, 0, 0, 0, 0, 0, 0, 0, 0, 0, 0, 0, 0, 0, 0, 0, 0, 0,
-        0, 0, 0, 0, 0, 0, 0, 0, 0, 0, 0,    /* nothing in front, no bytes, no strap, no EIS */
+        0,                                  /* nothing in front */
         0,                                  /* nothing is under way */
         0, 0, 0, 0, 0, 0, 0, 0, 0,          /* the last command: code, HD, sector ID, EOT, gap, length */
         0,                                  /* no bytes of the next */
