@@ -52,8 +52,8 @@ fn read_four(
     flat: &[u8],
 ) -> Result<TwoResults, Trouble> {
     send(controller, &READ);
-    // The next step may change a line.
-    must(controller.quiet(1) == 0)?;
+    // The medium is still on its way to the sector, so the next step changes no line.
+    must(controller.quiet(1) == 1)?;
     let begun = read_on(alloc, controller, &[], 700)?;
     if begun.stayed {
         go_on_twice(alloc, controller, &begun.bytes, flat)
