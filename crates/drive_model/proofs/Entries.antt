@@ -3,7 +3,7 @@ use Rattle.std.proofs.Common.{◌≡◌, ℕ, zero, suc, ◌+◌, ◌<◌, true,
 use Rattle.std.proofs.Math.ListN.{set}
 use Rattle.std.proofs.lemmas.Bool.{cond-true, cond-false}
 use Rattle.std.proofs.lemmas.Grind.{common_steps}
-use Rattle.std.proofs.lemmas.List.Sums.{sum_by-set}
+use Rattle.std.proofs.lemmas.List.Sums.{get_or-le-sum_by, sum_by-set}
 use Rattle.drive_model.specs.declared.fault.Fault.{Fault}
 use Rattle.drive_model.specs.declared.fault.Fault.TheVariants.{Dropout, Cut, Lose, Stick}
 use Rattle.drive_model.specs.declared.fault.Event.{Event}
@@ -39,3 +39,9 @@ total-lowered event fs i d short here =
 -- if none of the first entries meets an event, and the next doesn't either, none of all these does
 pub none-more : (event : Event) (fs : List Fault) (k : ℕ) (d : Fault) → k < length fs → comes (take k fs) event ≡ false → meets event (get_or fs k d) ≡ false → comes (take (k + 1) fs) event ≡ false
 none-more event fs k d short before here = grind (arith, common_steps)
+
+-- if no fault of the list can come any more, this entry can't
+pub none-at : (fs : List Fault) (k : ℕ) (d : Fault) → k < length fs → total_left fs ≡ 0 → count_left (get_or fs k d) ≡ 0
+none-at fs k d short none =
+    let most = get_or-le-sum_by count_left fs k d short in
+    omega (arith, most, none)

@@ -1,9 +1,9 @@
 // What every drive does.
-ghost use Rattle.std.specs.Prelude.{◌≡◌, ◌↔◌, IsTrue, IsErr, IsSome, OnOk, IfErr, is_some, false};
+ghost use Rattle.std.specs.Prelude.{◌≡◌, ◌↔◌, IsTrue, IsErr, IsSome, OnOk, IfErr, is_some, false, Some, length};
 ghost use Rattle.drive_model.specs.Drive.{DriveState, Becomes, InRange};
 ghost use Rattle.drive_model.specs.Drive.{loaded, unloaded, with_motor, with_gate, passed, at_index};
 ghost use Rattle.drive_model.specs.Drive.{is_protected, rate_of, Pulses, Reads, Writes};
-ghost use Rattle.drive_model.specs.Ahead.{LetsPass, AreAhead};
+ghost use Rattle.drive_model.specs.Ahead.{LetsPass, AreAhead, words_left};
 
 use flop_base::Rate;
 use raw_image::Medium;
@@ -114,13 +114,11 @@ pub trait Drive: Drop {
         ensures range { InRange (state self.new) };
 
     /// Words that are certain to pass next under a head, in their order, as `read_word` would give them. The index
-    /// comes after none of them. There may be none, and a drive with a planned dropout gives only the words before it.
-    #[tactic(auto, unfolding(crate::specs::Ahead::AreAhead))]
-    fn ahead(&self, _head: u8) -> &[u16]
-        ensures { AreAhead _head result.now (state self.now) }
-    {
-        &[]
-    }
+    /// comes after none of them. If no fault can come any more, these are all words of the track that pass before its
+    /// last one. Else there may be fewer or none: a drive with a planned dropout gives only the words before it.
+    fn ahead(&self, head: u8) -> &[u16]
+        ensures ahead { AreAhead head result.now (state self.now) }
+        ensures all { (state self.now).left ≡ Some 0 → length result.now ≡ words_left head (state self.now) };
 
     /// Closes the gate and lets one word time pass, as a drive does that isn't selected.
     fn idle(&mut self)

@@ -77,6 +77,7 @@ impl Fault {
     fn words_before(self, c: u8, h: u8, place: u16, most: usize) -> usize
         ensures within { result ≤ most }
         ensures none { (i : ℕ) → i < result → meets (Read c h (place + i)) self ≡ false }
+        ensures all { count_left self ≡ 0 → result ≡ most }
     {
         match self {
             Fault::Dropout {
@@ -130,6 +131,7 @@ fn first_planned(faults: &[Fault], event: Event) -> Option<usize>
 pub(crate) fn words_before(faults: &[Fault], c: u8, h: u8, place: u16, most: usize) -> usize
     ensures within { result ≤ most }
     ensures none { (i : ℕ) → i < result → comes faults.now (Read c h (place + i)) ≡ false }
+    ensures all { total_left faults.now ≡ 0 → result ≡ most }
 {
     let mut limit = most;
     for fault in faults {

@@ -1,5 +1,5 @@
 // A drive without its faults: the parts that move, and the lines.
-ghost use Rattle.std.specs.Prelude.{◌≡◌, ◌↔◌, ◌≤◌, ◌<◌, ◌-◌, ◌||◌, ℕ, Option, Some, is_some, IsErr, IsSome, OnOk, IfOk, IfErr, IfSome, MatchOption, slice_index, false, if◌then◌else◌};
+ghost use Rattle.std.specs.Prelude.{◌≡◌, ◌↔◌, ◌≤◌, ◌<◌, ◌-◌, ◌||◌, ℕ, Option, Some, is_some, IsErr, IsSome, OnOk, IfOk, IfErr, IfSome, MatchOption, length, slice_index, false, if◌then◌else◌};
 ghost use Rattle.std.specs.Option.{ForSome};
 ghost use Rattle.raw_image.specs.Disk.{IsDisk};
 ghost use Rattle.drive_model.specs.Drive.{track_words, can_replace, rewritten};
@@ -62,7 +62,7 @@ impl Mechanics {
     ghost use Rattle.drive_model.specs.Drive.{at_speed, can_write, at_index, place_under, word_under, words_on, is_protected, rate_of};
     ghost use Rattle.drive_model.specs.Drive.{with_protection, same_length, exchanged};
     ghost use Rattle.drive_model.specs.Mechanics.{state_of, faultless, at_rest};
-    ghost use Rattle.drive_model.specs.Ahead.{LetsPass, AreAhead};
+    ghost use Rattle.drive_model.specs.Ahead.{LetsPass, AreAhead, words_left};
 
     /// A mechanism without a medium, at cylinder 0, with the change line set.
     pub(crate) fn new() -> Mechanics
@@ -290,7 +290,8 @@ impl Mechanics {
     /// The words of the track under a head that pass next, without its last; none if the medium isn't at speed.
     #[tactic(auto, unfolding(crate::specs::Ahead::AreAhead))]
     pub(crate) fn ahead(&self, head: u8) -> &[u16]
-        ensures { AreAhead head result.now (faultless self.now) }
+        ensures ahead { AreAhead head result.now (faultless self.now) }
+        ensures all { length result.now ≡ words_left head (faultless self.now) }
     {
         if !self.is_at_speed() {
             return &[];

@@ -36,6 +36,7 @@ impl Plan {
     pub(crate) fn words_before(&self, c: u8, h: u8, place: u16, most: usize) -> usize
         ensures within { result ≤ most }
         ensures none { (i : ℕ) → i < result → comes self.now (Read c h (place + i)) ≡ false }
+        ensures all { total_left self.now ≡ 0 → result ≡ most }
     {
         words_before(&self.faults, c, h, place, most)
     }

@@ -3,7 +3,7 @@ ghost use Rattle.std.specs.Prelude.{◌≡◌, ◌≤◌, ◌↔◌, length, fal
 ghost use Rattle.std.specs.Bool.{OnTrue, OnFalse};
 ghost use Rattle.flop_base.specs.Counts.{last_count, Rose};
 ghost use Rattle.drive_model.specs.Drive.{Becomes, InRange, loaded, unloaded, with_motor, with_gate, moved, passed, written, forgotten, cut_off, at_index, word_under, rate_of, Pulses, Reads, Writes};
-ghost use Rattle.drive_model.specs.Ahead.{LetsPass, AreAhead};
+ghost use Rattle.drive_model.specs.Ahead.{LetsPass, AreAhead, words_left};
 ghost use Rattle.drive_model.specs.Fault.{comes};
 
 mod saving;
@@ -276,6 +276,7 @@ impl Drive for ScriptDrive {
     #[tactic(auto, unfolding(crate::specs::Ahead::AreAhead))]
     fn ahead(&self, head: u8) -> &[u16]
         ensures ahead { AreAhead head result.now (script_state self.now) }
+        ensures all { (script_state self.now).left ≡ Some 0 → length result.now ≡ words_left head (script_state self.now) }
         ensures certain { NoneComes head (length result.now) self.now }
     {
         let words = self.mechanics.ahead(head);

@@ -75,6 +75,11 @@ impl Drive for StuckDrive {
         self.inside.write_word(head, word)
     }
 
+    #[tactic(auto, unfolding(drive_model::specs::Ahead::AreAhead))]
+    fn ahead(&self, _head: u8) -> &[u16] {
+        &[]
+    }
+
     fn faults(&self) -> u64 {
         let _inside = self.inside.faults();
         self.faults

@@ -4,8 +4,8 @@ use Rattle.drive_model.specs.Mechanics.{faultless}
 use Rattle.drive_model.proofs.Alone.{fast_ahead}
 use Rattle.drive_model.proofs.mechanics.Mechanics.ahead.Goals as goal
 
-pub returns-in-Some-track : goal.returns-in-Some-track
-returns-in-Some-track c =
+pub returns-in-Some-track-clause-ahead : goal.returns-in-Some-track-clause-ahead
+returns-in-Some-track-clause-ahead c =
     let s = faultless c.args.self.now in
     let track : List ℕ = c.in-Some-track.track.now in
     let found = c.in-Some-track.ensures.found.0 refl in

@@ -8,4 +8,4 @@ returns-clause-ahead c =
     let drive = c.args.self.now in
     let s = script_state drive in
     ahead_first c.words_before-count.result c.args.head c.ahead-words.result.now s
-    (ahead_same c.args.head c.ahead-words.result.now (faultless drive.mechanics) s.gate s.cut s.faults s.left c.ahead-words.ensures)
+    (ahead_same c.args.head c.ahead-words.result.now (faultless drive.mechanics) s.gate s.cut s.faults s.left c.ahead-words.ensures.ahead)
