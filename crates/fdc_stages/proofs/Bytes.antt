@@ -1,5 +1,5 @@
 -- The bytes of a content, one after the other.
-use Rattle.std.proofs.Common.{◌≡◌, ℕ, Bool, false, Option, None, Some, IfSome, List, [], ◌∷◌, ◌++◌, refl, sym, ap, subst}
+use Rattle.std.proofs.Common.{◌≡◌, ◌≤◌, ℕ, Bool, false, Option, None, Some, IfSome, IsNone, List, [], ◌∷◌, ◌++◌, arith, refl, sym, ap, subst}
 use Rattle.track_separator.specs.declared.state.Seen.TheVariants as seen
 use Rattle.track_separator.specs.declared.state.Separator.{Separator}
 use Rattle.track_separator.specs.Parts.{with_word}
@@ -7,7 +7,8 @@ use Rattle.track_separator.specs.Waits.{SReads, SReadSeen}
 use Rattle.track_model.specs.Fields.{content_size}
 use Rattle.fdc_stages.specs.declared.reading.ReadStage.{ReadStage}
 use Rattle.fdc_stages.specs.declared.reading.ReadStage.TheVariants.{Content}
-use Rattle.fdc_stages.specs.Readings.{HearsByte, HearsBytes}
+use Rattle.fdc_stages.specs.Readings.{HearsByte, HearsBytes, IsContent, IsWhole}
+use Rattle.fdc_stages.proofs.Lawful.{told_taken}
 use Rattle.fdc_stages.proofs.ReadWord.{byte_heard}
 
 -- what the separator's byte says of the reading
@@ -22,6 +23,16 @@ byte_comes word before now deleted stage (Some value) is reads = subst (λ stage
   same = refl;
   content = tt;
 })
+
+-- where the separator gives no byte, all bytes of the content were reported
+pub whole_without : (before : Separator) (deleted : Bool) (stage : ReadStage) (answer : Option ℕ) → stage ≡ Content before deleted
+    → (IsNone answer → (fed : List ℕ) (p q : ℕ) (other : Bool) (size taken : ℕ) → SReads before fed p q other size taken → size ≤ taken)
+    → IsNone answer → IsContent stage → IsWhole stage
+whole_without before deleted stage answer is all none content = subst IsWhole (sym is) (λ past key told was.
+    let (p, q, taken, at) = was in
+    let long = told_taken past key told before deleted p q taken at in
+    let most = all none past.seen p q deleted (content_size key.n) taken at.reads in
+    omega (arith, long, most))
 
 pub hears_none : (stage : ReadStage) → HearsBytes [] [] stage stage
 unfolding HearsBytes

@@ -125,6 +125,11 @@ told_most past key told (inr (turn, among, (p, q, count, deleted, from))) =
     let same : length told ≡ length (bytes_at turn (q + 64) count) = ap length from.bytes in
     omega arith
 
+-- as many bytes of a content were reported as have passed, but no more than the sector has
+pub told_taken : (past : Past) (key : Chrn) (told : List ℕ) (separator : Separator) (deleted : Bool) (p q taken : ℕ) → IsContentAt past key told separator deleted p q taken → length told ≡ min taken (content_size key.n)
+told_taken past key told separator deleted p q taken at =
+    ap length at.bytes ∙ length-map-range_with_len (λ i. byte_at past.seen (q + 64 + 16 * i)) 0 (min taken (content_size key.n))
+
 -- if the data field is over, as many bytes were reported as the sector has
 pub over_full : (past : Past) (key : Chrn) (told : List ℕ) (deleted good : Bool) → IsOver past key told deleted good → length told ≡ content_size key.n
 over_full past key told deleted good (turn, among, (p, q, over)) =

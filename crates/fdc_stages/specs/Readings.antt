@@ -159,6 +159,11 @@ abbrev pub IsContent : ReadStage → Type 0
 IsContent (Content separator deleted) = Unit {0}
 IsContent _ = ⊥
 
+-- all bytes of the content were reported
+abbrev pub IsWhole : ReadStage → Type 0
+IsWhole stage =
+    (past : Past) (key : Chrn) (told : List ℕ) → IsReading past key told stage → content_size key.n ≤ length told
+
 -- a word of a content, which gives this byte, and after which no index pulse comes, whatever was heard before
 pub record HearsByte (word value : ℕ) (stage next : ReadStage) : Type 0 where
   pub gives : (past : Past) (key : Chrn) (told : List ℕ) → IsReading past key told stage → IsReading (heard false word past) key (told ++ value ∷ []) next

@@ -4,7 +4,7 @@ ghost use Rattle.track_model.specs.Fields.{IsSizeCode, content_size, IsAddressAt
 ghost use Rattle.flop_base.specs.declared.key.Chrn.{Chrn};
 ghost use Rattle.fdc_stages.specs.History.{Past, begun, heard};
 ghost use Rattle.fdc_stages.specs.Searches.{IsMet, IsSearching};
-ghost use Rattle.fdc_stages.specs.Readings.{IsOver, IsWaitingAt, IsContentAt, IsReading, HasRead, read_outcome, HasHeard, FailsWell, IsFailure, KeepsMark, PassesBy, HearsByte};
+ghost use Rattle.fdc_stages.specs.Readings.{IsOver, IsWaitingAt, IsContentAt, IsReading, HasRead, read_outcome, HasHeard, FailsWell, IsFailure, KeepsMark, PassesBy, HearsByte, IsContent, IsWhole};
 
 use crate::ending::Ending;
 use crate::searching::{Search, Searched};
@@ -92,6 +92,7 @@ impl ReadStage {
     pub fn next_byte(&mut self, word: u16) -> Option<u8>
         ensures heard { IfSome result (λ value. HearsByte word value self.old self.new) }
         ensures others { IsNone result → self.new ≡ self.old }
+        ensures whole { IsNone result → IsContent self.old → IsWhole self.old }
     {
         match self {
             ReadStage::Content { separator, .. } => separator.next_byte(word),

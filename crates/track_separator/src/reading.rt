@@ -55,6 +55,8 @@ impl Separator {
             → SReads self.old fed p q deleted size taken
             → SReadSeen (with_word fed word) p q deleted size taken self.new (Seen.Byte value)) }
         ensures others { IsNone result → self.new ≡ self.old }
+        ensures whole { IsNone result → (fed : List ℕ) (p q : ℕ) (deleted : Bool) (size taken : ℕ)
+            → SReads self.old fed p q deleted size taken → size ≤ taken }
         ensures awaited { IfSome result (λ _. SAwaitsByte self.old) }
         ensures any { IfSome result (λ _. (fed : List ℕ) → SFed self.old fed → SFed self.new (with_word fed word)) }
         ensures told { IfSome result (λ value. (fed : List ℕ) → SFed self.old fed → IsTold (with_word fed word) (Seen.Byte value)) }
