@@ -29,13 +29,13 @@ use Rattle.fdc_phases.specs.declared.transfers.Reading.{Reading}
 use Rattle.fdc_core.specs.Contents.{HasRoom, with_bytes}
 use Rattle.fdc_core.specs.Courses.{IsQuiet}
 use Rattle.fdc_core.specs.Listening.{StageHears, StepsOn}
-use Rattle.fdc_core.specs.Quiet.{Foresees, HasBytesLeft, HasSingle, IsCertain, IsCertainOf, IsQuietBy, IsUnmarked, MarksNothing, MeetsNothing, past_with}
+use Rattle.fdc_core.specs.Quiet.{Foresees, HasBytesLeft, HasNoneWanted, HasSingle, IsCertain, IsCertainOf, IsQuietBy, IsUnmarked, MarksNothing, MayBeMarked, MeetsNothing, past_with}
 use Rattle.fdc_core.specs.Reading.{after_heard, after_searched, at_stage, gone_on_reading, is_full}
 use Rattle.fdc_core.specs.declared.controller.Fdc.{Fdc}
 use Rattle.fdc_core.proofs.Coursing.{id_at}
 use Rattle.fdc_core.proofs.Following.{at_reading}
 use Rattle.fdc_core.proofs.Foreseeing.{EachGoesOnWith, GoesOnWith, calm_told, hears_ahead, quiet_by, some_words}
-use Rattle.fdc_core.proofs.Quieting.{HasNoneWanted, MayBeMarked, begins_part, first_none, first_unmarked, plain_none, plain_unmarked, reads_on, searches_on, some_none, some_seen}
+use Rattle.fdc_core.proofs.Quieting.{begins_part, first_none, first_unmarked, plain_none, plain_unmarked, reads_on, searches_on, some_none, some_seen}
 use Rattle.fdc_core.proofs.Taking.{by_space, content_at, content_goes_on, not_full, room_behind, room_down, with_none}
 
 -- ---- READ ID
@@ -215,7 +215,7 @@ first_single key first rest whole is single p q one other =
     single p q (address_stays first whole part p key one) (address_stays first whole part q key other)
 
 -- before the data mark no byte is decoded
-told_nothing : (past : Past) (key : Chrn) (told : List ℕ) (stage : ReadStage) → mark_at stage ≡ None → IsReading past key told stage → told ≡ []
+pub told_nothing : (past : Past) (key : Chrn) (told : List ℕ) (stage : ReadStage) → mark_at stage ≡ None → IsReading past key told stage → told ≡ []
 told_nothing past key told (stages.Search search) none reads = reads.1
 told_nothing past key told (stages.Wait separator) none reads = reads.1
 told_nothing past key told (stages.Content separator deleted) none reads = absurd (some_none none)

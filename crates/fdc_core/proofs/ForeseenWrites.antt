@@ -24,12 +24,12 @@ use Rattle.fdc_phases.specs.declared.phases.Phase.TheVariants.{Execute}
 use Rattle.fdc_phases.specs.declared.phases.Task.TheVariants.{Write}
 use Rattle.fdc_phases.specs.declared.transfers.Writing.{Writing}
 use Rattle.fdc_core.specs.Courses.{IsQuiet}
-use Rattle.fdc_core.specs.Quiet.{Foresees, IsCertain, IsQuietBy, MeetsNothing}
+use Rattle.fdc_core.specs.Quiet.{Foresees, HasNoneWanted, IsCertain, IsQuietBy, MeetsNothing}
 use Rattle.fdc_core.specs.Writing.{HearsWord, after_next}
 use Rattle.fdc_core.specs.declared.controller.Fdc.{Fdc}
 use Rattle.fdc_core.proofs.Coursing.{writes_at}
 use Rattle.fdc_core.proofs.Foreseeing.{EachGoesOnWith, GoesOnWith, calm_told, quiet_by, some_words, writes_ahead}
-use Rattle.fdc_core.proofs.Quieting.{HasNoneWanted, first_none, plain_none, some_seen}
+use Rattle.fdc_core.proofs.Quieting.{first_none, plain_none, some_seen}
 
 -- ---- a word that a write hears in its search, and in which nothing is met
 

@@ -21,4 +21,6 @@ pub mod Quieting
 pub mod Foreseeing
 pub mod Foreseen
 pub mod ForeseenWrites
+mod Stopped
+mod Longest
 mod AddressHeard

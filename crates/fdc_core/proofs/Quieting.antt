@@ -28,15 +28,11 @@ use Rattle.fdc_stages.proofs.Lawful.{over_full, reading_told, told_most}
 use Rattle.fdc_phases.specs.Rates.{rate_fits, seen_of}
 use Rattle.fdc_phases.specs.declared.rates.DataRate.{DataRate}
 use Rattle.fdc_core.specs.Listening.{SearchHears, SeesUnder, StageHears}
-use Rattle.fdc_core.specs.Quiet.{HasBytesLeft, HasSingle, IsUnmarked, MeetsNothing, past_with}
+use Rattle.fdc_core.specs.Quiet.{HasBytesLeft, HasMostLeft, HasNoneWanted, HasSingle, IsUnmarked, MarksBy, MayBeMarked, MeetsBy, MeetsNothing, past_with}
 use Rattle.fdc_core.specs.Steps.{let_pass}
 use Rattle.fdc_core.proofs.AddressHeard.{same_words}
 
 -- ---- the words
-
--- no address field that is wanted
-abbrev pub HasNoneWanted : Option Chrn → List ℕ → Type 0
-HasNoneWanted wanted words = (p : ℕ) (key : Chrn) → Wants wanted key → IsAddressAt words p key → ⊥
 
 -- on a Plain track each address field is clear
 pub plain_none : (wanted : Option Chrn) (words : List ℕ) → IsPlain words → HasNoClear wanted words → HasNoneWanted wanted words
@@ -127,7 +123,7 @@ bytes_left count stage next was past key told at =
 
 -- ---- a search
 
-missing : (past : Past) (wanted : Option Chrn) (ending : Ending) → IsMiss ending → IsMissed past wanted ending → past.seen ≡ []
+pub missing : (past : Past) (wanted : Option Chrn) (ending : Ending) → IsMiss ending → IsMissed past wanted ending → past.seen ≡ []
 missing past wanted NoMark well is = is.0.is.nothing
 missing past wanted NoSector well is = is.0.is.nothing
 missing past wanted NoField well is = absurd well
@@ -152,11 +148,6 @@ module _ (past : Past) (word : ℕ) (search : Search) (none : HasNoneWanted None
 
 one_none : (value : ℕ) → value ∷ [] ≡ [] → ⊥
 one_none value is = let none : 1 ≡ 0 = ap length is in omega (arith, none)
-
--- the data mark of each address field of the key may still come
-abbrev pub MayBeMarked : Chrn → List ℕ → Type 0
-MayBeMarked key words =
-    (p : ℕ) → IsAddressAt words p key → (16 * length words ≤ p + 160 + 1022) × ((q : ℕ) (deleted : Bool) → IsDataMark words p q deleted → ⊥)
 
 -- nor has it come in the first of the words
 pub first_unmarked : (key : Chrn) (first rest whole : List ℕ) → first ++ rest ≡ whole → MayBeMarked key whole → MayBeMarked key first

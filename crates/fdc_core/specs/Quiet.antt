@@ -1,18 +1,27 @@
--- For how many device steps a READ ID, a READ DATA or a write surely leaves both lines as they are.
-use Rattle.std.specs.Prelude.{◌≡◌, ◌≤◌, ◌+◌, ◌++◌, ℕ, zero, suc, Bool, true, Option, None, Some, List, [], length}
-use Rattle.drive_model.specs.Ahead.{AreAhead}
-use Rattle.drive_model.specs.Drive.{DriveState}
+-- For how many device steps a READ ID, a READ DATA or a write surely leaves both lines as they are, and that no more
+-- could be told.
+use Rattle.std.specs.Prelude.{◌≡◌, ◌≤◌, ◌+◌, ◌-◌, ◌*◌, ◌++◌, ℕ, zero, suc, Bool, true, false, Option, None, Some, List, [], length}
+use Rattle.drive_model.specs.Ahead.{AreAhead, words_left}
+use Rattle.drive_model.specs.Drive.{DriveState, rate_of}
 use Rattle.flop_base.specs.declared.key.Chrn.{Chrn}
 use Rattle.raw_image.specs.Disk.{IsDisk}
-use Rattle.track_model.specs.Fields.{IsAddressAt, content_size}
+use Rattle.track_model.specs.Fields.{IsAddressAt, IsDataMark, content_size}
+use Rattle.track_model.specs.Looks.{IsFirstDataMark}
 use Rattle.track_model.specs.Sectors.{IsPlain}
+use Rattle.fdc_registers.specs.Fifo.{Fifo, wants}
 use Rattle.fdc_stages.specs.History.{Past}
-use Rattle.fdc_stages.specs.Readings.{IsReading, mark_at}
-use Rattle.fdc_stages.specs.Searches.{HasNoClear, IsSearching}
+use Rattle.fdc_stages.specs.Readings.{IsContent, IsReading, mark_at}
+use Rattle.fdc_stages.specs.Searches.{HasNoClear, IsSearching, Wants}
 use Rattle.fdc_stages.specs.declared.reading.ReadStage.{ReadStage}
 use Rattle.fdc_stages.specs.declared.searching.Search.{Search}
 use Rattle.fdc_phases.specs.Heard.{Sent}
-use Rattle.fdc_phases.specs.Phases.{head_of}
+use Rattle.fdc_phases.specs.Phases.{head_of, mark_of_phase}
+use Rattle.fdc_phases.specs.Rates.{rate_fits}
+use Rattle.fdc_phases.specs.declared.phases.Phase.{Phase}
+use Rattle.fdc_phases.specs.declared.phases.Phase.TheVariants.{Execute}
+use Rattle.fdc_phases.specs.declared.phases.Task.{Task}
+use Rattle.fdc_phases.specs.declared.phases.Task.TheVariants.{Read, Write}
+use Rattle.fdc_core.specs.Contents.{HasRoom}
 use Rattle.fdc_core.specs.Courses.{Works, HoldsLines}
 use Rattle.fdc_core.specs.Heard.{MayRead, MayReadId}
 use Rattle.fdc_core.specs.Written.{MayWrite}
@@ -54,6 +63,89 @@ pub record Foresees (count : ℕ) (fdc : Fdc) (drive : DriveState) : Type 0 wher
       → IsCertainOf sent.key (head_of sent.head_drive) past.seen drive → IsQuietBy count fdc drive
   pub writes : (past : Past) (sent : Sent) (deleted : Bool) → MayWrite past sent deleted fdc → IsCertain (head_of sent.head_drive) past.seen drive → IsQuietBy count fdc drive
 
+-- ---- what may be heard before a command meets what it looks for
+
+-- these words have no address field that is wanted
+abbrev pub HasNoneWanted : Option Chrn → List ℕ → Type 0
+HasNoneWanted wanted words = (p : ℕ) (key : Chrn) → Wants wanted key → IsAddressAt words p key → ⊥
+
+-- none of the address fields of this sector ID has had a data mark, and the mark of each may still come
+abbrev pub MayBeMarked : Chrn → List ℕ → Type 0
+MayBeMarked key words =
+    (p : ℕ) → IsAddressAt words p key
+    → (16 * length words ≤ p + 160 + 1022) × ((q : ℕ) (deleted : Bool) → IsDataMark words p q deleted → ⊥)
+
+-- after these words, the content of each data field of this sector ID goes on for more than so many words
+abbrev pub GoesOnFor : ℕ → Chrn → List ℕ → Type 0
+GoesOnFor count key words =
+    (p q : ℕ) (deleted : Bool) → IsAddressAt words p key → IsFirstDataMark words p q deleted
+    → 16 * (length words + count + 1) ≤ q + 64 + 16 * content_size key.n
+
+-- ---- the words that pass next
+
+-- DRQ would come up in the next device step, by the bytes that are in the FIFO now
+abbrev pub asks_in : Task → Fifo → Bool
+asks_in (Read reading) fifo = wants true false false fifo
+asks_in (Write writing) fifo = wants false false writing.counted fifo
+asks_in _ fifo = false
+
+abbrev pub asks_soon : Phase → Fifo → Bool
+asks_soon (Execute execution) fifo = asks_in execution.task fifo
+asks_soon _ fifo = false
+
+-- how many device steps a command may still take before its last one; none where no data command is executed
+abbrev pub steps_left : Phase → ℕ
+steps_left (Execute execution) = 65535 - execution.steps
+steps_left _ = 0
+
+-- the content of a data field is read
+abbrev pub ReadsIn : Task → Type 0
+ReadsIn (Read reading) = IsContent reading.stage
+ReadsIn _ = ⊥
+
+abbrev pub ReadsContent : Phase → Type 0
+ReadsContent (Execute execution) = ReadsIn execution.task
+ReadsContent _ = ⊥
+
+-- nothing but the words can change a line. No fault can come any more, and no poll comes. DRQ is down, and comes up only
+-- by further bytes. The controller works at the medium's rate
+pub record IsUndisturbed (fdc : Fdc) (drive : DriveState) : Type 0 where
+  pub faultless : drive.left ≡ Some 0
+  pub unpolled : fdc.poll_due ≡ false
+  pub low : fdc.asking ≡ false
+  pub stays_low : asks_soon fdc.phase fdc.fifo ≡ false
+  pub fits : rate_fits fdc.rate (rate_of drive.medium) ≡ true
+
+-- nothing but the words can change a line. At least so many of them pass before the last one of the track, and before the
+-- last step of the command
+pub record HasWords (head count : ℕ) (fdc : Fdc) (drive : DriveState) : Type 0 where
+  pub undisturbed : IsUndisturbed fdc drive
+  pub words : count ≤ words_left head drive
+  pub steps : count ≤ steps_left fdc.phase
+
+-- these words pass next under the head, and they are no more than were asked for
+pub record PassNext (head most : ℕ) (words : List ℕ) (fdc : Fdc) (drive : DriveState) : Type 0 where
+  pub has : HasWords head (length words) fdc drive
+  pub ahead : AreAhead head words drive
+  pub few : length words ≤ most
+
+-- no more device steps could be told. The number counts all words that pass next, as long as with them
+-- - a READ ID has heard no address field
+-- - a READ DATA before its data mark has met none, and the mark of each address field of its sector may still come
+-- - a write behind its first step has heard no address field of its sector
+--
+-- In the content of a READ DATA, it counts as many words as the FIFO has room for while DRQ stays down, as long as at
+-- least one more byte of the content comes
+pub record IsLongest (most count : ℕ) (fdc : Fdc) (drive : DriveState) : Type 0 where
+  pub identifies : (past : Past) (sent : ℕ) (words : List ℕ) → MayReadId past sent fdc → PassNext (head_of sent) most words fdc drive
+      → HasNoneWanted None (past.seen ++ words) → length words ≤ count
+  pub awaits : (past : Past) (sent : Sent) (words : List ℕ) → MayRead past sent fdc → mark_of_phase fdc.phase ≡ None
+      → PassNext (head_of sent.head_drive) most words fdc drive → MayBeMarked sent.key (past.seen ++ words) → length words ≤ count
+  pub reads : (past : Past) (sent : Sent) (n : ℕ) → MayRead past sent fdc → ReadsContent fdc.phase → n ≤ most
+      → HasWords (head_of sent.head_drive) (n + 1) fdc drive → HasRoom n past.counted fdc.fifo → GoesOnFor n sent.key past.seen → n ≤ count
+  pub searches : (past : Past) (sent : Sent) (deleted : Bool) (words : List ℕ) → MayWrite past sent deleted fdc → 1 ≤ past.steps
+      → PassNext (head_of sent.head_drive) most words fdc drive → HasNoneWanted (Some sent.key) (past.seen ++ words) → length words ≤ count
+
 -- ---- what the words ahead make of a search and of a reading
 
 -- these words were heard too
@@ -65,6 +157,11 @@ abbrev pub MeetsNothing : Option Chrn → List ℕ → Search → Type 0
 MeetsNothing wanted words search =
     (past : Past) → IsSearching past wanted search → HasNoClear wanted (past.seen ++ words)
 
+-- these words have an address field that is wanted, if the search would go on before the last of them
+abbrev pub MeetsBy : Option Chrn → List ℕ → Search → Type 0
+MeetsBy wanted words search =
+    (past : Past) → IsSearching past wanted search → HasNoneWanted wanted (past.seen ++ words) → ⊥
+
 -- a reading that has met no data mark
 abbrev pub IsUnmarked : Past → Chrn → ReadStage → Type 0
 IsUnmarked past key stage = IsReading past key [] stage × (mark_at stage ≡ None)
@@ -73,6 +170,16 @@ IsUnmarked past key stage = IsReading past key [] stage × (mark_at stage ≡ No
 abbrev pub MarksNothing : Chrn → List ℕ → ReadStage → Type 0
 MarksNothing key words stage =
     (past : Past) → IsUnmarked past key stage → (final : ReadStage) × IsUnmarked (past_with words past) key final
+
+-- with these words, a reading meets its data mark, or that mark can't come any more
+abbrev pub MarksBy : Chrn → List ℕ → ReadStage → Type 0
+MarksBy key words stage =
+    (past : Past) → IsUnmarked past key stage → MayBeMarked key (past.seen ++ words) → ⊥
+
+-- the content of a reading has no more bytes than this
+abbrev pub HasMostLeft : ℕ → ReadStage → Type 0
+HasMostLeft count stage =
+    (past : Past) (key : Chrn) (told : List ℕ) → IsReading past key told stage → content_size key.n ≤ length told + count
 
 -- the content of a reading has at least so many more bytes
 abbrev pub HasBytesLeft : ℕ → ReadStage → Type 0

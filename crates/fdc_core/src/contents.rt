@@ -1,5 +1,5 @@
 // The bytes of a content, in many device steps at once.
-ghost use Rattle.std.specs.Prelude.{◌≡◌, ◌≤◌, ◌+◌, ◌∷◌, [], true, false, length, take};
+ghost use Rattle.std.specs.Prelude.{◌≡◌, ◌≤◌, ◌+◌, ◌∷◌, ℕ, [], true, false, length, take};
 ghost use Rattle.drive_model.specs.Drive.{rate_of};
 ghost use Rattle.fdc_registers.specs.Fifo.{wants};
 ghost use Rattle.fdc_phases.specs.Rates.{rate_fits};
@@ -78,6 +78,7 @@ pub(crate) fn room_for(fifo: &Fifo, counted: bool, most: u32) -> u32
     requires low { wants true false false fifo.now ≡ false }
     ensures few { result ≤ most }
     ensures room { HasRoom result counted fifo.now }
+    ensures longest { (n : ℕ) → n ≤ most → HasRoom n counted fifo.now → n ≤ result }
 {
     if counted {
         return most;

@@ -1,5 +1,5 @@
 // Device steps at once.
-ghost use Rattle.std.specs.Prelude.{◌≡◌, ◌≤◌, ◌+◌, true, length, take};
+ghost use Rattle.std.specs.Prelude.{◌≡◌, ◌≤◌, ◌+◌, ◌-◌, true, length, min, take};
 ghost use Rattle.drive_model.specs.Drive.{rate_of};
 ghost use Rattle.fdc_phases.specs.Phases.{head_of};
 ghost use Rattle.fdc_phases.specs.Rates.{rate_fits};
@@ -221,6 +221,7 @@ pub(crate) fn first_words(words: &[u16], steps: u16, most: u32) -> &[u16]
     ensures first { result.now ≡ take (length result.now) words.now }
     ensures few { length result.now ≤ most }
     ensures left { steps + length result.now ≤ 65535 }
+    ensures all { length result.now ≡ min (length words.now) (min most (65535 - steps)) }
 {
     let left = LAST_STEP - steps;
     let count = words.len().min(most as usize).min(usize::from(left));

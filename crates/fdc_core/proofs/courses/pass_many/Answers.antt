@@ -10,4 +10,4 @@ returns-clause-passes g c =
     let count = c.pass_many-heard.result in
     let ahead = c.ahead.result.now in
     passes_first (head_of c.args.head_drive) c.args.steps.now _ count c.first_words-words.result.now ahead c.args.search.now c.pass_many-heard.new.self before (g.D.Drive.state c.let_pass.new.self) refl c.first_words-words.ensures.left c.first_words-words.ensures.first c.pass_many-heard.ensures.within
-    (subst (λ head. AreAhead head ahead before) c.head_of.ensures c.ahead.ensures) c.pass_many-heard.ensures.passed c.let_pass.ensures.passes
+    (subst (λ head. AreAhead head ahead before) c.head_of.ensures c.ahead.ensures.ahead) c.pass_many-heard.ensures.passed c.let_pass.ensures.passes

@@ -1,6 +1,7 @@
 use Rattle.std.proofs.Common.{◌≡◌, arith, length, refl, subst, take}
 use Rattle.fdc_core.specs.Quiet.{MeetsNothing}
 use Rattle.fdc_core.proofs.Quieting.{heard_none, hears_next, hears_nothing}
+use Rattle.fdc_core.proofs.Stopped.{meets_by}
 use Rattle.fdc_core.proofs.quiet.count_searching.Goals as goal
 
 pub loop-i-init : goal.loop-i-init
@@ -14,6 +15,8 @@ pub returns-in_default : goal.returns-in_default
 returns-in_default c = record {
   within = omega arith;
   meets = heard_none c.args.wanted (take c.loop-i.i c.args.words.now) c.args.search c.loop-i.search c.loop-i.invariant;
+  longest = λ more.
+      meets_by c.args.wanted c.args.words.now c.loop-i.i _ c.args.search c.loop-i.search c.hear.new.self c.hear.result c.loop-i-test.true refl c.loop-i.invariant c.hear.ensures.hears c.hear.ensures.well c.in_default.not-On;
 }
 
 pub returns-clause-meets : goal.returns-clause-meets

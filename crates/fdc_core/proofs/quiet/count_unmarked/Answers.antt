@@ -1,6 +1,7 @@
 use Rattle.std.proofs.Common.{◌≡◌, arith, length, refl, subst, take}
 use Rattle.fdc_core.specs.Quiet.{MarksNothing}
 use Rattle.fdc_core.proofs.Quieting.{reads_next, reads_nothing}
+use Rattle.fdc_core.proofs.Stopped.{marks_by}
 use Rattle.fdc_core.proofs.quiet.count_unmarked.Goals as goal
 
 pub loop-i-init : goal.loop-i-init
@@ -14,6 +15,11 @@ loop-i-preserved c =
 
 pub returns-then-not-is_unmarked-clause-marks : goal.returns-then-not-is_unmarked-clause-marks
 returns-then-not-is_unmarked-clause-marks c past was = (c.loop-i.stage, c.loop-i.invariant past was)
+
+pub returns-then-not-is_unmarked-clause-longest : goal.returns-then-not-is_unmarked-clause-longest
+returns-then-not-is_unmarked-clause-longest c more =
+    marks_by c.args.reading.wanted.key c.args.words.now c.loop-i.i _ c.args.reading.stage c.loop-i.stage c.hear-heard.new.self c.hear-heard.result c.loop-i-test.true refl c.loop-i.invariant
+    c.hear-heard.ensures.hears c.hear-heard.ensures.well c.hear-heard.ensures.mark (c.is_unmarked.ensures.over c.if-not-is_unmarked.true)
 
 pub returns-clause-marks : goal.returns-clause-marks
 returns-clause-marks c =
