@@ -22,5 +22,5 @@ pub mod Foreseeing
 pub mod Foreseen
 pub mod ForeseenWrites
 mod Stopped
-mod Longest
+pub mod Longest
 mod AddressHeard

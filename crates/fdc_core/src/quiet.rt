@@ -49,6 +49,7 @@ impl Fdc {
     }
 
     /// `quiet_ahead`, by the task.
+    #[tactic(auto, using(crate::proofs::Foreseeing::nothing_foreseen))]
     fn quiet_task<D: Drive>(&self, most: u32, drive: &D) -> u32
         requires quiet { IsQuiet self.now }
         requires fits { rate_fits self.now.rate (rate_of (D.state drive.now).medium) ≡ true }
@@ -60,9 +61,7 @@ impl Fdc {
         match &self.phase {
             Phase::Execute { execution } => match &execution.task {
                 Task::ReadId { search } => {
-                    let head = head_of(execution.head_drive);
-                    let words = first_words(drive.ahead(head), execution.steps, most);
-                    count_searching(*search, None, words) as u32
+                    self.quiet_identifying(execution, *search, most, drive)
                 }
                 Task::Read { reading } => self.quiet_reading(execution, reading, most, drive),
                 Task::Write { writing } => self.quiet_writing(execution, writing, most, drive),
@@ -70,6 +69,28 @@ impl Fdc {
             },
             _ => UNKNOWN,
         }
+    }
+
+    /// `quiet_ahead` of a READ ID.
+    fn quiet_identifying<D: Drive>(
+        &self,
+        execution: &Execution,
+        search: Search,
+        most: u32,
+        drive: &D,
+    ) -> u32
+        requires quiet { IsQuiet self.now }
+        requires fits { rate_fits self.now.rate (rate_of (D.state drive.now).medium) ≡ true }
+        requires range { InRange (D.state drive.now) }
+        requires executes { self.now.phase ≡ phases.Execute execution.now }
+        requires identifies { execution.now.task ≡ tasks.ReadId search }
+        ensures few { result ≤ most }
+        ensures foresees { Foresees result self.now (D.state drive.now) }
+        ensures longest { IsLongest most result self.now (D.state drive.now) }
+    {
+        let head = head_of(execution.head_drive);
+        let words = first_words(drive.ahead(head), execution.steps, most);
+        count_searching(search, None, words) as u32
     }
 
     /// `quiet_ahead` of a write, whose first step may meet a protected medium.

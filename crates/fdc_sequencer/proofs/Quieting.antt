@@ -16,7 +16,7 @@ use Rattle.fdc_phases.specs.declared.phases.Phase.TheVariants.{Command, Execute,
 use Rattle.fdc_core.specs.Courses.{HoldsLines, Works}
 use Rattle.fdc_core.specs.Drives.WordTimes.{PassesWordTime}
 use Rattle.fdc_core.specs.Listening.{is_executing}
-use Rattle.fdc_core.specs.Quiet.{Foresees, IsQuietBy, WorksBy}
+use Rattle.fdc_core.specs.Quiet.{Foresees, IsLongest, IsQuietBy, WorksBy}
 use Rattle.fdc_core.specs.State.{asks, is_held}
 use Rattle.fdc_core.specs.Steps.{Moves, MovesIn, RestsIn, Stays, let_pass, polled, seek_stepped}
 use Rattle.fdc_core.specs.Whole.{ending_told, mark_of, results_of_phase}
@@ -26,7 +26,7 @@ use Rattle.fdc_sequencer.specs.Adapters.{AdapterState, StepsAdapter, drive_at, s
 use Rattle.fdc_sequencer.specs.AdapterStill.{heads_at, steps_ahead}
 use Rattle.fdc_sequencer.specs.Fronts.{Front, asks_at, interrupts_at, results_at}
 use Rattle.fdc_sequencer.specs.Moves.{FollowsStep, IsUnderWay, MovesOn, SeeksOn, StepsFront, is_unwanted, judged_if, passed_over_if}
-use Rattle.fdc_sequencer.specs.Quiet.{ForeseesAt, ForeseesBehind, GoesAlong, GoesAlongFor, IsInCommand, IsQuietAt, IsQuietBehind, StepsFrontBy, drive_selected, seeks_at}
+use Rattle.fdc_sequencer.specs.Quiet.{ForeseesAt, ForeseesBehind, GoesAlong, GoesAlongFor, IsInCommand, IsLongestAt, IsQuietAt, IsQuietBehind, StepsFrontBy, drive_selected, executes_at, seeks_at}
 use Rattle.fdc_sequencer.specs.declared.stage.FrontStage.{FrontStage}
 use Rattle.fdc_sequencer.specs.declared.stage.FrontStage.TheVariants.{Through, Seeking, Moving, Telling}
 use Rattle.fdc_sequencer.specs.declared.transfer.Transfer.{Transfer}
@@ -55,6 +55,21 @@ foresees_seek (Seeking transfer counted) count adapter seeks = tt
 foresees_seek Through count adapter seeks = absurd (false≢true seeks)
 foresees_seek (Moving moving) count adapter seeks = absurd (false≢true seeks)
 foresees_seek (Telling results) count adapter seeks = absurd (false≢true seeks)
+
+-- no more could be told while heads go to a command's cylinder
+pub longest_seek : (stage : FrontStage) (most count : ℕ) (adapter : AdapterState) → seeks_at stage ≡ true → (is_executing adapter.controller.phase ≡ false → count ≡ min most (steps_ahead adapter)) → IsLongestAt stage most count adapter
+longest_seek (Seeking transfer counted) most count adapter seeks is = is
+longest_seek Through most count adapter seeks is = absurd (false≢true seeks)
+longest_seek (Moving moving) most count adapter seeks is = absurd (false≢true seeks)
+longest_seek (Telling results) most count adapter seeks is = absurd (false≢true seeks)
+
+-- no more could be told of a command that is executed
+pub longest_command : (stage : FrontStage) (most count : ℕ) (adapter : AdapterState) → seeks_at stage ≡ false
+    → (executes_at stage adapter.controller ≡ true → selected_at adapter ≤ 1 → IsLongest most count adapter.controller (drive_selected adapter)) → IsLongestAt stage most count adapter
+longest_command (Seeking transfer counted) most count adapter rests is = absurd (true≢false rests)
+longest_command Through most count adapter rests is = is
+longest_command (Moving moving) most count adapter rests is = is
+longest_command (Telling results) most count adapter rests is = is
 
 pub seeks_foresee : (count : ℕ) (front : Front) → seeks_at front.stage ≡ true → ForeseesBehind count front
 seeks_foresee count front seeks = foresees_seek front.stage count front.adapter seeks

@@ -1,13 +1,16 @@
--- For how many device steps a command that is executed surely changes neither line.
-use Rattle.std.specs.Prelude.{◌≡◌, ◌⊎◌, ◌≤◌, ℕ, zero, suc, Bool, true, false, None}
+-- For how many device steps a command that is executed surely changes neither line, and that no more could be told.
+use Rattle.std.specs.Prelude.{◌≡◌, ◌⊎◌, ◌≤◌, ℕ, zero, suc, min, Bool, true, false, not, if◌then◌else◌, None}
 use Rattle.drive_model.specs.Drive.{DriveState}
 use Rattle.fdc_core.specs.Listening.{is_executing}
-use Rattle.fdc_core.specs.Quiet.{Foresees, IsQuietBy}
+use Rattle.fdc_core.specs.Quiet.{Foresees, IsLongest, IsQuietBy}
+use Rattle.fdc_core.specs.Whole.{mark_of}
+use Rattle.fdc_core.specs.declared.controller.Fdc.{Fdc}
 use Rattle.fdc_sequencer.specs.Adapters.{AdapterState, drive_at, selected_at}
+use Rattle.fdc_sequencer.specs.AdapterStill.{steps_ahead}
 use Rattle.fdc_sequencer.specs.Fronts.{Front, asks_outside, interrupts_outside, results_outside}
-use Rattle.fdc_sequencer.specs.Moves.{IsUnderWay, StepsFront}
+use Rattle.fdc_sequencer.specs.Moves.{IsUnderWay, StepsFront, is_unwanted}
 use Rattle.fdc_sequencer.specs.declared.stage.FrontStage.{FrontStage}
-use Rattle.fdc_sequencer.specs.declared.stage.FrontStage.TheVariants.{Through, Seeking}
+use Rattle.fdc_sequencer.specs.declared.stage.FrontStage.TheVariants.{Through, Seeking, Moving}
 
 -- the drive that DOR selects, as contracts see it, where that is drive 0 or 1
 abbrev pub drive_selected : AdapterState → DriveState
@@ -57,3 +60,25 @@ ForeseesBehind count front = ForeseesAt front.stage count front.adapter
 -- the controller executes a command, and nothing is to be done in front while the command goes on
 abbrev pub IsInCommand : Front → Type 0
 IsInCommand front = ((front.stage ≡ Through) × (is_executing front.adapter.controller.phase ≡ true)) ⊎ IsUnderWay front
+
+-- ---- how large the number is
+
+-- the controller executes a command, and nothing is to be done in front while the command goes on. Of a command of
+-- several sectors, no field has a mark that isn't wanted
+abbrev pub executes_at : FrontStage → Fdc → Bool
+executes_at Through controller = is_executing controller.phase
+executes_at (Moving moving) controller =
+    if is_executing controller.phase then not (is_unwanted moving (mark_of controller)) else false
+executes_at _ controller = false
+
+-- no more device steps could be told. While heads go to a command's cylinder, and the controller executes no other
+-- command, the number counts all steps before their seek can end. While the controller executes a command, no more could
+-- be told of it with the drive that DOR selects
+abbrev pub IsLongestAt : FrontStage → ℕ → ℕ → AdapterState → Type 0
+IsLongestAt (Seeking _ _) most count adapter =
+    is_executing adapter.controller.phase ≡ false → count ≡ min most (steps_ahead adapter)
+IsLongestAt stage most count adapter =
+    executes_at stage adapter.controller ≡ true → selected_at adapter ≤ 1 → IsLongest most count adapter.controller (drive_selected adapter)
+
+abbrev pub IsLongestBehind : ℕ → ℕ → Front → Type 0
+IsLongestBehind most count front = IsLongestAt front.stage most count front.adapter

@@ -1,7 +1,8 @@
 // The state, and the lines that are seen outside.
-ghost use Rattle.std.specs.Prelude.{◌≡◌, ◌≤◌, IfOk, IsTrue, IsFalse, true, false, None};
+ghost use Rattle.std.specs.Prelude.{◌≡◌, ◌≤◌, IfOk, IsTrue, IsFalse, true, false, not, if◌then◌else◌, None};
 ghost use Rattle.fdc_sequencer.specs.Adapters.{controller_of, SameDrives};
 ghost use Rattle.fdc_core.specs.Dma.{to_memory_of};
+ghost use Rattle.fdc_core.specs.Listening.{is_executing};
 ghost use Rattle.fdc_core.specs.Whole.{ending_told, mark_of};
 ghost use Rattle.fdc_sequencer.specs.Fronts.{front_state, adapter_of, IsNewFront, interrupts_outside, asks_outside};
 ghost use Rattle.fdc_sequencer.specs.Moves.{HasLinesOutside, IsUnderWay, LeapsFront, RunsFront, RunsFrontWith, is_unwanted};
@@ -145,6 +146,8 @@ impl<D: Inspect> Sequencer<D> {
     pub(crate) fn goes_along(&self, moving: Moving) -> bool
         ensures goes { result ≡ true → ending_told (controller_of (adapter_of self.now)) ≡ None }
         ensures wanted { result ≡ true → is_unwanted moving (mark_of (controller_of (adapter_of self.now))) ≡ false }
+        ensures value { result ≡ (if is_executing (controller_of (adapter_of self.now)).phase
+            then not (is_unwanted moving (mark_of (controller_of (adapter_of self.now)))) else false) }
     {
         if self.adapter.is_executing() {
             return !moving.is_unwanted(self.adapter.mark());

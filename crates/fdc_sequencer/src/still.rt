@@ -1,8 +1,10 @@
 // Whether anything is done, how long the lines surely stay, and the ranges of the numbers.
-ghost use Rattle.std.specs.Prelude.{◌≡◌, ◌<◌, ◌≤◌, false, true};
+ghost use Rattle.std.specs.Prelude.{◌≡◌, ◌<◌, ◌≤◌, false, true, min};
+ghost use Rattle.fdc_core.specs.Listening.{is_executing};
 ghost use Rattle.fdc_core.specs.Ranges.{IsInRange};
+ghost use Rattle.fdc_sequencer.specs.AdapterStill.{steps_ahead};
 ghost use Rattle.fdc_sequencer.specs.Fronts.{front_state};
-ghost use Rattle.fdc_sequencer.specs.Quiet.{ForeseesBehind, GoesAlongFor, IsInCommand, IsQuietBehind, seeks_at};
+ghost use Rattle.fdc_sequencer.specs.Quiet.{ForeseesBehind, GoesAlongFor, IsInCommand, IsLongestBehind, IsQuietBehind, executes_at, seeks_at};
 ghost use Rattle.fdc_sequencer.specs.Ranges.{HasByteNumbers, HasByteRecords};
 ghost use Rattle.fdc_sequencer.specs.Still.{rests_at, stands_at, StandsFront};
 
@@ -85,11 +87,12 @@ impl<D: Inspect> Sequencer<D> {
     ///
     /// While the heads go to a command's cylinder these are the steps before their seek can end. While a READ ID, a READ
     /// DATA or the search of a write is executed the number comes from the words that pass next, and `Fdc::quiet_ahead`
-    /// says under which premises it holds. In all else it is 0.
+    /// says under which premises it holds. No more could be told (`longest`). In all else the number is 0.
     pub fn quiet_ahead(&self, most: u32) -> u32
         ensures few { result ≤ most }
         ensures foresees { ForeseesBehind result (front_state D.state self.now) }
         ensures lasts { IsQuietBehind result (front_state D.state self.now) → GoesAlongFor result (front_state D.state self.now) }
+        ensures longest { IsLongestBehind most result (front_state D.state self.now) }
     {
         if self.seeks_first() {
             return self.quiet_seek(most);
@@ -104,6 +107,8 @@ impl<D: Inspect> Sequencer<D> {
     fn quiet_seek(&self, most: u32) -> u32
         ensures few { result ≤ most }
         ensures lasts { seeks_at (front_state D.state self.now).stage ≡ true → GoesAlongFor result (front_state D.state self.now) }
+        ensures longest { is_executing (front_state D.state self.now).adapter.controller.phase ≡ false
+            → result ≡ min most (steps_ahead (front_state D.state self.now).adapter) }
     {
         if self.adapter.is_executing() {
             return UNKNOWN;
@@ -113,7 +118,8 @@ impl<D: Inspect> Sequencer<D> {
 
     /// Whether the controller executes a command, and nothing is to be done in front while the command goes on.
     fn is_in_command(&self) -> bool
-        ensures { result ≡ true → IsInCommand (front_state D.state self.now) }
+        ensures command { result ≡ true → IsInCommand (front_state D.state self.now) }
+        ensures value { result ≡ executes_at (front_state D.state self.now).stage (front_state D.state self.now).adapter.controller }
     {
         match self.stage {
             FrontStage::Through => self.adapter.is_executing(),

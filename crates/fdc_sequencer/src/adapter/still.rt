@@ -2,7 +2,7 @@
 // numbers.
 ghost use Rattle.std.specs.Prelude.{◌≡◌, ◌≤◌, true};
 ghost use Rattle.fdc_core.specs.Courses.{awaits_nothing, is_at_rest};
-ghost use Rattle.fdc_core.specs.Quiet.{Foresees};
+ghost use Rattle.fdc_core.specs.Quiet.{Foresees, IsLongest};
 ghost use Rattle.fdc_core.specs.Ranges.{IsInRange};
 ghost use Rattle.fdc_sequencer.specs.AdapterStill.{Stands, heads_at, steps_ahead};
 ghost use Rattle.fdc_sequencer.specs.Quiet.{drive_selected};
@@ -50,12 +50,14 @@ impl<D: Inspect> DisketteAdapter<D> {
     }
 
     /// This many device steps, at most `most`, surely change neither line of the controller. In them no data command
-    /// ends and no data mark is met. `Fdc::quiet_ahead` says under which premises. The number is 0 where no drive is
-    /// selected.
+    /// ends and no data mark is met. `Fdc::quiet_ahead` says under which premises, and that no more could be told
+    /// (`longest`). The number is 0 where no drive is selected.
     pub fn quiet_ahead(&self, most: u32) -> u32
         ensures few { result ≤ most }
         ensures foresees { Foresees result (controller_of self.now) (drive_selected (adapter_state D.state self.now)) }
         ensures absent { 2 ≤ selected_at (adapter_state D.state self.now) → result ≡ 0 }
+        ensures longest { selected_at (adapter_state D.state self.now) ≤ 1
+            → IsLongest most result (controller_of self.now) (drive_selected (adapter_state D.state self.now)) }
     {
         match self.selected() {
             0 => self.controller.quiet_ahead(most, &self.first),
