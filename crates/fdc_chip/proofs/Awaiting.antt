@@ -9,13 +9,20 @@ use Rattle.fdc_sequencer.specs.declared.stage.FrontStage.TheVariants.{Through, S
 use Rattle.fdc_sequencer.specs.declared.stage.FrontStage.TheVariants as front
 use Rattle.fdc_chip.specs.Chips.{ChipState, KeepsRest, asks_chip, interrupts_chip, with_front}
 use Rattle.fdc_chip.specs.Ending.{EndsAs, MayEnd, judged}
-use Rattle.fdc_chip.specs.Quiet.{IsQuietFor, StepsBy, awaits_results, takes_none}
+use Rattle.fdc_chip.specs.Quiet.{IsQuietFor, StepsBy, awaits_results, is_busy, takes_none}
 use Rattle.fdc_chip.specs.Steps.{Follows, FollowsTask, HasLinesChip, StepsChip, Swallows, SwallowsAll, SwallowsAs, SwallowsBy}
 use Rattle.fdc_chip.specs.declared.stage.ChipStage.{ChipStage}
 use Rattle.fdc_chip.specs.declared.stage.ChipStage.TheVariants.{Ready, Held, Busy, Telling}
 use Rattle.fdc_chip.specs.declared.stage.ChipTask.{ChipTask}
 use Rattle.fdc_chip.specs.declared.stage.ChipTask.TheVariants.{Sent, Sought, Refused, Verify, Track}
 use Rattle.fdc_chip.proofs.Quieting.{same_lines}
+
+-- a device step waits for results only while a command is executed
+pub awaits_busy : (stage : ChipStage) (front : FrontStage) → awaits_results stage front ≡ true → is_busy stage ≡ true
+awaits_busy (Busy task) front awaits = refl
+awaits_busy Ready front awaits = absurd (false≢true awaits)
+awaits_busy Held front awaits = absurd (false≢true awaits)
+awaits_busy (Telling results left) front awaits = absurd (false≢true awaits)
 
 -- ---- a VERIFY while the heads go to its cylinder
 

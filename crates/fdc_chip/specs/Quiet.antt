@@ -3,7 +3,7 @@ use Rattle.std.specs.Prelude.{◌≡◌, ◌⊎◌, ◌≤◌, ℕ, zero, suc, m
 use Rattle.fdc_core.specs.Courses.{awaits_nothing}
 use Rattle.fdc_sequencer.specs.AdapterStill.{steps_ahead}
 use Rattle.fdc_sequencer.specs.Fronts.{interrupts_outside, is_ready}
-use Rattle.fdc_sequencer.specs.Quiet.{ForeseesBehind, IsQuietBehind, seeks_at}
+use Rattle.fdc_sequencer.specs.Quiet.{ForeseesBehind, IsLongestBehind, IsQuietBehind, seeks_at}
 use Rattle.fdc_sequencer.specs.Still.{stands_at, StandsFront}
 use Rattle.fdc_sequencer.specs.declared.stage.FrontStage.{FrontStage}
 use Rattle.fdc_chip.specs.Chips.{ChipState, interrupts_chip, asks_chip}
@@ -134,10 +134,12 @@ awaits_results _ stage = false
 -- Where no command is executed, the number is that of `quiet_steps`, and this holds whatever the drives do. While a
 -- command is executed, the number is computed from the words that pass next, and this holds if the inner controller's
 -- own lines stay by so many steps. That is foreseen of a READ ID, a READ DATA and the search of a write if no fault can
--- come, and by what was heard of the track. While the heads go to the command's cylinder, nothing has to be known
+-- come, and by what was heard of the track. While the heads go to the command's cylinder, nothing has to be known. While
+-- a device step only waits for the results of a command, no more steps could be told (`longest`)
 pub record StaysQuiet (most : ℕ) (chip : ChipState) (count : ℕ) : Type 0 where
   pub few : count ≤ most
   pub value : is_busy chip.stage ≡ false → count ≡ quiet_steps most chip
   pub rests : is_busy chip.stage ≡ false → IsQuietFor count chip
   pub foresees : is_busy chip.stage ≡ true → ForeseesBehind count chip.front
   pub executes : is_busy chip.stage ≡ true → IsQuietBehind count chip.front → IsQuietFor count chip
+  pub longest : awaits_results chip.stage chip.front.stage ≡ true → IsLongestBehind most count chip.front

@@ -1,7 +1,7 @@
 // How long no line changes, and device steps while nothing runs; also the ranges of the inner controller's numbers.
 ghost use Rattle.std.specs.Prelude.{◌≡◌, ◌≤◌, true};
 ghost use Rattle.fdc_core.specs.Ranges.{IsInRange};
-ghost use Rattle.fdc_sequencer.specs.Quiet.{ForeseesBehind, IsQuietBehind};
+ghost use Rattle.fdc_sequencer.specs.Quiet.{ForeseesBehind, IsLongestBehind, IsQuietBehind};
 ghost use Rattle.fdc_sequencer.specs.Ranges.{HasByteNumbers};
 ghost use Rattle.fdc_chip.specs.Chips.{chip_state, interrupts_chip, asks_chip};
 ghost use Rattle.fdc_chip.specs.Quiet.{IsIdle, IsQuietFor, IsStill, StaysQuiet, awaits_heads, awaits_results, due_steps, idles, is_busy, is_for_heads, is_settled, is_still_at, quiet_steps, rests_at, takes_none, tells_alone, waits_at};
@@ -67,8 +67,9 @@ impl<D: Inspect> Chip<D> {
     /// While a command is executed, the number comes from the words that pass next, and ends before the next event. This
     /// is the address field of a READ ID or of a write, or the data mark of a READ DATA, or the next byte of its content
     /// for which the FIFO asks. The number holds if no fault can come, if the track is Plain, and if a READ DATA's sector
-    /// ID is there once. In an implied seek it is that of the steps before the seek can end. It is 0 in a write after its
-    /// search, in a FORMAT TRACK, and in a VERIFY that reads.
+    /// ID is there once. If no fault can come, no more steps could be told (`longest`). In an implied seek it is that of
+    /// the steps before the seek can end. It is 0 in a write after its search, in a FORMAT TRACK, and in a VERIFY that
+    /// reads.
     pub fn quiet(&self, most: u32) -> u32
         ensures { StaysQuiet most (chip_state D.state self.now) result }
     {
@@ -90,6 +91,8 @@ impl<D: Inspect> Chip<D> {
         ensures few { result ≤ most }
         ensures foresees { ForeseesBehind result (chip_state D.state self.now).front }
         ensures lines { IsQuietBehind result (chip_state D.state self.now).front → IsQuietFor result (chip_state D.state self.now) }
+        ensures longest { awaits_results (chip_state D.state self.now).stage (chip_state D.state self.now).front.stage ≡ true
+            → IsLongestBehind most result (chip_state D.state self.now).front }
     {
         if self.awaits_results() {
             return self.behind.quiet_ahead(most);

@@ -132,7 +132,7 @@ pub record PassNext (head most : ℕ) (words : List ℕ) (fdc : Fdc) (drive : Dr
 -- no more device steps could be told. The number counts all words that pass next, as long as with them
 -- - a READ ID has heard no address field
 -- - a READ DATA before its data mark has met none, and the mark of each address field of its sector may still come
--- - a write behind its first step has heard no address field of its sector
+-- - a write, after its first step, has heard no address field of its sector
 --
 -- In the content of a READ DATA, it counts as many words as the FIFO has room for while DRQ stays down, as long as at
 -- least one more byte of the content comes

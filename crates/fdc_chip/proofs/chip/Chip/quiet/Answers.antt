@@ -1,6 +1,7 @@
 use Rattle.std.proofs.Common.{◌≡◌, false, sym, true, ◌∙◌}
 use Rattle.std.proofs.lemmas.Bool.{false≢true, true≢false}
 use Rattle.fdc_chip.specs.Quiet.{is_busy}
+use Rattle.fdc_chip.proofs.Awaiting.{awaits_busy}
 use Rattle.fdc_chip.proofs.chip.Chip.quiet.Goals as goal
 
 pub returns-then-is_busy : goal.returns-then-is_busy
@@ -12,6 +13,7 @@ returns-then-is_busy g c =
       rests = λ none. absurd (true≢false (sym busy ∙ none));
       foresees = λ is. c.quiet_busy.ensures.foresees;
       executes = λ is. c.quiet_busy.ensures.lines;
+      longest = c.quiet_busy.ensures.longest;
     }
 
 pub returns : goal.returns
@@ -23,4 +25,5 @@ returns g c =
       rests = λ is. c.quiet_idle.ensures.lines;
       foresees = λ busy. absurd (false≢true (sym idle ∙ busy));
       executes = λ busy. absurd (false≢true (sym idle ∙ busy));
+      longest = λ awaits. absurd (false≢true (sym idle ∙ awaits_busy c.args.self.now.stage c.args.self.now.behind.stage awaits));
     }
