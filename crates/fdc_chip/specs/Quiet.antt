@@ -135,7 +135,7 @@ awaits_results _ stage = false
 -- command is executed, the number is computed from the words that pass next, and this holds if the inner controller's
 -- own lines stay by so many steps. That is foreseen of a READ ID, a READ DATA and the search of a write if no fault can
 -- come, and by what was heard of the track. While the heads go to the command's cylinder, nothing has to be known. While
--- a device step only waits for the results of a command, no more steps could be told (`longest`)
+-- a device step only waits for the results of a command, `longest` says how large the number is
 pub record StaysQuiet (most : ℕ) (chip : ChipState) (count : ℕ) : Type 0 where
   pub few : count ≤ most
   pub value : is_busy chip.stage ≡ false → count ≡ quiet_steps most chip

@@ -1,4 +1,4 @@
--- No more device steps could be told to change neither line.
+-- How many device steps are told at least, in which neither line changes.
 use Rattle.std.proofs.Common.{◌≡◌, ◌≤◌, ◌<◌, ◌+◌, ◌-◌, ◌*◌, ℕ, Bool, true, false, List, [], ◌∷◌, ◌++◌, length, min, take, drop, replicate, None, Some, refl, sym, ap, subst, ◌∙◌, inl, inr, arith, length-append, length-take-le}
 use Rattle.std.proofs.lemmas.Bool.{cases_lt, false≢true}
 use Rattle.std.proofs.lemmas.List.{append_assoc, length-replicate, take-append-drop}

@@ -1,5 +1,5 @@
--- For how many device steps a READ ID, a READ DATA or a write surely leaves both lines as they are, and that no more
--- could be told.
+-- For how many device steps a READ ID, a READ DATA or a write surely leaves both lines as they are, and how large the
+-- number is at least.
 use Rattle.std.specs.Prelude.{◌≡◌, ◌≤◌, ◌+◌, ◌-◌, ◌*◌, ◌++◌, ℕ, zero, suc, Bool, true, false, Option, None, Some, List, [], length}
 use Rattle.drive_model.specs.Ahead.{AreAhead, words_left}
 use Rattle.drive_model.specs.Drive.{DriveState, rate_of}
@@ -129,13 +129,13 @@ pub record PassNext (head most : ℕ) (words : List ℕ) (fdc : Fdc) (drive : Dr
   pub ahead : AreAhead head words drive
   pub few : length words ≤ most
 
--- no more device steps could be told. The number counts all words that pass next, as long as with them
+-- how large the number is at least. It counts all words that pass next, as long as with them
 -- - a READ ID has heard no address field
 -- - a READ DATA before its data mark has met none, and the mark of each address field of its sector may still come
 -- - a write, after its first step, has heard no address field of its sector
 --
--- In the content of a READ DATA, it counts as many words as the FIFO has room for while DRQ stays down, as long as at
--- least one more byte of the content comes
+-- In the content of a READ DATA, it counts as many words as the FIFO has room for while DRQ stays down. After these words
+-- one more byte of the content has to come, still before the last word of the track
 pub record IsLongest (most count : ℕ) (fdc : Fdc) (drive : DriveState) : Type 0 where
   pub identifies : (past : Past) (sent : ℕ) (words : List ℕ) → MayReadId past sent fdc → PassNext (head_of sent) most words fdc drive
       → HasNoneWanted None (past.seen ++ words) → length words ≤ count

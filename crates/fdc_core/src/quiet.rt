@@ -27,9 +27,9 @@ impl Fdc {
     ///
     /// In a READ ID these are the steps until an address field ends, and in a write those until the address field of its
     /// sector ends. In a READ DATA they are those until the data mark, and then those until the FIFO asks or the last byte
-    /// of the content comes. The index ends them too. If no fault can come, the number counts all of these steps but the
-    /// last (`longest`). It is 0 in all other cases, in the first step of a write, while DRQ is up, and at another rate
-    /// than the medium's.
+    /// of the content comes. The index ends them too. If no fault can come, `longest` says how large the number is at
+    /// least. It is 0 in all other cases, in the first step of a write, while DRQ is up, and at another rate than the
+    /// medium's.
     pub fn quiet_ahead<D: Drive>(&self, most: u32, drive: &D) -> u32
         ensures few { result ≤ most }
         ensures foresees { Foresees result self.now (D.state drive.now) }

@@ -56,14 +56,14 @@ foresees_seek Through count adapter seeks = absurd (false≢true seeks)
 foresees_seek (Moving moving) count adapter seeks = absurd (false≢true seeks)
 foresees_seek (Telling results) count adapter seeks = absurd (false≢true seeks)
 
--- no more could be told while heads go to a command's cylinder
+-- how large the number is while heads go to a command's cylinder
 pub longest_seek : (stage : FrontStage) (most count : ℕ) (adapter : AdapterState) → seeks_at stage ≡ true → (is_executing adapter.controller.phase ≡ false → count ≡ min most (steps_ahead adapter)) → IsLongestAt stage most count adapter
 longest_seek (Seeking transfer counted) most count adapter seeks is = is
 longest_seek Through most count adapter seeks is = absurd (false≢true seeks)
 longest_seek (Moving moving) most count adapter seeks is = absurd (false≢true seeks)
 longest_seek (Telling results) most count adapter seeks is = absurd (false≢true seeks)
 
--- no more could be told of a command that is executed
+-- how large the number is while a command is executed
 pub longest_command : (stage : FrontStage) (most count : ℕ) (adapter : AdapterState) → seeks_at stage ≡ false
     → (executes_at stage adapter.controller ≡ true → selected_at adapter ≤ 1 → IsLongest most count adapter.controller (drive_selected adapter)) → IsLongestAt stage most count adapter
 longest_command (Seeking transfer counted) most count adapter rests is = absurd (true≢false rests)

@@ -1,4 +1,4 @@
--- For how many device steps a command that is executed surely changes neither line, and that no more could be told.
+-- For how many device steps a command that is executed surely changes neither line, and how large the number is.
 use Rattle.std.specs.Prelude.{◌≡◌, ◌⊎◌, ◌≤◌, ℕ, zero, suc, min, Bool, true, false, not, if◌then◌else◌, None}
 use Rattle.drive_model.specs.Drive.{DriveState}
 use Rattle.fdc_core.specs.Listening.{is_executing}
@@ -71,9 +71,9 @@ executes_at (Moving moving) controller =
     if is_executing controller.phase then not (is_unwanted moving (mark_of controller)) else false
 executes_at _ controller = false
 
--- no more device steps could be told. While heads go to a command's cylinder, and the controller executes no other
--- command, the number counts all steps before their seek can end. While the controller executes a command, no more could
--- be told of it with the drive that DOR selects
+-- how large the number is. While heads go to a command's cylinder, and the controller executes no other command, it
+-- counts all steps before their seek can end, as long as they aren't more than were asked for. While the controller
+-- executes a command, it's as large as that of the controller with the drive that DOR selects
 abbrev pub IsLongestAt : FrontStage → ℕ → ℕ → AdapterState → Type 0
 IsLongestAt (Seeking _ _) most count adapter =
     is_executing adapter.controller.phase ≡ false → count ≡ min most (steps_ahead adapter)

@@ -50,8 +50,8 @@ impl<D: Inspect> DisketteAdapter<D> {
     }
 
     /// This many device steps, at most `most`, surely change neither line of the controller. In them no data command
-    /// ends and no data mark is met. `Fdc::quiet_ahead` says under which premises, and that no more could be told
-    /// (`longest`). The number is 0 where no drive is selected.
+    /// ends and no data mark is met. `Fdc::quiet_ahead` says under which premises, and how large the number is at least
+    /// (`longest`). It is 0 where no drive is selected.
     pub fn quiet_ahead(&self, most: u32) -> u32
         ensures few { result ≤ most }
         ensures foresees { Foresees result (controller_of self.now) (drive_selected (adapter_state D.state self.now)) }
