@@ -3,6 +3,7 @@ also if a process is killed meanwhile."""
 from __future__ import annotations
 
 import signal
+import threading
 from collections.abc import Callable, Generator, Iterator, Sequence
 from concurrent.futures import FIRST_COMPLETED, Future, ProcessPoolExecutor, wait
 from concurrent.futures.process import BrokenProcessPool
@@ -17,25 +18,35 @@ Answers = Generator[tuple[int, "Answer | None"], None, None]
 
 
 # What stops this process. A worker has its own way with it.
-STOPS = {signal.SIGINT, signal.SIGTERM}
+STOPS = (signal.SIGINT, signal.SIGTERM)
 
 
 def begin_worker() -> None:
     """Leaves Ctrl-C to the process that waits for the workers, and lets SIGTERM end a worker at once."""
     signal.signal(signal.SIGINT, signal.SIG_IGN)
     signal.signal(signal.SIGTERM, signal.SIG_DFL)
-    signal.pthread_sigmask(signal.SIG_UNBLOCK, STOPS)
 
 
 @contextmanager
 def signals_held() -> Iterator[None]:
     """Keeps back what stops this process, while it starts others. If it were stopped between two of them, it would wait
-    at its end for the first, to which nobody says that no work comes."""
-    before = signal.pthread_sigmask(signal.SIG_BLOCK, STOPS)
+    at its end for the first, to which nobody says that no work comes.
+
+    A signal is kept back by its handler. To block it in this thread alone isn't enough: another thread, such as that of
+    a progress line, would then get it, and Python lets the main thread handle it all the same."""
+    if threading.current_thread() is not threading.main_thread():
+        # No handler runs in another thread.
+        yield
+        return
+    came: list[int] = []
+    before = {number: signal.signal(number, lambda number, _: came.append(number)) for number in STOPS}
     try:
         yield
     finally:
-        signal.pthread_sigmask(signal.SIG_SETMASK, before)
+        for number, handler in before.items():
+            signal.signal(number, signal.SIG_DFL if handler is None else handler)
+        for number in came:
+            signal.raise_signal(number)
 
 
 def new_pool(jobs: int) -> ProcessPoolExecutor:

@@ -39,6 +39,9 @@ settings.load_profile("telwyddus")
 
 def pytest_configure(config: pytest.Config) -> None:
     config.stash[places] = os.dup(2)
+    # A shell lets what it starts in the background ignore SIGINT. The tests send it to themselves and to what they start.
+    if signal.getsignal(signal.SIGINT) is signal.SIG_IGN:
+        signal.signal(signal.SIGINT, signal.default_int_handler)
 
 
 @pytest.hookimpl(hookwrapper=True, tryfirst=True)
