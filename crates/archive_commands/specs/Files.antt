@@ -1,17 +1,12 @@
 -- The files of a command: what the file that it loads holds, and why its bytes aren't there.
 use Rattle.std.specs.Prelude.{◌≡◌, ◌≢◌, ◌≤◌, ℕ, List, length, Option, Some, Result, Ok, Err, Vec, IfSome, IsSomeAnd, IsErrOf}
-use Rattle.std.specs.declared.alloc.Global.{Global}
-use Rattle.flop_base.specs.Shelf.{Files, file_at}
+use Rattle.archive_commands.specs.Common.{Global, Files, file_at, Status, ImageError, Stop, Blames}
 use Rattle.flop_base.specs.declared.answers.LoadError.{LoadError}
 use Rattle.flop_base.specs.declared.answers.LoadError.TheVariants as load
 use Rattle.flop_base.specs.declared.answers.StoreError.{StoreError}
 use Rattle.flop_base.specs.declared.answers.StoreError.TheVariants as store
-use Rattle.flop_base.specs.declared.answers.Status.{Status}
 use Rattle.flop_base.specs.declared.answers.Status.TheVariants as status
-use Rattle.raw_image.specs.declared.error.ImageError.{ImageError}
-use Rattle.sector_model.specs.declared.reply.Stop.{Stop}
 use Rattle.sector_model.specs.declared.reply.Stop.TheVariants as stop
-use Rattle.sector_model.specs.Faults.{Blames}
 use Rattle.sector_model.specs.Steps.{most_image_bytes, IsAbsent, IsLonger}
 
 -- all that a command may change: the told files and the told report

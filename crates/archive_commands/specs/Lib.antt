@@ -1,3 +1,4 @@
+pub mod Common
 pub mod Files
 pub mod Halts
 pub mod Making

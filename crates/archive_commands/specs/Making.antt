@@ -1,23 +1,14 @@
 -- The commands that make a file of another.
 use Rattle.std.specs.Prelude.{◌≡◌, ℕ, List, [], ◌∷◌, ◌++◌, length, codes, Option, Result, Ok, Err}
 use Rattle.std.specs.Fmt.{decimal}
-use Rattle.flop_base.specs.Shelf.{Files, stored}
-use Rattle.flop_base.specs.declared.answers.Status.{Status}
+use Rattle.archive_commands.specs.Common.{Files, stored, Status, Disk, image_of, file_of, ImageError, ImdImage, imd_of, HasImage, stop_lines, stop_status, Prints}
 use Rattle.flop_base.specs.declared.answers.Status.TheVariants as status
-use Rattle.raw_image.specs.Disk.{Disk}
-use Rattle.raw_image.specs.Image.{image_of, file_of}
-use Rattle.raw_image.specs.declared.error.ImageError.{ImageError}
-use Rattle.imagedisk.specs.declared.image.ImdImage.{ImdImage}
-use Rattle.imagedisk.specs.Reading.{image_of as imd_of}
 use Rattle.imagedisk.specs.Writing.{file_of as imd_file_of}
 use Rattle.imagedisk.specs.declared.error.ImdError.TheVariants as imd
-use Rattle.imagedisk.specs.Found.{HasImage}
 use Rattle.imagedisk.specs.Made.{MakesDisk}
 use Rattle.imagedisk.specs.Taken.{TakesDisk}
 use Rattle.remaster.specs.declared.error.RemasterError.TheVariants as remaster
 use Rattle.remaster.specs.Remastered.{Remasters}
-use Rattle.sector_model.specs.Texts.{stop_lines, stop_status}
-use Rattle.sector_model.specs.Plays.{Prints}
 use Rattle.track_format.specs.Gaps.{wide_gap}
 use Rattle.commands.specs.LastLines.{unfit_text}
 use Rattle.archive_commands.specs.declared.halt.Halt.{Halt}

@@ -1,18 +1,11 @@
 -- The survey of a disk as it is printed, and what it counts.
 use Rattle.std.specs.Prelude.{◌≡◌, ℕ, Bool, true, false, List, [], ◌∷◌, ◌++◌, length, map, filter, Option, Result, Ok, Err, Vec}
-use Rattle.std.specs.declared.alloc.Global.{Global}
-use Rattle.flop_base.specs.Shelf.{Files}
-use Rattle.flop_base.specs.declared.answers.Status.{Status}
+use Rattle.archive_commands.specs.Common.{Global, Files, Status, Disk, image_of, Stop, stop_lines, stop_status, line_end, Prints}
 use Rattle.flop_base.specs.declared.answers.Status.TheVariants as status
-use Rattle.raw_image.specs.Disk.{Disk}
-use Rattle.raw_image.specs.Image.{image_of}
 use Rattle.track_model.specs.declared.Look.{Look}
 use Rattle.track_model.specs.declared.Look.TheVariants.{Found, NoMark, NoSector, NoData, BadCrc}
 use Rattle.remaster.specs.declared.lines.SurveyLine.{SurveyLine}
 use Rattle.remaster.specs.Survey.{IsSurvey, line_text, end_text}
-use Rattle.sector_model.specs.declared.reply.Stop.{Stop}
-use Rattle.sector_model.specs.Texts.{stop_lines, stop_status, line_end}
-use Rattle.sector_model.specs.Plays.{Prints}
 use Rattle.archive_commands.specs.Files.{Outside, ReadsAs, StopsAt}
 
 -- a line for each address field

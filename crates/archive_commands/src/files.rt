@@ -1,10 +1,7 @@
 // The files that commands load and store.
 ghost use Rattle.std.specs.Prelude.{◌≡◌, Ok, IfOk, IfErr, OnOk, OnErr, IsErrOf};
-ghost use Rattle.flop_base.specs.Shelf.{stored};
-ghost use Rattle.raw_image.specs.Image.{image_of};
+ghost use Rattle.archive_commands.specs.Common.{stored, image_of, imd_of, Blames};
 ghost use Rattle.imagedisk.specs.Images.{IsImdImage};
-ghost use Rattle.imagedisk.specs.Reading.{image_of as imd_of};
-ghost use Rattle.sector_model.specs.Faults.{Blames};
 ghost use Rattle.sector_model.specs.Runs.{IsEndStop};
 ghost use Rattle.archive_commands.specs.Files.{GivesBytes, Loaded, LoadStops, Reads, StoreStops, faulty_files_of};
 

@@ -1,10 +1,6 @@
 // What is known of the files that commands make.
 ghost use Rattle.std.specs.Prelude.{◌≡◌, ℕ, List, Ok};
-ghost use Rattle.raw_image.specs.Disk.{Disk};
-ghost use Rattle.raw_image.specs.Image.{file_of};
-ghost use Rattle.imagedisk.specs.declared.image.ImdImage.{ImdImage};
-ghost use Rattle.imagedisk.specs.Found.{SharesSectors};
-ghost use Rattle.imagedisk.specs.Reading.{image_of as imd_of};
+ghost use Rattle.archive_commands.specs.Common.{Disk, file_of, ImdImage, SharesSectors, imd_of};
 ghost use Rattle.archive_commands.specs.Making.{IsDiskFile, IsImdFile};
 
 /// A law: take the ImageDisk file of a disk, and the disk that is made of that file. It has the same sectors as the

@@ -1,6 +1,6 @@
 // The commands that make a file of another.
 ghost use Rattle.std.specs.Prelude.{IsErrOf};
-ghost use Rattle.sector_model.specs.Faults.{Blames};
+ghost use Rattle.archive_commands.specs.Common.{Blames};
 ghost use Rattle.archive_commands.specs.Files.{faulty_outside_of, RanOnFiles};
 ghost use Rattle.archive_commands.specs.Making.{MakesFromImd, MakesToImd, MakesRemaster, FromImd, ToImd, Remaster};
 

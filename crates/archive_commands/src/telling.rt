@@ -1,6 +1,6 @@
 // The last line of a command that makes a file of another.
 ghost use Rattle.std.specs.Prelude.{◌≡◌, ◌≢◌, Err, IfOk, string_bytes};
-ghost use Rattle.sector_model.specs.Faults.{Blames};
+ghost use Rattle.archive_commands.specs.Common.{Blames};
 ghost use Rattle.sector_model.specs.declared.reply.Stop.TheVariants as stop;
 ghost use Rattle.archive_commands.specs.Making.{made_text, Tells};
 

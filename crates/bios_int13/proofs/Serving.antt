@@ -1,19 +1,14 @@
 -- What a call of INT 13h runs: requests for records, one after the other, and requests that put memory back.
 use Rattle.std.proofs.Common.{◌≡◌, ℕ, suc, ◌+◌, ◌-◌, ◌<◌, ◌≤◌, Bool, true, false, List, [], ◌∷◌, ◌++◌, length, take, drop, map, min, refl, sym, ap, ◌∙◌, subst, arith, inl, inr, Option, None, Result, Ok, Err, append_assoc, length-append, length-take, length-drop, drop-cons}
 use Rattle.std.specs.Prelude.{◌||◌, MatchBool, MatchOption, slice_index, ◌⊎◌, not, IfErr, if◌then◌else◌}
-use Rattle.std.specs.List.{range_with_len}
-use Rattle.std.proofs.lemmas.List.{take-append-drop, take-append-le, take_all, take_more, drop-drop, get_or-take, get_or-drop}
+use Rattle.bios_int13.proofs.Common.{range_with_len, take-append-drop, take-append-le, take_all, take_more, drop-drop, get_or-take, get_or-drop, same_number_lists, Files, bytes_from, SameOutside, Request, Taken, has_refusal, Kind, Read, Write, Verify, Work, MovesRecord, MovesIn, VerifiesRecords, DoesWork, AcksAlone, Transfers, look_at, ack_code, AreDone, MovesRecords, record_request, record_behind, place_of_record, put_request}
 use Rattle.std.proofs.lemmas.Bool.{true≢false, le-leb}
 use Rattle.std.proofs.lemmas.Slice.{drop-append-drop}
 use Rattle.std.proofs.lemmas.List.FromFn.{map-range_with_len_more, take-map-range_with_len, get_or-map-range_with_len, length-map-range_with_len}
-use Rattle.std.proofs.lemmas.Grind.{same_number_lists}
 use Rattle.flop_base.specs.Numbers.{code_number}
-use Rattle.flop_base.specs.Shelf.{Files}
 use Rattle.flop_base.specs.declared.key.Chrn.{Chrn}
 use Rattle.flop_base.specs.declared.answers.Code.{Code}
 use Rattle.flop_base.specs.Lists.{with_items}
-use Rattle.flop_base.specs.Memory.{bytes_from, SameOutside}
-use Rattle.floppy_jobs.specs.declared.request.Request.{Request}
 use Rattle.floppy_jobs.specs.declared.request.Request.TheVariants as request
 use Rattle.sector_model.specs.declared.reply.Reply.{Reply}
 use Rattle.sector_model.specs.declared.reply.Reply.TheVariants as reply
@@ -22,14 +17,10 @@ use Rattle.sector_model.specs.Orders.{is_acknowledged}
 use Rattle.sector_model.specs.States.{State, IsSame}
 use Rattle.sector_model.specs.Steps.{Step, Fills, IsRefused, unless_bad, read_reply, reply_of}
 use Rattle.sector_model.specs.Texts.{is_refusal}
-use Rattle.sector_model.specs.Runs.{Taken, has_refusal}
 use Rattle.sector_model.proofs.Runs.{run_more, requests_more, refusal_more}
 use Rattle.flop_base.specs.declared.answers.Code.TheVariants.{NotReady}
-use Rattle.bios_int13.specs.declared.work.Kind.{Kind}
-use Rattle.bios_int13.specs.declared.work.Kind.TheVariants.{Read, Write, Verify}
-use Rattle.bios_int13.specs.declared.work.Work.{Work}
 use Rattle.bios_int13.specs.declared.work.Work.TheVariants.{Changed, Move}
-use Rattle.bios_int13.specs.Services.{MovesRecord, MovesIn, VerifiesRecords, DoesWork, AcksAlone, Transfers, look_at, ack_code, AreDone, MovesRecords, record_request, record_behind, place_of_record, record_requests, put_requests, put_request}
+use Rattle.bios_int13.specs.Services.{record_requests, put_requests}
 
 -- ---- Requests that are done one after the other.
 
@@ -51,8 +42,6 @@ done_more requests more next answer old mid new told course is done fine step =
 -- ---- The requests of a transfer.
 
 module _ (kind : Kind) (bay : ℕ) (first : Chrn) (address : ℕ) where
-  at_record : ℕ → Request
-  at_record i = record_request kind bay (record_behind first i) (place_of_record kind address i)
 
   pub no_records : record_requests kind bay first address 0 ≡ []
   unfolding record_requests
@@ -205,11 +194,10 @@ transfers_moves kind bay first count address old looked new told code moved chan
 
 -- the records of a read or a write
 pub moves_in : (kind : Kind) (address : ℕ) (requests : List Request) (old new : State) (told : Option Files) (code moved : ℕ) → ((kind ≡ Read) ⊎ (kind ≡ Write)) → ((course : List Taken) × MovesRecords requests old told course code moved new) → (course : List Taken) × MovesIn kind address requests old told course code moved new
-moves_in Read address requests old new told code moved is moves = moves
-moves_in Write address requests old new told code moved is moves = moves
 moves_in Verify address requests old new told code moved is moves = elim is [
   | inl read ↦ absurd (cc read)
   | inr write ↦ absurd (cc write)
+moves_in _ address requests old new told code moved is moves = moves
 ]
 
 -- ---- Bytes that are put back.

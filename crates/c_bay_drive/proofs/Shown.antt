@@ -1,6 +1,6 @@
 -- What a drive within does, as it is seen through a cable, with another answer to whether a word of the medium was
 -- replaced.
-use Rattle.std.proofs.Common.{◌≡◌, ◌≤◌, ℕ, zero, suc, Bool, true, false, List, [], ◌∷◌, Option, Some, None, ap, refl}
+use Rattle.std.proofs.Common.{◌≡◌, ◌≤◌, ℕ, zero, suc, Bool, true, false, List, [], ◌∷◌, Option, None, ap, refl}
 use Rattle.std.specs.Coded.{le_prop}
 use Rattle.flop_base.specs.Counts.{last_count}
 use Rattle.drive_model.specs.Ahead.{LetsPass, AreAhead}

@@ -4,9 +4,8 @@ use mathlib.Core.List.{[]}
 use denote.RattleType.{RattleType}
 use denote.Param.Laws.{Laws}
 use denote.Param.Send.{IsSend}
-use Rattle.std.proofs.BoxSteps.Form.{Bx}
+use Rattle.c_slots.proofs.Common.{Bx, ghosts, dict, controller_row, desk_row, machine_row, shelf_row, tray_row}
 use Rattle.std.specs.contracts.alloc.Global as Heap
-use Rattle.std.specs.contracts.prelude.GlobalAllocator.TheImpl.{ghosts, dict}
 use Rattle.std.proofs.alloc.Global.TheLaws as heap
 use Rattle.c_bay_drive.specs.contracts.bay.BayDrive as bay_drive
 use Rattle.c_bay_drive.proofs.bay.BayDrive.TheLaws as bay_laws
@@ -24,11 +23,6 @@ use Rattle.memory_files.proofs.shelf.RunShelf.TheLaws as shelf_laws
 use Rattle.memory_files.proofs.shelf.RunShelf.TheSendSync as shelf_crossing
 use Rattle.c_slots.proofs.MediumTray.TheLaws as tray_laws
 use Rattle.c_slots.proofs.MediumTray.TheSendSync as tray_crossing
-use Rattle.c_slots.specs.Controllers.{controller_row}
-use Rattle.c_slots.specs.Disks.{desk_row}
-use Rattle.c_slots.specs.Machines.{machine_row}
-use Rattle.c_slots.specs.Shelves.{shelf_row}
-use Rattle.c_slots.specs.Trays.{tray_row}
 
 -- a box on the heap
 abbrev pub on_heap : (R : RattleType) → Laws R → Bx

@@ -1,13 +1,8 @@
 -- The lines of a dump, one after the other, and what is put of them.
 use Rattle.std.proofs.Common.{arith, map, zero, subst, inl, inr, length-drop, ◌≡◌, ℕ, ◌+◌, ◌-◌, ◌*◌, ◌/◌, ◌%◌, ◌<◌, suc, min, List, [], ◌∷◌, ◌++◌, length, take, drop, append_assoc, append-nil, refl, ap, ◌∙◌, sym, Option, Some, None}
-use Rattle.std.specs.List.{range_with_len, flat_map}
-use Rattle.std.proofs.lemmas.List.{take_all, map-append}
-use Rattle.std.proofs.lemmas.Bool.{cases_lt}
+use Rattle.commands.proofs.Common.{range_with_len, flat_map, take_all, map-append, cases_lt, Status, grown, IsCutOf, GrowsByPart, hex5, dump_byte, line_end}
 use Rattle.std.specs.Prelude.{Result, Ok, Err, OnErr}
-use Rattle.flop_base.specs.declared.answers.Status.{Status}
-use Rattle.flop_base.specs.Sink.{grown, IsCutOf, GrowsByPart}
-use Rattle.floppy_jobs.specs.Spelling.{hex5}
-use Rattle.sector_model.specs.Texts.{dump_byte, dump_line, dump_lines, line_end}
+use Rattle.sector_model.specs.Texts.{dump_line, dump_lines}
 
 -- the first lines of a dump
 unfoldable pub lines_below : ℕ → List ℕ → ℕ → List (List ℕ)

@@ -1,3 +1,4 @@
+mod Common
 pub mod Running
 pub mod Looping
 pub mod Reading

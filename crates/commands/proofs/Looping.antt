@@ -1,10 +1,7 @@
 -- The turns of a loop over numbers.
 use Rattle.std.proofs.Common.{rules, arith, ◌≡◌, ◌<◌, ◌≤◌, ℕ, zero, suc, ◌+◌, ◌-◌, refl, ap, ◌∙◌, sym, subst, Ok, Err, Result}
-use Rattle.flop_base.specs.declared.answers.Status.{Status}
-use Rattle.sector_model.specs.Plays.{World}
-use Rattle.commands.specs.Scripts.{Script}
-use Rattle.commands.specs.Parts.{Part, through, each}
-use Rattle.commands.specs.Leading.{Leads, Goes, IsAtTurn, Hand, IsSameHand, IsAmid, IsTurning, RanPart}
+use Rattle.commands.proofs.Common.{Status, World, Script, Part, Leads, Goes, IsAtTurn, Hand, IsSameHand, IsAmid, IsTurning, RanPart}
+use Rattle.commands.specs.Parts.{through, each}
 
 -- the first turn, and the others
 each_more : {Found : Type 0} (i n : ℕ) (part : ℕ → Found → Part Found) (found : Found) (rest : Found → Script)

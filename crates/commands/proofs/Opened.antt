@@ -1,20 +1,10 @@
 -- A disk that was put in is in the bay.
 use Rattle.std.proofs.Common.{◌≡◌, ℕ, false, List, ap, ◌∙◌, sym, Option, Some, None, unwrap_or}
-use Rattle.std.proofs.lemmas.Bool.{true≢false}
+use Rattle.commands.proofs.Common.{true≢false, Files, Reply, Reason, StationState, bay_of, State, Step, refusal_of, is_refusal, Shape, shape_in, shape_of, no_tracks, shape_at}
 use Rattle.std.specs.Option.{MatchOption, option_map}
-use Rattle.flop_base.specs.Shelf.{Files}
 use Rattle.raw_image.specs.Disk.{Disk}
 use Rattle.floppy_jobs.specs.declared.request.Request.TheVariants as request
-use Rattle.sector_model.specs.declared.reply.Reply.{Reply}
 use Rattle.sector_model.specs.declared.reply.Reply.TheVariants as reply
-use Rattle.sector_model.specs.declared.reply.Reason.{Reason}
-use Rattle.sector_model.specs.Stations.{StationState, bay_of}
-use Rattle.sector_model.specs.States.{State}
-use Rattle.sector_model.specs.Steps.{Step, refusal_of}
-use Rattle.sector_model.specs.Texts.{is_refusal}
-use Rattle.floppy_session.specs.declared.shape.Shape.{Shape}
-use Rattle.floppy_session.specs.Shapes.{shape_in, shape_of}
-use Rattle.commands.specs.Parts.{no_tracks, shape_at}
 
 by_refusal : {P R : Type 0} {Q : Reason → Type 0} (refusal : Option Reason) → MatchOption refusal P Q → (P → R) → ((cause : Reason) → Q cause → R) → R
 by_refusal None holds none some = none holds

@@ -2,29 +2,14 @@
 use Rattle.std.proofs.Math.Path.{fun_ext}
 use Rattle.std.proofs.Common.{◌+◌, zero, suc, ◌≡◌, ◌∙◌, ℕ, false, Bool, true, List, [], ◌∷◌, ◌++◌, map, inl, inr, refl, sym, ap, subst, append-nil, append_assoc, Option, Some}
 use Rattle.std.specs.Prelude.{◌||◌}
-use Rattle.std.specs.List.{flat_map, range_with_len}
-use Rattle.std.proofs.lemmas.List.{map-append}
-use Rattle.flop_base.specs.Shelf.{Files}
-use Rattle.flop_base.specs.Sink.{grown}
+use Rattle.commands.proofs.Common.{flat_map, range_with_len, map-append, Files, grown, Status, Request, Reply, bay_of, State, Step, is_refusal, Taken, Run, requests_of, has_refusal, World, Prints, Shape, shape_in, Script, Ends, RunsScript, StoresLast, Part, asks, needs, shape_at, rate_requests}
 use Rattle.flop_base.specs.declared.answers.Rate.{Rate}
 use Rattle.flop_base.specs.declared.answers.Rate.TheVariants.{R500, R250}
-use Rattle.flop_base.specs.declared.answers.Status.{Status}
 use Rattle.flop_base.specs.declared.answers.Status.TheVariants as status
-use Rattle.floppy_jobs.specs.declared.request.Request.{Request}
 use Rattle.floppy_jobs.specs.declared.request.Request.TheVariants as request
-use Rattle.sector_model.specs.declared.reply.Reply.{Reply}
-use Rattle.sector_model.specs.Stations.{bay_of}
-use Rattle.sector_model.specs.States.{State}
-use Rattle.sector_model.specs.Steps.{Step}
-use Rattle.sector_model.specs.Texts.{is_refusal}
-use Rattle.sector_model.specs.Runs.{Taken, Run, requests_of, has_refusal}
-use Rattle.sector_model.specs.Plays.{World, Prints, IsPutFault}
-use Rattle.floppy_session.specs.declared.shape.Shape.{Shape}
-use Rattle.floppy_session.specs.Shapes.{shape_in}
-use Rattle.commands.specs.Scripts.{Script, Ends, Stores, RunsScript, StoresLast}
-use Rattle.commands.specs.Parts.{Part, asks, needs, carries, says, may_starve, shape_at, opens, sets_rate, acknowledges, through, each, by_track, rate_requests}
+use Rattle.commands.specs.Parts.{carries, says, opens, sets_rate, acknowledges, through, each}
 use Rattle.commands.proofs.Opened.{shape_put}
-use Rattle.commands.proofs.Reading.{IsAnswered, IsRefused, IsWhole, ok_is_whole, ask_run, ask_answered, need_run, need_taken, refused_is_not_ok, last_run, last_stored}
+use Rattle.commands.proofs.Reading.{IsAnswered, IsRefused, IsWhole, ok_is_whole, need_run, need_taken, refused_is_not_ok, last_run}
 
 -- what is known of a part that was gone through, by four things: the world before it, its course, what it found, and
 -- the world after it
@@ -154,22 +139,6 @@ pub needs_passes : {Found : Type 0} (asked : Request) (finds : Reply → State �
     → Passes status.AllOk (λ (rest : Found → Script). needs asked (λ answer after. rest (finds answer after))) (IsTaken asked finds)
 needs_passes asked finds rest old course new runs =
     needs_passed asked finds rest old course new status.AllOk ok_is_whole (refused_is_not_ok asked old course new) runs
-
--- a request whose answer may be a refusal, where nothing stopped the script
-pub asks_passes : {Found : Type 0} (ended : Status) → IsWhole ended → (asked : Request) (finds : Reply → State → Found)
-    → Passes ended (λ (rest : Found → Script). asks asked (λ answer after. rest (finds answer after))) (IsAsked asked finds)
-asks_passes ended whole asked finds rest old course new runs =
-    let next = λ (answer : Reply) (after : State). rest (finds answer after) in
-    let run = ask_answered asked next old course new ended whole (ask_run asked next old course new ended runs) in
-    record {
-      one = run.taken ∷ [];
-      two = run.later;
-      found = finds run.taken.answer run.taken.after;
-      mid = record old { state = run.taken.after; files = run.files };
-      course_is = run.course_is;
-      knows = answer_passed asked finds rest old course new ended run;
-      left = run.left;
-    }
 
 -- ---- Requests that were done, and nothing was printed.
 
@@ -330,14 +299,6 @@ pub each_does : (ended : Status) (start count : ℕ) (part : ℕ → Unit {0} �
 each_does ended start count part requests passes =
     each_passes ended start count part tt _ (through_does ended part requests passes (range_with_len start count))
 
--- where the part of each track asks requests, the parts of all tracks ask the requests of all
-pub tracks_do : (ended : Status) (cylinders heads : ℕ) (part : ℕ → ℕ → Unit {0} → Part (Unit {0})) (requests : ℕ → ℕ → List Request)
-    → ((c h : ℕ) → Passes ended (part c h tt) (Does (requests c h)))
-    → Passes ended (by_track cylinders heads part tt) (Does (flat_map (λ c. flat_map (requests c) (range_with_len 0 heads)) (range_with_len 0 cylinders)))
-tracks_do ended cylinders heads part requests passes =
-    each_does ended 0 cylinders (λ c. each 0 heads (part c)) (λ c. flat_map (requests c) (range_with_len 0 heads))
-    (λ c. each_does ended 0 heads (part c) (requests c) (passes c))
-
 -- ---- Loops in other words.
 
 through_both : {Thing Found : Type 0} (part : Thing → Found → Part Found) (xs ys : List Thing) (found : Found) (rest : Found → Script)
@@ -446,12 +407,6 @@ says_passes ended whole line rest old course new (inl runs) = record {
 }
 says_passes ended whole line rest old course new (inr cut) = absurd (whole.put cut.1.1)
 
--- memory was enough
-pub starve_passes : (ended : Status) → IsWhole ended → Passes ended may_starve (Does [])
-unfolding may_starve
-starve_passes ended whole rest old course new (inl runs) = at_once tt runs (did_nothing old)
-starve_passes ended whole rest old course new (inr none) = absurd (whole.put (subst IsPutFault (sym none.2) tt))
-
 -- ---- The end.
 
 -- a part was gone through, and then the last lines were put
@@ -487,18 +442,3 @@ pub record StoredOver {Found : Type 0} (Knows : Known Found) (name : List ℕ) (
   pub mid : World
   pub knows : Knows old course found mid
   pub stores : StoresLast name (bytes found) (line found) (wanted found) mid new ended
-
-pub stored_over : {Found : Type 0} (ended : Status) (part : Part Found) (Knows : Known Found) (name : List ℕ) (bytes line : Found → List ℕ)
-    (wanted : Found → Status) → Passes ended part Knows
-    → (old : World) (course : List Taken) (new : World)
-    → RunsScript (part (λ found. Stores name (bytes found) (line found) (wanted found))) old course new ended
-    → StoredOver Knows name bytes line wanted old course new ended
-stored_over ended part Knows name bytes line wanted passes old course new runs =
-    let a = passes (λ found. Stores name (bytes found) (line found) (wanted found)) old course new runs in
-    let b = last_stored name (bytes a.found) (line a.found) (wanted a.found) a.mid a.two new ended a.left in
-    record {
-      found = a.found;
-      mid = a.mid;
-      knows = subst (λ (c : List Taken). Knows old c a.found a.mid) (sym (a.course_is ∙ ap (λ (l : List Taken). a.one ++ l) b.0 ∙ append-nil a.one)) a.knows;
-      stores = b.1;
-    }

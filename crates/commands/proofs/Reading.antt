@@ -1,24 +1,11 @@
 -- What a run of a part of a script was.
 use Rattle.std.proofs.Common.{◌≡◌, ℕ, false, List, [], ◌∷◌, refl, ap, ◌∙◌, sym, subst, Option}
-use Rattle.flop_base.specs.Shelf.{Files}
-use Rattle.flop_base.specs.Sink.{grown}
-use Rattle.flop_base.specs.declared.answers.Status.{Status}
+use Rattle.commands.proofs.Common.{Files, grown, Status, Request, Reply, Reason, Stop, State, Step, StopsAt, stop_lines, stop_status, is_refusal, Taken, World, Prints, Whole, IsPutFault, stopped_text, Script, Ends, Fails, Asks, Stores, RunsScript, IsPrinted, StoresLast, unless_refused, with_report}
 use Rattle.flop_base.specs.declared.answers.Status.TheVariants as status
-use Rattle.floppy_jobs.specs.declared.request.Request.{Request}
-use Rattle.sector_model.specs.declared.reply.Reply.{Reply}
 use Rattle.sector_model.specs.declared.reply.Reply.TheVariants as reply
-use Rattle.sector_model.specs.declared.reply.Reason.{Reason}
-use Rattle.sector_model.specs.declared.reply.Stop.{Stop}
 use Rattle.sector_model.specs.declared.reply.Stop.TheVariants as stop
-use Rattle.sector_model.specs.States.{State}
-use Rattle.sector_model.specs.Steps.{Step, StopsAt}
-use Rattle.sector_model.specs.Texts.{stop_lines, stop_status, is_refusal}
-use Rattle.sector_model.specs.Runs.{Taken}
-use Rattle.sector_model.specs.Plays.{World, Prints, Whole, Part, IsPutFault}
-use Rattle.commands.specs.LastLines.{stopped_text}
-use Rattle.commands.specs.Scripts.{Script, Ends, Fails, Asks, Stores, RunsScript, IsPrinted, StoresLast, unless_refused}
+use Rattle.sector_model.specs.Plays.{Part}
 use Rattle.commands.specs.Parts.{asks, needs, carries}
-use Rattle.commands.specs.Leading.{with_report}
 use Rattle.commands.proofs.Running.{goes_on}
 
 -- a request was answered, and what follows was run
@@ -131,9 +118,7 @@ by_answer asked rest old course new ended (reply.Refused cause) run is =
           (subst (λ (a : Reply). Step asked old.state old.files a run.taken.after run.files) is run.step));
       prints = last.1.report;
     })
-by_answer asked rest old course new ended reply.Done run is = as_done asked rest old course new ended run (ap is_refusal is)
-by_answer asked rest old course new ended reply.DoneDeleted run is = as_done asked rest old course new ended run (ap is_refusal is)
-by_answer asked rest old course new ended (reply.Bytes address content) run is = as_done asked rest old course new ended run (ap is_refusal is)
+by_answer asked rest old course new ended _ run is = as_done asked rest old course new ended run (ap is_refusal is)
 
 pub need_run : (asked : Request) (rest : Reply → State → Script) (old : World) (course : List Taken) (new : World) (ended : Status)
     → RunsScript (needs asked rest) old course new ended → NeedRun asked rest old course new ended
@@ -197,7 +182,3 @@ need_taken asked rest old course new ended whole fine (Halted run) = absurd
 pub refused_is_not_ok : (asked : Request) (old : World) (course : List Taken) (new : World) → IsRefused asked old course new status.AllOk → ⊥
 refused_is_not_ok asked old course new run = let told = prints_status _ _ status.SomeRefused status.AllOk _
     (λ fault. fault) run.prints in let same = told.1 in cc same
-
-pub need_done : (asked : Request) (rest : Reply → State → Script) (old : World) (course : List Taken) (new : World)
-    → NeedRun asked rest old course new status.AllOk → IsDone asked rest old course new status.AllOk
-need_done asked rest old course new run = need_taken asked rest old course new status.AllOk ok_is_whole (refused_is_not_ok asked old course new) run

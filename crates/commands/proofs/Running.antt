@@ -1,27 +1,13 @@
 -- Parts of a script, one after the other.
 use Rattle.std.specs.Prelude.{IfErr, OnOk, OnErr, Result, Ok, Err}
 use Rattle.std.proofs.Common.{◌≡◌, ℕ, false, List, [], ◌∷◌, refl, ap, sym, subst, inl, inr, Option}
-use Rattle.std.proofs.lemmas.Bool.{true≢false}
-use Rattle.flop_base.specs.Shelf.{Files}
-use Rattle.flop_base.specs.Sink.{grown, GrowsByPart}
-use Rattle.flop_base.specs.declared.answers.Status.{Status}
+use Rattle.commands.proofs.Common.{true≢false, Files, grown, GrowsByPart, Status, Request, Reply, Reason, Stop, State, Step, StopsAt, stop_lines, stop_status, is_refusal, Taken, Run, World, Prints, IsPutFault, stopped_text, Script, Ends, Says, Asks, Stores, MayStarve, Fails, IsPrinted, RunsScript, unless_refused, StoresLast, IsStored, NotStored, Goes, PutsLines, Finishes, Runs, with_report}
 use Rattle.flop_base.specs.declared.answers.Status.TheVariants as status
-use Rattle.floppy_jobs.specs.declared.request.Request.{Request}
-use Rattle.sector_model.specs.declared.reply.Reply.{Reply}
 use Rattle.sector_model.specs.declared.reply.Reply.TheVariants as reply
-use Rattle.sector_model.specs.declared.reply.Reason.{Reason}
-use Rattle.sector_model.specs.declared.reply.Stop.{Stop}
-use Rattle.sector_model.specs.States.{State}
-use Rattle.sector_model.specs.Steps.{Step, StopsAt}
-use Rattle.sector_model.specs.Texts.{stop_lines, stop_status, is_refusal}
-use Rattle.sector_model.specs.Runs.{Taken, Run}
 use Rattle.sector_model.specs.Ties.{TiesCounts}
-use Rattle.sector_model.specs.Plays.{World, Prints, IsPutFault}
 use Rattle.sector_model.proofs.PlayTies.{ran_ties, stopped_ties}
-use Rattle.commands.specs.LastLines.{stopped_text}
-use Rattle.commands.specs.Scripts.{Script, Ends, Says, Asks, Stores, MayStarve, Fails, IsPrinted, RunsScript, unless_refused, StoresLast, IsStored, NotStored}
 use Rattle.commands.specs.Parts.{asks, needs, says, may_starve}
-use Rattle.commands.specs.Leading.{IsRunOf, Leads, Goes, PutsLines, Finishes, Runs, with_report}
+use Rattle.commands.specs.Leading.{IsRunOf, Leads}
 
 -- nothing was done yet
 pub leads_itself : (script : Script) (start : World) → Leads script start script start
@@ -71,10 +57,8 @@ asked_stops whole start asked rest cause old new ended stops prints leads = lead
 
 -- the script goes on after an answer that is no refusal
 pub goes_on : (asked : Request) (answer : Reply) (later : Script) → is_refusal answer ≡ false → unless_refused asked answer later ≡ later
-goes_on asked reply.Done later fine = refl
-goes_on asked reply.DoneDeleted later fine = refl
-goes_on asked (reply.Bytes address content) later fine = refl
 goes_on asked (reply.Refused cause) later fine = absurd (true≢false fine)
+goes_on asked _ later fine = refl
 
 -- a request that the script can't go on without was answered, and not refused
 pub needed_on : (whole : Script) (start : World) (asked : Request) (rest : Reply → State → Script) (answer : Reply) (old new : World)
@@ -229,7 +213,6 @@ stored_ran name bytes line wanted old new ended (NotStored same fault) = Through
 pub script_ran : (script : Script) (old : World) (course : List Taken) (new : World) (ended : Status) → RunsScript script old course new ended
     → HasRun old course new
 script_ran (Ends line wanted) old [] new ended runs = Through new.files (runs.state, runs.files)
-script_ran (Ends line wanted) old (taken ∷ later) new ended runs = absurd runs
 script_ran (Says line rest) old course new ended (inl runs) =
     by_report old (grown old.report (line ∷ [])) course new (script_ran rest (record old { report = grown old.report (line ∷ []) }) course new ended runs)
 script_ran (Says line rest) old course new ended (inr cut) =
@@ -240,12 +223,11 @@ script_ran (Asks asked rest) old (taken ∷ later) new ended runs =
     (subst (λ (r : Request). Step r old.state old.files taken.answer taken.after runs.1) (sym runs.0) runs.2)
     (script_ran (rest taken.answer taken.after) (record old { state = taken.after; files = runs.1 }) later new ended runs.3)
 script_ran (Stores name bytes line wanted) old [] new ended runs = stored_ran name bytes line wanted old new ended runs
-script_ran (Stores name bytes line wanted) old (taken ∷ later) new ended runs = absurd runs
 script_ran (MayStarve rest) old course new ended (inl runs) = script_ran rest old course new ended runs
 script_ran (MayStarve rest) old course new ended (inr none) =
     subst (λ (steps : List Taken). HasRun old steps new) (sym none.0) (Through old.files (ap (λ (w : World). w.state) none.1, refl))
 script_ran (Fails cause) old [] new ended runs = Through old.files (ap (λ (w : World). w.state) runs.0, refl)
-script_ran (Fails cause) old (taken ∷ later) new ended runs = absurd runs
+script_ran _ old (taken ∷ later) new ended runs = absurd runs
 
 ran_tied : (old : World) (course : List Taken) (new : World) → HasRun old course new → TiesCounts old.state.station.counters course new.state.station.counters
 ran_tied old course new (Through files run) = ran_ties old.state new.state old.files files course run

@@ -1,6 +1,6 @@
 -- What a run shows.
 use Rattle.std.specs.Prelude.{ℕ, List, Option}
-use Rattle.flop_base.specs.Shelf.{Files}
+use Rattle.commands.specs.Common.{Files}
 use Rattle.commands.specs.declared.run.Run.{Run}
 use Rattle.commands.specs.Leading.{Hand}
 

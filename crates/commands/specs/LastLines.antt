@@ -1,10 +1,8 @@
 -- The last lines of the program that no batch job has.
 use Rattle.std.specs.Prelude.{ℕ, List, ◌++◌, codes}
-use Rattle.std.specs.Fmt.{decimal}
-use Rattle.floppy_jobs.specs.declared.request.Request.{Request}
+use Rattle.commands.specs.Common.{decimal, Request, reason_text, line_end}
 use Rattle.floppy_jobs.specs.Spelling.{spelling}
 use Rattle.sector_model.specs.declared.reply.Reason.{Reason}
-use Rattle.sector_model.specs.Texts.{reason_text, line_end}
 
 -- the line where the arguments (words) are no subcommand (form) of the program
 abbrev pub bad_words_text : List ℕ

@@ -1,21 +1,9 @@
 -- How code goes through a script, part by part.
 use Rattle.std.specs.Prelude.{◌≡◌, ◌≢◌, ◌≤◌, ℕ, ◌+◌, ◌-◌, List, [], ◌∷◌, length, Option, Result, Ok, Err, IfOk, IfSome, IsErrOf, String, Vec, string_bytes}
 use Rattle.std.specs.declared.alloc.Global.{Global}
-use Rattle.flop_base.specs.Shelf.{Files, Loads}
-use Rattle.flop_base.specs.Sink.{grown, GrowsByPart}
-use Rattle.flop_base.specs.declared.answers.LoadError.{LoadError}
+use Rattle.commands.specs.Common.{Files, Loads, grown, GrowsByPart, LoadError, Status, Request, Reply, Stop, Blames, State, Step, StopsAt, stop_lines, stop_status, Taken, EndsBays, EndStopsAt, IsEndStop, World, Prints, Tells, IsPutFault}
 use Rattle.flop_base.specs.declared.answers.LoadError.TheVariants as load
-use Rattle.flop_base.specs.declared.answers.Status.{Status}
 use Rattle.flop_base.specs.declared.answers.Status.TheVariants as status
-use Rattle.floppy_jobs.specs.declared.request.Request.{Request}
-use Rattle.sector_model.specs.declared.reply.Reply.{Reply}
-use Rattle.sector_model.specs.declared.reply.Stop.{Stop}
-use Rattle.sector_model.specs.Faults.{Blames}
-use Rattle.sector_model.specs.States.{State}
-use Rattle.sector_model.specs.Steps.{Step, StopsAt}
-use Rattle.sector_model.specs.Texts.{stop_lines, stop_status}
-use Rattle.sector_model.specs.Runs.{Taken, Ends as EndsBays, EndStopsAt, IsEndStop}
-use Rattle.sector_model.specs.Plays.{World, Prints, Tells, IsPutFault}
 use Rattle.commands.specs.Puts.{Printed}
 use Rattle.commands.specs.Scripts.{Script, Ends, Stores, IsPrinted, RunsScript}
 use Rattle.commands.specs.Parts.{Part, says, each}

@@ -1,3 +1,4 @@
+pub mod Common
 pub mod Scripts
 pub mod Parts
 pub mod Leading

@@ -1,15 +1,10 @@
 -- Parts of scripts. Each part is given what follows it, as a function of what the part found.
 use Rattle.std.specs.Prelude.{ℕ, List, [], ◌∷◌, unwrap_or}
 use Rattle.std.specs.List.{range_with_len}
-use Rattle.flop_base.specs.declared.answers.Rate.{Rate}
+use Rattle.commands.specs.Common.{Rate, Request, Reply, bay_of, State, shape_in}
 use Rattle.flop_base.specs.declared.answers.Rate.TheVariants.{R500, R250}
-use Rattle.floppy_jobs.specs.declared.request.Request.{Request}
 use Rattle.floppy_jobs.specs.declared.request.Request.TheVariants as request
-use Rattle.sector_model.specs.declared.reply.Reply.{Reply}
-use Rattle.sector_model.specs.Stations.{bay_of}
-use Rattle.sector_model.specs.States.{State}
 use Rattle.floppy_session.specs.declared.shape.Shape.{Shape}
-use Rattle.floppy_session.specs.Shapes.{shape_in}
 use Rattle.commands.specs.Scripts.{Script, Says, Asks, MayStarve, unless_refused}
 
 -- a part of a script finds a value, and the rest goes on by that value

@@ -1,10 +1,7 @@
 -- What a call puts to the output (sink).
 use Rattle.std.specs.Prelude.{◌≡◌, ◌≢◌, ℕ, List, Option, Result, IfErr, OnOk, OnErr, IsErrOf}
-use Rattle.flop_base.specs.Sink.{grown, GrowsByPart}
-use Rattle.flop_base.specs.declared.answers.Status.{Status}
+use Rattle.commands.specs.Common.{grown, GrowsByPart, Status, IsPutFault, Prints, Blames}
 use Rattle.flop_base.specs.declared.answers.Status.TheVariants as status
-use Rattle.sector_model.specs.Plays.{IsPutFault, Prints}
-use Rattle.sector_model.specs.Faults.{Blames}
 
 -- what is printed, and the faults that the output counted
 pub record Printed : Type 0 where

@@ -1,18 +1,8 @@
 -- Scripts: what a command asks, request by request, depending on the answers so far, and what it prints and stores.
 use Rattle.std.specs.Prelude.{◌≡◌, ℕ, List, [], ◌∷◌, ◌⊎◌, Option}
-use Rattle.flop_base.specs.Shelf.{Files, stored}
-use Rattle.flop_base.specs.Sink.{grown, GrowsByPart}
-use Rattle.flop_base.specs.declared.answers.Status.{Status}
+use Rattle.commands.specs.Common.{Files, stored, grown, GrowsByPart, Status, Request, Reply, Stop, State, Step, StopsAt, stop_lines, stop_status, Taken, World, Prints, IsPutFault}
 use Rattle.flop_base.specs.declared.answers.Status.TheVariants as status
-use Rattle.floppy_jobs.specs.declared.request.Request.{Request}
-use Rattle.sector_model.specs.declared.reply.Reply.{Reply}
 use Rattle.sector_model.specs.declared.reply.Reply.TheVariants as reply
-use Rattle.sector_model.specs.declared.reply.Stop.{Stop}
-use Rattle.sector_model.specs.States.{State}
-use Rattle.sector_model.specs.Steps.{Step, StopsAt}
-use Rattle.sector_model.specs.Texts.{stop_lines, stop_status}
-use Rattle.sector_model.specs.Runs.{Taken}
-use Rattle.sector_model.specs.Plays.{World, Prints, IsPutFault}
 use Rattle.commands.specs.LastLines.{stopped_text}
 
 -- a script is one of these:

@@ -1,11 +1,8 @@
 -- A text that a command needs, and that wasn't loaded.
 use Rattle.std.specs.Prelude.{◌≡◌, ℕ, List, [], ◌∷◌, Option}
-use Rattle.flop_base.specs.declared.answers.LoadError.{LoadError}
+use Rattle.commands.specs.Common.{LoadError, Status, absent_text, bad_line_text, Prints}
 use Rattle.flop_base.specs.declared.answers.LoadError.TheVariants as load
-use Rattle.flop_base.specs.declared.answers.Status.{Status}
 use Rattle.flop_base.specs.declared.answers.Status.TheVariants as status
-use Rattle.sector_model.specs.Texts.{absent_text, bad_line_text}
-use Rattle.sector_model.specs.Plays.{Prints}
 
 -- why a text wasn't loaded, and what was printed of this; for a text that is too long, line 0 is bad
 abbrev pub MissesText : LoadError → List ℕ → Option (List (List ℕ)) → Option (List (List ℕ)) → Status → Type 0

@@ -1,12 +1,7 @@
 // What a command holds.
 ghost use Rattle.std.specs.Prelude.{◌≡◌, ◌<◌, ◌≤◌, false, length, slice_index, List, IfOk, OnOk};
 ghost use Rattle.flop_base.specs.Memory.{user_bytes};
-ghost use Rattle.sector_model.specs.Runs.{Taken};
-ghost use Rattle.sector_model.specs.Stations.{bay_of};
-ghost use Rattle.sector_model.specs.Steps.{Step};
-ghost use Rattle.sector_model.specs.Texts.{is_refusal, reply_lines};
-ghost use Rattle.floppy_session.specs.Shapes.{shape_in};
-ghost use Rattle.floppy_session.specs.Tries.{HasTries};
+ghost use Rattle.commands.specs.Common.{Taken, bay_of, Step, is_refusal, reply_lines, shape_in, HasTries};
 ghost use Rattle.bios_int13.specs.Services.{Serves};
 ghost use Rattle.commands.specs.Parts.{asks, needs, carries, opens};
 ghost use Rattle.commands.specs.Leading.{Hand, Answers, Goes, SaysLine, FinishesBy, StoresBy, AsksOne, PutsLines, PutsLine, TellsLine, TellsStop, LoadsText, Leaves, IsTold, Ran, RanPart, RanLast, HasLoaded, IsInSession};

@@ -1,6 +1,6 @@
 // Answers to the requests of a script.
 ghost use Rattle.std.specs.Prelude.{◌≡◌, false, MatchOption};
-ghost use Rattle.sector_model.specs.Texts.{is_refusal};
+ghost use Rattle.commands.specs.Common.{is_refusal};
 
 use sector_model::{Reason, Reply};
 

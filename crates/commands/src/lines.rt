@@ -1,10 +1,6 @@
 // The lines of a report. Each ends with a line feed and is put by one call.
 ghost use Rattle.std.specs.Prelude.{◌≡◌, ◌++◌, ◌∷◌, [], ℕ, List, codes, IfErr, MatchResult, ◌≢◌, OnOk, OnErr, IfOk, IsErrOf, string_bytes};
-ghost use Rattle.std.specs.Fmt.{decimal};
-ghost use Rattle.flop_base.specs.Sink.{grown, GrowsByPart};
-ghost use Rattle.sector_model.specs.Texts.{reply_lines, stop_lines, stop_status, bad_line_text, absent_text, image_text, image_error_text, reason_text, dump_lines, dump_line, dump_byte, line_end};
-ghost use Rattle.sector_model.specs.Plays.{IsPutFault, Prints};
-ghost use Rattle.sector_model.specs.Faults.{Blames};
+ghost use Rattle.commands.specs.Common.{decimal, grown, GrowsByPart, reply_lines, stop_lines, stop_status, bad_line_text, absent_text, image_text, image_error_text, reason_text, dump_lines, dump_line, dump_byte, line_end, IsPutFault, Prints, Blames};
 ghost use Rattle.commands.specs.Puts.{printed_of, Puts, PutsLast};
 ghost use Rattle.commands.specs.LastLines.{bad_words_text, stopped_text, unfit_text};
 

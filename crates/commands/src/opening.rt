@@ -1,7 +1,6 @@
 // Parts that many scripts have: a bay is made ready, and tracks are formatted.
 ghost use Rattle.std.specs.Prelude.{◌≡◌};
-ghost use Rattle.flop_base.specs.declared.answers.Rate.{Rate};
-ghost use Rattle.floppy_session.specs.Tries.{HasTries};
+ghost use Rattle.commands.specs.Common.{Rate, HasTries};
 ghost use Rattle.floppy_session.specs.Blanks.{blank_request};
 ghost use Rattle.commands.specs.Parts.{sets_rate, acknowledges, each, by_track, formats};
 ghost use Rattle.commands.specs.Leading.{Goes, RanPart};

@@ -1,6 +1,6 @@
 // The status of a script.
 ghost use Rattle.std.specs.Prelude.{◌≡◌};
-ghost use Rattle.sector_model.specs.Plays.{whole_status};
+ghost use Rattle.commands.specs.Common.{whole_status};
 ghost use Rattle.commands.specs.Leading.{IsTold};
 
 use flop_base::Status;

@@ -1,17 +1,10 @@
 -- Runs of whole commands.
 use Rattle.std.proofs.Common.{◌≡◌, ℕ, List, Result, Ok, Err, subst}
-use Rattle.flop_base.specs.declared.answers.Rate.{Rate}
-use Rattle.flop_base.specs.declared.answers.Status.{Status}
+use Rattle.disk_commands.proofs.Common.{Rate, Status, World, Script, RunsScript, may_starve, Finishes, Runs, TellsStop, finished, fed, starved, ends_told, import_script, Imports}
 use Rattle.flop_base.specs.declared.answers.Status.TheVariants as status
 use Rattle.sector_model.specs.declared.reply.Stop.{Stop}
 use Rattle.sector_model.specs.Texts.{stop_lines, stop_status}
-use Rattle.sector_model.specs.Plays.{World}
-use Rattle.commands.specs.Scripts.{Script, RunsScript}
-use Rattle.commands.specs.Parts.{may_starve}
-use Rattle.commands.specs.Leading.{Finishes, Runs, TellsStop}
-use Rattle.commands.proofs.Running.{finished, fed, starved, ends_told}
 use Rattle.disk_commands.specs.FlatFiles.{IsFlatFile, IsNotTaken, IsFlatFound}
-use Rattle.disk_commands.specs.Import.{import_script, Imports}
 
 -- a script whose first step takes memory was run, and there was memory for it
 pub fed_first : (rest : Unit {0} → Script) (old new : World) (ended : Status)

@@ -1,8 +1,8 @@
 -- The tracks of a disk with two heads, one after the other.
 use Rattle.std.proofs.Common.{◌≡◌, ℕ, zero, suc, ◌+◌, ◌*◌, ◌/◌, ◌%◌, refl, ap, ◌∙◌, sym, arith}
 use Rattle.std.proofs.Math.Path.{fun_ext}
-use Rattle.commands.specs.Scripts.{Script}
-use Rattle.commands.specs.Parts.{Part, through, each, by_track}
+use Rattle.disk_commands.proofs.Common.{Script, Part, by_track}
+use Rattle.commands.specs.Parts.{through, each}
 
 -- the part of the track with this number
 abbrev pub of_track : {Found : Type 0} → (ℕ → ℕ → Found → Part Found) → ℕ → Found → Part Found

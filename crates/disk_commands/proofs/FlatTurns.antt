@@ -1,10 +1,6 @@
 -- The turns of a loop that appends bytes to an argument.
 use Rattle.std.proofs.Common.{◌≡◌, ◌<◌, ◌+◌, List, ℕ, Ok, Err}
-use Rattle.flop_base.specs.declared.answers.Status.{Status}
-use Rattle.commands.specs.Parts.{Part, each}
-use Rattle.commands.specs.Leading.{Hand, IsTurning, RanPart}
-use Rattle.commands.proofs.Looping.{turn_goes, turn_ends, turns_over, amid_goes, amid_ends, amid_over}
-use Rattle.disk_commands.specs.Export.{GoesOn}
+use Rattle.disk_commands.proofs.Common.{Status, Part, each, Hand, IsTurning, RanPart, turn_goes, turn_ends, turns_over, amid_goes, amid_ends, amid_over, GoesOn}
 
 -- a turn is gone through
 pub bytes_go : {R : Type 0} (hand : R → Hand) (first count i : ℕ) (part : ℕ → List ℕ → Part (List ℕ)) (begun found next : List ℕ) (old mid new : R)

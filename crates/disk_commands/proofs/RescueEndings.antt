@@ -1,30 +1,17 @@
 -- How a rescue ends: its new log is stored, or there is no log that it can go by.
-use Rattle.std.proofs.Common.{◌≡◌, ℕ, List, [], length, refl, ap, sym, subst, append-nil, ◌∙◌, Bool, is_some, Option, Some, None, Vec, Global}
-use Rattle.flop_base.specs.Sink.{grown}
-use Rattle.flop_base.specs.declared.key.Chrn.{Chrn}
-use Rattle.flop_base.specs.declared.answers.Status.{Status}
+use Rattle.std.proofs.Common.{◌≡◌, ℕ, List, [], length, refl, sym, subst, ◌∙◌, Bool, is_some, Option, Some, None, Vec, Global}
+use Rattle.disk_commands.proofs.Common.{Chrn, Status, World, Prints, Whole, IsPutFault, Shape, Script, Stores, Leads, Finishes, fed, starved, log_text, LogLine, lines_found, last_text, outcome_of, asked_keys, rescues_all}
 use Rattle.flop_base.specs.declared.answers.Status.TheVariants as status
-use Rattle.sector_model.specs.Plays.{World, Prints, Whole, Part, IsPutFault}
-use Rattle.floppy_session.specs.declared.shape.Shape.{Shape}
-use Rattle.commands.specs.Scripts.{Script, Stores}
-use Rattle.commands.specs.Leading.{Leads, Finishes}
-use Rattle.commands.proofs.Running.{fed, starved}
-use Rattle.rescue.specs.Log.{log_text}
+use Rattle.sector_model.specs.Plays.{Part}
 use Rattle.rescue.specs.Course.{outcome_status}
-use Rattle.rescue.specs.declared.line.LogLine.{LogLine}
 use Rattle.rescue.specs.declared.outcome.Outcome.{Outcome}
-use Rattle.disk_commands.specs.Logs.{lines_found}
-use Rattle.disk_commands.specs.Rescue.{stores_log, last_text, outcome_of, asked_keys, rescues_all, rescue_found}
+use Rattle.disk_commands.specs.Rescue.{stores_log, rescue_found}
 
 -- a last line with another status doesn't end with the status of a file fault
 pub no_file_fault : (lines : List (List ℕ)) (wanted : Status) (report after : Option (List (List ℕ))) (ended : Status) → (wanted ≡ status.FileFault → ⊥)
     → Prints lines wanted report after ended → ended ≡ status.FileFault → ⊥
 no_file_fault lines wanted report after ended other (Whole told same) is = other (sym same ∙ is)
 no_file_fault lines wanted report after ended other (Part grows fault) is = subst IsPutFault is fault
-
-nothing_more : (report : Option (List (List ℕ))) → report ≡ grown report []
-nothing_more None = refl
-nothing_more (Some told) = ap Some (sym (append-nil told))
 
 -- the part of a script that is left, which stores the log
 abbrev stores_last : List ℕ → ℕ → List LogLine → Script

@@ -1,21 +1,7 @@
 -- A rescue that goes by what is found under the name of its log.
 use Rattle.std.proofs.Common.{◌≡◌, ℕ, List, refl, subst, Option, Result, Ok, Err}
-use Rattle.flop_base.specs.Shelf.{Files}
-use Rattle.flop_base.specs.Standard.{sectors_at}
-use Rattle.flop_base.specs.declared.answers.Rate.{Rate}
-use Rattle.flop_base.specs.declared.answers.Rate.TheVariants.{R500, R250}
-use Rattle.flop_base.specs.declared.answers.Status.{Status}
-use Rattle.sector_model.specs.Plays.{World}
-use Rattle.floppy_session.specs.declared.shape.Shape.{Shape}
-use Rattle.commands.specs.Parts.{opens}
-use Rattle.commands.specs.Leading.{Leads, IsRunOf, Goes, Runs}
-use Rattle.commands.proofs.Running.{leads_itself, with_course}
-use Rattle.rescue.specs.declared.line.LogLine.{LogLine}
-use Rattle.disk_commands.specs.declared.logs.NoLog.{NoLog}
+use Rattle.disk_commands.proofs.Common.{Files, sectors_at, Rate, R500, R250, Status, World, Shape, opens, Leads, IsRunOf, Goes, Runs, leads_itself, with_course, LogLine, NoLog, IsFound, AreFound, rescue_rest, rescue_script, Rescues, FinishesFound}
 use Rattle.disk_commands.specs.declared.logs.NoLog.TheVariants as missing
-use Rattle.disk_commands.specs.Logs.{IsFound, AreFound}
-use Rattle.disk_commands.specs.Rescue.{rescue_rest, rescue_script, Rescues}
-use Rattle.disk_commands.specs.RescueLeading.{FinishesFound}
 
 -- the answer to what is found under the name of a log
 abbrev Answer : Type 0
@@ -24,10 +10,9 @@ Answer = Result (Option (List LogLine)) NoLog
 -- what was found as the log of a disk of one rate; for the other rate the answer is that memory ran out, which is
 -- always possible
 abbrev found_at : Rate → Answer → Rate → Answer
-found_at R500 answer R500 = answer
 found_at R500 answer R250 = Err missing.NoMemory
 found_at R250 answer R500 = Err missing.NoMemory
-found_at R250 answer R250 = answer
+found_at _ answer _ = answer
 
 there : (rate : Rate) (answer : Answer) → found_at rate answer rate ≡ answer
 there R500 answer = refl
@@ -35,10 +20,9 @@ there R250 answer = refl
 
 are_found : (told : Option Files) (log : List ℕ) (rate : Rate) (answer : Answer) → IsFound told log (sectors_at rate) answer
     → (other : Rate) → IsFound told log (sectors_at other) (found_at rate answer other)
-are_found told log R500 answer is R500 = is
 are_found told log R500 answer is R250 = tt
 are_found told log R250 answer is R500 = tt
-are_found told log R250 answer is R250 = is
+are_found told log _ answer is _ = is
 
 by_found : (from to log : List ℕ) (found : Rate → Answer) (old new : World) (ended : Status) → AreFound old.files log found
     → IsRunOf (rescue_script from to log found) old new ended → Runs (Rescues from to log) old new ended

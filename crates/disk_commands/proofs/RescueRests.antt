@@ -2,21 +2,12 @@
 -- by.
 use Rattle.std.proofs.Common.{arith, ◌≡◌, ◌<◌, ◌≤◌, List, [], ◌∷◌, ℕ, length, Option, Some, None, Result, Ok, Err, inl, inr, subst}
 use Rattle.std.specs.Prelude.{IsSomeAnd}
-use Rattle.flop_base.specs.Shelf.{Files, file_at}
-use Rattle.flop_base.specs.Standard.{sectors_at}
-use Rattle.flop_base.specs.declared.answers.Rate.{Rate}
-use Rattle.flop_base.specs.declared.answers.Rate.TheVariants.{R500, R250}
+use Rattle.disk_commands.proofs.Common.{Files, file_at, sectors_at, Rate, R500, R250, Shape, Script, Ends, Fails, IsLog, IsFirstBadLine, log_text, LogLine, NoLog, IsLogFound, IsBadLog, IsFound, most_log_bytes, rescue_found, bad_log_text, rescue_rest}
 use Rattle.flop_base.specs.declared.answers.Status.TheVariants as status
-use Rattle.floppy_session.specs.declared.shape.Shape.{Shape}
-use Rattle.commands.specs.Scripts.{Script, Ends, Fails}
 use Rattle.sector_model.specs.Steps.{IsAbsent}
-use Rattle.rescue.specs.Log.{IsLog, IsFirstBadLine, log_text}
-use Rattle.rescue.specs.declared.line.LogLine.{LogLine}
 use Rattle.rescue.proofs.LawLemmas.{understood}
-use Rattle.disk_commands.specs.declared.logs.NoLog.{NoLog}
 use Rattle.disk_commands.specs.declared.logs.NoLog.TheVariants as missing
-use Rattle.disk_commands.specs.Logs.{IsLogFound, IsBadLog, IsFound, most_log_bytes}
-use Rattle.disk_commands.specs.Rescue.{rescue_found, bad_log_text, tells_no_log, rescue_rest}
+use Rattle.disk_commands.specs.Rescue.{tells_no_log}
 
 pub by_rest : (told : Option Files) (to log : List ℕ) (shape : Shape) (P : Script → Type 0)
     → ((found : Option (List LogLine)) → IsLogFound told log (sectors_at shape.rate) found → P (rescue_found to log shape found))

@@ -1,15 +1,7 @@
 -- The turns of a loop over records.
-use Rattle.std.proofs.lemmas.List.{drop_all}
+use Rattle.disk_commands.proofs.Common.{drop_all, Chrn, Status, World, Script, Leads, Goes, LogLine, rescues, LogGoes}
 use Rattle.std.proofs.Common.{arith, ◌≡◌, ◌<◌, ◌≤◌, ℕ, suc, ◌+◌, List, [], ◌∷◌, length, drop, get_or, refl, ap, subst, ◌∙◌, drop-cons, Ok, Err, Vec, Global}
-use Rattle.flop_base.specs.declared.key.Chrn.{Chrn}
-use Rattle.flop_base.specs.declared.answers.Status.{Status}
-use Rattle.sector_model.specs.Plays.{World}
-use Rattle.commands.specs.Scripts.{Script}
 use Rattle.commands.specs.Parts.{through}
-use Rattle.commands.specs.Leading.{Leads, Goes}
-use Rattle.rescue.specs.declared.line.LogLine.{LogLine}
-use Rattle.disk_commands.specs.Rescue.{rescues}
-use Rattle.disk_commands.specs.RescueLeading.{LogGoes}
 
 -- some records were rescued, and the others are left
 abbrev pub IsAtKey : List Chrn → List LogLine → World → ℕ → List LogLine → World → Type 0

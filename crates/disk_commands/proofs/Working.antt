@@ -2,10 +2,9 @@
 use Rattle.std.proofs.Common.{arith, ◌≡◌, ℕ, zero, suc, ◌+◌, ◌*◌, List, [], ◌∷◌, refl, ap, ◌∙◌, sym}
 use Rattle.std.proofs.Common.{◌<◌, length, take, drop, get_or, length-drop}
 use Rattle.std.proofs.lemmas.List.Sums.{sum_by-append}
-use Rattle.std.proofs.lemmas.List.{take_more, get_or-drop}
+use Rattle.disk_commands.proofs.Common.{take_more, get_or-drop, bytes_from, next_number}
 use Rattle.std.specs.Prelude.{sum}
-use Rattle.flop_base.specs.Memory.{bytes_from}
-use Rattle.disk_commands.specs.Workload.{number_after, next_number}
+use Rattle.disk_commands.specs.Workload.{number_after}
 
 -- the number after more draws
 pub number_join : (n m x : ℕ) → number_after m (number_after n x) ≡ number_after (n + m) x

@@ -1,19 +1,9 @@
 -- The script of a copy.
 use Rattle.std.specs.Prelude.{ℕ, ◌-◌, Bool, true, false, List, [], ◌∷◌, ◌++◌, codes, set, get_or, replicate, if◌then◌else◌}
-use Rattle.std.specs.Fmt.{decimal}
-use Rattle.flop_base.specs.Standard.{sectors_at}
-use Rattle.flop_base.specs.declared.key.Chrn.{Chrn}
+use Rattle.disk_commands.specs.Common.{decimal, sectors_at, Chrn, key_of, Request, Reply, blank_request, Shape, Script, Ends, Part, carries, needs, opens, acknowledges, each, by_track, record_address}
 use Rattle.flop_base.specs.declared.answers.Status.TheVariants as status
-use Rattle.sector_map.specs.Standard.{key_of}
-use Rattle.floppy_jobs.specs.declared.request.Request.{Request}
 use Rattle.floppy_jobs.specs.declared.request.Request.TheVariants as request
-use Rattle.sector_model.specs.declared.reply.Reply.{Reply}
 use Rattle.sector_model.specs.declared.reply.Reply.TheVariants as reply
-use Rattle.floppy_session.specs.Blanks.{blank_request}
-use Rattle.floppy_session.specs.declared.shape.Shape.{Shape}
-use Rattle.commands.specs.Scripts.{Script, Ends}
-use Rattle.commands.specs.Parts.{Part, carries, needs, opens, acknowledges, each, by_track}
-use Rattle.commands.specs.Records.{record_address}
 use Rattle.disk_commands.specs.Disks.{sectors_of}
 
 -- whether the answer says that the field is marked as deleted

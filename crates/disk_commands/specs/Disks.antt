@@ -1,7 +1,6 @@
 -- How many sectors a disk has.
 use Rattle.std.specs.Prelude.{ℕ, ◌*◌}
-use Rattle.flop_base.specs.Standard.{sectors_at}
-use Rattle.floppy_session.specs.declared.shape.Shape.{Shape}
+use Rattle.disk_commands.specs.Common.{sectors_at, Shape}
 
 -- the number of sectors of a disk
 abbrev pub sectors_of : Shape → ℕ

@@ -1,17 +1,8 @@
 -- What an exercise requests and prints. It runs the generated workload on a disk that is made for it.
 use Rattle.std.specs.Prelude.{◌≤◌, ◌<◌, ℕ, ◌+◌, ◌*◌, ◌%◌, ◌==◌, Bool, true, false, nat_lt, sum, List, [], ◌∷◌, ◌++◌, codes, if◌then◌else◌}
-use Rattle.std.specs.Fmt.{decimal}
+use Rattle.disk_commands.specs.Common.{decimal, Chrn, bytes_from, Request, Reply, is_refusal, whole_status, blank_request, Script, Ends, Part, asks, carries, may_starve, acknowledges, each, by_track, formats}
 use Rattle.flop_base.specs.declared.answers.Rate.TheVariants.{R500}
-use Rattle.flop_base.specs.declared.key.Chrn.{Chrn}
-use Rattle.flop_base.specs.Memory.{bytes_from}
-use Rattle.floppy_jobs.specs.declared.request.Request.{Request}
 use Rattle.floppy_jobs.specs.declared.request.Request.TheVariants as request
-use Rattle.sector_model.specs.declared.reply.Reply.{Reply}
-use Rattle.sector_model.specs.Texts.{is_refusal}
-use Rattle.sector_model.specs.Plays.{whole_status}
-use Rattle.floppy_session.specs.Blanks.{blank_request}
-use Rattle.commands.specs.Scripts.{Script, Ends}
-use Rattle.commands.specs.Parts.{Part, asks, carries, may_starve, acknowledges, each, by_track, formats}
 use Rattle.disk_commands.specs.declared.work_tally.WorkTally.{WorkTally}
 use Rattle.disk_commands.specs.Workload.{number_after, drawn, drawn_key}
 

@@ -1,18 +1,8 @@
 -- What an export requests, stores and prints.
 use Rattle.std.specs.Prelude.{ℕ, List, [], ◌++◌, Result, Ok, Err, codes}
-use Rattle.std.specs.Fmt.{decimal}
-use Rattle.flop_base.specs.Standard.{sectors_at}
-use Rattle.flop_base.specs.declared.answers.Rate.{Rate}
-use Rattle.flop_base.specs.declared.answers.Status.{Status}
+use Rattle.disk_commands.specs.Common.{decimal, sectors_at, Rate, Status, bytes_from, key_of, World, Script, Stores, Part, needs, may_starve, opens, acknowledges, each, by_track, Goes, record_address}
 use Rattle.flop_base.specs.declared.answers.Status.TheVariants as status
-use Rattle.flop_base.specs.Memory.{bytes_from}
-use Rattle.sector_map.specs.Standard.{key_of}
 use Rattle.floppy_jobs.specs.declared.request.Request.TheVariants as request
-use Rattle.sector_model.specs.Plays.{World}
-use Rattle.commands.specs.Scripts.{Script, Stores}
-use Rattle.commands.specs.Parts.{Part, needs, may_starve, opens, acknowledges, each, by_track}
-use Rattle.commands.specs.Leading.{Goes}
-use Rattle.commands.specs.Records.{record_address}
 use Rattle.disk_commands.specs.Import.{sectors_of}
 
 -- the last line of an export says how many sectors it exported

@@ -1,15 +1,9 @@
 -- Flat files on a shelf.
 use Rattle.std.specs.Prelude.{◌≡◌, ◌≤◌, ℕ, List, length, Option, Result, Ok, Err, IfSome, IsSomeAnd}
-use Rattle.flop_base.specs.Shelf.{Files, file_at}
-use Rattle.flop_base.specs.Standard.{sectors_at}
-use Rattle.flop_base.specs.declared.answers.Rate.{Rate}
-use Rattle.flop_base.specs.declared.answers.LoadError.{LoadError}
+use Rattle.disk_commands.specs.Common.{Files, file_at, sectors_at, Rate, LoadError, sectors_told, Stop, IsAbsent, IsLonger}
 use Rattle.flop_base.specs.declared.answers.LoadError.TheVariants as load
 use Rattle.raw_image.specs.declared.error.ImageError.{ImageError}
-use Rattle.sector_map.specs.Flat.{sectors_told}
-use Rattle.sector_model.specs.declared.reply.Stop.{Stop}
 use Rattle.sector_model.specs.declared.reply.Stop.TheVariants as stop
-use Rattle.sector_model.specs.Steps.{IsAbsent, IsLonger}
 
 -- the most bytes that a flat file may have: 80 cylinders of 2 heads with 18 records each
 abbrev pub most_flat_bytes : ℕ

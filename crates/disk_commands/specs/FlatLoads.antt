@@ -1,11 +1,7 @@
 -- How a flat file is loaded.
 use Rattle.std.specs.Prelude.{◌≡◌, List, ℕ, length, Result, IfOk, IfErr, IsErrOf}
-use Rattle.flop_base.specs.Standard.{sectors_at}
-use Rattle.sector_map.specs.Flat.{flat_length}
-use Rattle.sector_model.specs.declared.reply.Stop.{Stop}
+use Rattle.disk_commands.specs.Common.{sectors_at, flat_length, Stop, Blames, Hand, IsSameHand}
 use Rattle.sector_model.specs.declared.reply.Stop.TheVariants as stop
-use Rattle.sector_model.specs.Faults.{Blames}
-use Rattle.commands.specs.Leading.{Hand, IsSameHand}
 use Rattle.disk_commands.specs.declared.flat_file.FlatFile.{FlatFile}
 use Rattle.disk_commands.specs.FlatFiles.{IsFlatFile, IsNotTaken}
 

@@ -1,12 +1,8 @@
 -- The script of a format.
 use Rattle.std.specs.Prelude.{ℕ, ◌*◌, List, [], ◌∷◌, ◌++◌, codes}
-use Rattle.std.specs.Fmt.{decimal}
-use Rattle.flop_base.specs.declared.answers.Rate.{Rate}
+use Rattle.disk_commands.specs.Common.{decimal, Rate, blank_request, Script, Ends, Part, carries, acknowledges, by_track, formats}
 use Rattle.flop_base.specs.declared.answers.Status.TheVariants as status
 use Rattle.floppy_jobs.specs.declared.request.Request.TheVariants as request
-use Rattle.floppy_session.specs.Blanks.{blank_request}
-use Rattle.commands.specs.Scripts.{Script, Ends}
-use Rattle.commands.specs.Parts.{Part, carries, acknowledges, by_track, formats}
 
 -- the last line says how many tracks were formatted
 unfoldable pub format_text : ℕ → List ℕ

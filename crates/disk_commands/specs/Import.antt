@@ -1,21 +1,8 @@
 -- What an import requests and prints.
 use Rattle.std.specs.Prelude.{ℕ, ◌+◌, ◌*◌, List, [], ◌∷◌, ◌++◌, Result, Ok, Err, slice_index, codes}
-use Rattle.std.specs.Fmt.{decimal}
-use Rattle.flop_base.specs.Standard.{sectors_at}
-use Rattle.flop_base.specs.declared.answers.Rate.{Rate}
-use Rattle.flop_base.specs.declared.answers.Status.{Status}
+use Rattle.disk_commands.specs.Common.{decimal, sectors_at, Rate, Status, key_of, sector_place, Stop, stop_lines, stop_status, Taken, World, blank_request, Script, Ends, RunsScript, Part, carries, acknowledges, each, by_track, record_address}
 use Rattle.flop_base.specs.declared.answers.Status.TheVariants as status
-use Rattle.sector_map.specs.Standard.{key_of}
-use Rattle.sector_map.specs.Flat.{sector_place}
 use Rattle.floppy_jobs.specs.declared.request.Request.TheVariants as request
-use Rattle.sector_model.specs.declared.reply.Stop.{Stop}
-use Rattle.sector_model.specs.Texts.{stop_lines, stop_status}
-use Rattle.sector_model.specs.Runs.{Taken}
-use Rattle.sector_model.specs.Plays.{World}
-use Rattle.floppy_session.specs.Blanks.{blank_request}
-use Rattle.commands.specs.Scripts.{Script, Ends, RunsScript}
-use Rattle.commands.specs.Parts.{Part, carries, acknowledges, each, by_track}
-use Rattle.commands.specs.Records.{record_address}
 use Rattle.disk_commands.specs.FlatFiles.{IsFlatFound}
 
 -- the number of sectors of a disk of 80 cylinders and two heads

@@ -1,15 +1,8 @@
 -- The file of a log: what is found under its name, and why no log can be read.
 use Rattle.std.specs.Prelude.{◌≡◌, ℕ, ◌≤◌, ◌⊎◌, List, length, Vec, Option, Some, None, Result, Ok, Err, IfSome, IsSomeAnd}
 use Rattle.std.specs.Option.{option_map}
-use Rattle.std.specs.declared.alloc.Global.{Global}
-use Rattle.flop_base.specs.Shelf.{Files, file_at}
-use Rattle.flop_base.specs.Standard.{sectors_at}
-use Rattle.flop_base.specs.declared.answers.Rate.{Rate}
-use Rattle.flop_base.specs.declared.answers.LoadError.{LoadError}
+use Rattle.disk_commands.specs.Common.{Global, Files, file_at, sectors_at, Rate, LoadError, IsAbsent, IsLonger, IsLog, IsFirstBadLine, log_text, LogLine}
 use Rattle.flop_base.specs.declared.answers.LoadError.TheVariants as load
-use Rattle.sector_model.specs.Steps.{IsAbsent, IsLonger}
-use Rattle.rescue.specs.Log.{IsLog, IsFirstBadLine, log_text}
-use Rattle.rescue.specs.declared.line.LogLine.{LogLine}
 use Rattle.rescue.specs.declared.read.LogError.{LogError}
 use Rattle.rescue.specs.declared.read.LogError.TheVariants as bad
 use Rattle.disk_commands.specs.declared.logs.NoLog.{NoLog}

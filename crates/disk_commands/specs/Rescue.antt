@@ -1,26 +1,12 @@
 -- What a rescue requests, prints and stores, by the log that is found for each rate.
 use Rattle.std.specs.Prelude.{ℕ, ◌-◌, Bool, true, false, List, [], ◌∷◌, ◌++◌, length, is_some, Option, Some, None, Result, Ok, Err, codes}
-use Rattle.std.specs.Fmt.{decimal}
-use Rattle.flop_base.specs.declared.key.Chrn.{Chrn}
-use Rattle.flop_base.specs.declared.answers.Rate.{Rate}
-use Rattle.flop_base.specs.declared.answers.Status.{Status}
+use Rattle.disk_commands.specs.Common.{decimal, Chrn, Rate, Status, Reply, Reason, Taken, World, blank_request, Shape, Script, Ends, Fails, Stores, RunsScript, Part, asks, carries, may_starve, opens, acknowledges, through, by_track, formats, log_text, LogLine, AfterRead}
 use Rattle.flop_base.specs.declared.answers.Status.TheVariants as status
 use Rattle.floppy_jobs.specs.declared.request.Request.TheVariants as request
-use Rattle.sector_model.specs.declared.reply.Reply.{Reply}
 use Rattle.sector_model.specs.declared.reply.Reply.TheVariants as reply
-use Rattle.sector_model.specs.declared.reply.Reason.{Reason}
 use Rattle.sector_model.specs.declared.reply.Reason.TheVariants as reason
-use Rattle.sector_model.specs.Runs.{Taken}
-use Rattle.sector_model.specs.Plays.{World}
 use Rattle.commands.specs.LastLines.{stopped_text}
-use Rattle.floppy_session.specs.Blanks.{blank_request}
-use Rattle.floppy_session.specs.declared.shape.Shape.{Shape}
-use Rattle.commands.specs.Scripts.{Script, Ends, Fails, Stores, RunsScript}
-use Rattle.commands.specs.Parts.{Part, asks, carries, may_starve, opens, acknowledges, through, by_track, formats}
-use Rattle.rescue.specs.Log.{log_text}
 use Rattle.rescue.specs.Course.{read_of, after_read, standard_keys, logged_keys, outcome_text, outcome_status}
-use Rattle.rescue.specs.declared.line.LogLine.{LogLine}
-use Rattle.rescue.specs.declared.course.AfterRead.{AfterRead}
 use Rattle.rescue.specs.declared.course.AfterRead.TheVariants as next
 use Rattle.rescue.specs.declared.outcome.Outcome.{Outcome}
 use Rattle.disk_commands.specs.declared.logs.NoLog.{NoLog}

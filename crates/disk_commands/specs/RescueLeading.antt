@@ -1,16 +1,6 @@
 -- How code goes through a rescue, part by part.
 use Rattle.std.specs.Prelude.{◌≡◌, ℕ, List, Vec, Option, Result, Ok, Err, IsErrOf}
-use Rattle.std.specs.declared.alloc.Global.{Global}
-use Rattle.flop_base.specs.Standard.{sectors_at}
-use Rattle.flop_base.specs.declared.answers.Status.{Status}
-use Rattle.sector_model.specs.Faults.{Blames}
-use Rattle.sector_model.specs.Plays.{World}
-use Rattle.floppy_session.specs.Tries.{HasTries}
-use Rattle.floppy_session.specs.declared.shape.Shape.{Shape}
-use Rattle.commands.specs.Parts.{Part}
-use Rattle.commands.specs.Leading.{Hand, IsSameHand, Goes, Finishes}
-use Rattle.rescue.specs.declared.line.LogLine.{LogLine}
-use Rattle.rescue.specs.declared.course.AfterRead.{AfterRead}
+use Rattle.disk_commands.specs.Common.{Global, sectors_at, Status, Blames, World, HasTries, Shape, Part, Hand, IsSameHand, Goes, Finishes, LogLine, AfterRead}
 use Rattle.rescue.specs.declared.course.AfterRead.TheVariants as next
 use Rattle.disk_commands.specs.declared.logs.NoLog.{NoLog}
 use Rattle.disk_commands.specs.declared.logs.NoLog.TheVariants as missing

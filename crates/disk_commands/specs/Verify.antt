@@ -1,19 +1,8 @@
 -- The script of a verify. Each sector of a disk is read, and those that can't be read are listed.
 use Rattle.std.specs.Prelude.{ℕ, ◌+◌, ◌||◌, Bool, false, List, [], ◌∷◌, ◌++◌, codes, if◌then◌else◌}
-use Rattle.std.specs.Fmt.{decimal}
-use Rattle.flop_base.specs.Standard.{sectors_at}
-use Rattle.flop_base.specs.declared.key.Chrn.{Chrn}
-use Rattle.sector_map.specs.Standard.{key_of}
+use Rattle.disk_commands.specs.Common.{decimal, sectors_at, Chrn, key_of, Reply, Reason, is_refusal, reason_text, line_end, whole_status, Shape, Script, Ends, Part, asks, says, opens, acknowledges, each, by_track, track_address}
 use Rattle.floppy_jobs.specs.declared.request.Request.TheVariants as request
-use Rattle.sector_model.specs.declared.reply.Reply.{Reply}
 use Rattle.sector_model.specs.declared.reply.Reply.TheVariants as reply
-use Rattle.sector_model.specs.declared.reply.Reason.{Reason}
-use Rattle.sector_model.specs.Texts.{is_refusal, reason_text, line_end}
-use Rattle.sector_model.specs.Plays.{whole_status}
-use Rattle.floppy_session.specs.declared.shape.Shape.{Shape}
-use Rattle.commands.specs.Scripts.{Script, Ends}
-use Rattle.commands.specs.Parts.{Part, asks, says, opens, acknowledges, each, by_track}
-use Rattle.commands.specs.Records.{track_address}
 use Rattle.disk_commands.specs.declared.read_tally.ReadTally.{ReadTally}
 use Rattle.disk_commands.specs.Disks.{sectors_of}
 

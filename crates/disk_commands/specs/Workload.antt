@@ -1,6 +1,6 @@
 -- The generated workload: what a sequence of numbers draws.
 use Rattle.std.specs.Prelude.{ℕ, zero, suc, ◌+◌, ◌*◌, ◌/◌, ◌%◌}
-use Rattle.flop_base.specs.declared.key.Chrn.{Chrn}
+use Rattle.disk_commands.specs.Common.{Chrn}
 
 -- the number after a number: a linear congruence modulo 2^31
 abbrev pub next_number : ℕ → ℕ

@@ -1,7 +1,6 @@
 // The command that runs a generated workload.
 ghost use Rattle.std.specs.Prelude.{◌≡◌, codes, IfOk, string_bytes};
-ghost use Rattle.commands.specs.Scripts.{RunsScript};
-ghost use Rattle.commands.specs.Leading.{Goes, RanPart, Ran, Runs};
+ghost use Rattle.disk_commands.specs.Common.{RunsScript, Goes, RanPart, Ran, Runs};
 ghost use Rattle.disk_commands.specs.Exercise.{exercises, exercise_text, exercise_script};
 
 use crate::work::run_work;

@@ -1,9 +1,6 @@
 // The export of a disk to a flat file.
 ghost use Rattle.std.specs.Prelude.{◌≡◌, ◌+◌, ◌≤◌, ◌++◌, IfOk, OnOk, string_bytes};
-ghost use Rattle.flop_base.specs.Memory.{user_bytes, bytes_from};
-ghost use Rattle.commands.specs.Scripts.{RunsScript};
-ghost use Rattle.commands.specs.Parts.{by_track};
-ghost use Rattle.commands.specs.Leading.{RanPart, Ran, Runs};
+ghost use Rattle.disk_commands.specs.Common.{user_bytes, bytes_from, RunsScript, by_track, RanPart, Ran, Runs};
 ghost use Rattle.disk_commands.specs.Import.{sectors_of};
 ghost use Rattle.disk_commands.specs.Export.{reads_record, reads_track, reads_disk, export_text, export_script, GoesOn};
 

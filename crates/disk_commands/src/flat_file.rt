@@ -1,7 +1,6 @@
 // Flat files on a shelf.
 ghost use Rattle.std.specs.Prelude.{◌≡◌};
-ghost use Rattle.flop_base.specs.Standard.{sectors_at};
-ghost use Rattle.sector_map.specs.Flat.{IsDensity};
+ghost use Rattle.disk_commands.specs.Common.{sectors_at, IsDensity};
 ghost use Rattle.disk_commands.specs.FlatFiles.{StopsFor};
 ghost use Rattle.disk_commands.specs.FlatLoads.{LoadsFlat};
 

@@ -1,7 +1,6 @@
 // The format of a whole disk.
 ghost use Rattle.std.specs.Prelude.{◌≡◌, ◌*◌, IfOk, string_bytes};
-ghost use Rattle.commands.specs.Scripts.{RunsScript};
-ghost use Rattle.commands.specs.Leading.{Goes, Runs, Ran, RanPart};
+ghost use Rattle.disk_commands.specs.Common.{RunsScript, Goes, Runs, Ran, RanPart};
 ghost use Rattle.disk_commands.specs.Format.{format_text, formats_disk, format_script};
 
 use commands::{AnyRun, acknowledge, blank_request, format_tracks};

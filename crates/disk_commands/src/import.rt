@@ -1,9 +1,6 @@
 // The import of a flat file to a disk.
 ghost use Rattle.std.specs.Prelude.{◌≡◌, ◌+◌, ◌≤◌, ◌<◌, length, IfOk, string_bytes};
-ghost use Rattle.flop_base.specs.Standard.{sectors_at};
-ghost use Rattle.sector_map.specs.Flat.{IsDensity, flat_length};
-ghost use Rattle.commands.specs.Parts.{by_track};
-ghost use Rattle.commands.specs.Leading.{Goes, RanPart, Ran, Runs};
+ghost use Rattle.disk_commands.specs.Common.{sectors_at, IsDensity, flat_length, by_track, Goes, RanPart, Ran, Runs};
 ghost use Rattle.disk_commands.specs.Import.{fills_record, fills_track, writes_track, imports_track, imports_disk, import_text, sectors_of, Imports};
 
 use crate::flat_file::load_flat;

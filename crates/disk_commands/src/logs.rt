@@ -1,6 +1,6 @@
 // The file of a log.
 ghost use Rattle.std.specs.Prelude.{◌≡◌, IfOk, string_bytes};
-ghost use Rattle.commands.specs.Leading.{Finishes, RanLast};
+ghost use Rattle.disk_commands.specs.Common.{Finishes, RanLast};
 ghost use Rattle.disk_commands.specs.Logs.{NotUnderstood, NotLoaded};
 ghost use Rattle.disk_commands.specs.Rescue.{bad_log_text, tells_no_log};
 ghost use Rattle.disk_commands.specs.RescueLeading.{Finds};

@@ -1,8 +1,7 @@
 // What comes before the records. The other diskette is put in, both bays are acknowledged, and a new diskette is
 // formatted.
 ghost use Rattle.std.specs.Prelude.{◌≡◌, true, false};
-ghost use Rattle.flop_base.specs.declared.answers.Rate.{Rate};
-ghost use Rattle.commands.specs.Leading.{Goes, RanPart};
+ghost use Rattle.disk_commands.specs.Common.{Rate, Goes, RanPart};
 ghost use Rattle.disk_commands.specs.Rescue.{acknowledges_both, prepares_old, prepares_new, prepares};
 
 use commands::{AnyRun, acknowledge, blank_request, format_tracks};

@@ -1,7 +1,6 @@
 // The records that are asked for: each is read, and then written or logged.
 ghost use Rattle.std.specs.Prelude.{◌≡◌, [], ◌∷◌, ◌++◌, IfOk};
-ghost use Rattle.commands.specs.Parts.{through};
-ghost use Rattle.commands.specs.Leading.{Finishes, Ran, RanPart};
+ghost use Rattle.disk_commands.specs.Common.{through, Finishes, Ran, RanPart};
 ghost use Rattle.disk_commands.specs.Rescue.{after_answer, gives_up, does_next, follows, rescues};
 ghost use Rattle.disk_commands.specs.RescueLeading.{HasNextTries, LogGoes};
 

@@ -1,6 +1,6 @@
 // The rescue of a diskette.
 ghost use Rattle.std.specs.Prelude.{◌≡◌, IfOk, string_bytes};
-ghost use Rattle.commands.specs.Leading.{Runs, Ran, RanPart, Finishes};
+ghost use Rattle.disk_commands.specs.Common.{Runs, Ran, RanPart, Finishes};
 ghost use Rattle.disk_commands.specs.Logs.{lines_found};
 ghost use Rattle.disk_commands.specs.Rescue.{asked_keys, rescues_all, outcome_of, last_text, stores_log, rescue_found, Rescues};
 ghost use Rattle.disk_commands.specs.RescueLeading.{LogGoes, FinishesFound};

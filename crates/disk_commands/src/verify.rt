@@ -1,9 +1,6 @@
 // The verify of a whole disk.
 ghost use Rattle.std.specs.Prelude.{◌≡◌, ◌+◌, ◌≤◌, IfOk, string_bytes};
-ghost use Rattle.flop_base.specs.Standard.{sectors_at};
-ghost use Rattle.commands.specs.Scripts.{RunsScript};
-ghost use Rattle.commands.specs.Parts.{each, by_track};
-ghost use Rattle.commands.specs.Leading.{Goes, Finishes, Runs, Ran, RanPart};
+ghost use Rattle.disk_commands.specs.Common.{sectors_at, RunsScript, each, by_track, Goes, Finishes, Runs, Ran, RanPart};
 ghost use Rattle.disk_commands.specs.Disks.{sectors_of};
 ghost use Rattle.disk_commands.specs.Verify.{failure_line, tells_failure, no_reads, verifies_record, verifies_track, verify_text, reads_disk, verify_script};
 

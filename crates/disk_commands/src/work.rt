@@ -1,8 +1,6 @@
 // The requests of a workload. The workload goes on whatever the answers are.
 ghost use Rattle.std.specs.Prelude.{◌≡◌, ◌+◌, ◌≤◌, IfOk, sum};
-ghost use Rattle.flop_base.specs.Memory.{user_bytes, bytes_from};
-ghost use Rattle.floppy_session.specs.Tries.{HasTries};
-ghost use Rattle.commands.specs.Leading.{Goes, RanPart};
+ghost use Rattle.disk_commands.specs.Common.{user_bytes, bytes_from, HasTries, Goes, RanPart};
 ghost use Rattle.disk_commands.specs.Workload.{number_after};
 ghost use Rattle.disk_commands.specs.Exercise.{no_work, reads_work, write_request, writes_work, works_behind, works, HasRoom, IsOneMore};
 

@@ -1,5 +1,5 @@
 -- A drive that is let alone for many word times, in closed form.
-use Rattle.std.proofs.Common.{◌≡◌, ℕ, zero, suc, ◌+◌, ◌-◌, ◌%◌, ◌<◌, ◌≤◌, min, true, false, ◌==◌, nat_le, lt-ltb, le-leb, le-ltb, if◌then◌else◌, List, [], ◌∷◌, length, take, drop, slice_index, Option, Some, None, refl, sym, subst, ap, ◌∙◌, arith}
+use Rattle.std.proofs.Common.{◌≡◌, ℕ, zero, suc, ◌+◌, ◌-◌, ◌%◌, ◌<◌, ◌≤◌, min, true, false, ◌==◌, nat_le, lt-ltb, le-leb, le-ltb, if◌then◌else◌, List, [], ◌∷◌, length, take, drop, slice_index, refl, sym, subst, ap, ◌∙◌, arith}
 use Rattle.std.proofs.Math.Nat.{mod-eq_of_lt, add-mod_left}
 use Rattle.std.proofs.lemmas.Bool.{cond_both, and_parts, leb-true, eqb-true, lt-leb, ne_eqb}
 use Rattle.std.proofs.lemmas.List.{drop_more}

@@ -48,10 +48,9 @@ lets_pass_more count old between new passes step = rw add-one (lets_pass_suc cou
 -- the first of the words that are ahead are ahead too
 pub ahead_first : (count head : ℕ) (words : List ℕ) (s : DriveState) → AreAhead head words s → AreAhead head (take count words) s
 unfolding AreAhead
-ahead_first zero head words s ahead = tt
-ahead_first (suc count) head [] s ahead = tt
 ahead_first (suc count) head (word ∷ rest) s (same, before, ahead) =
     (same, before, ahead_first count head rest (passed s) ahead)
+ahead_first _ head _ s ahead = tt
 
 -- whether words are ahead depends neither on the gate, nor on a cut, nor on the faults counted or left
 pub ahead_same : (head : ℕ) (words : List ℕ) (s : DriveState) (gate cut : Bool) (faults : ℕ) (left : Option ℕ)

@@ -1,36 +1,24 @@
 -- Device steps of a command that is executed: nothing is done after them until results come.
-use Rattle.std.proofs.Common.{◌≡◌, ℕ, zero, suc, ◌+◌, ◌-◌, ◌≤◌, Bool, true, false, Option, Some, None, refl, sym, ap, subst, ◌∙◌, arith}
-use Rattle.std.proofs.lemmas.Bool.{false≢true}
+use Rattle.std.proofs.Common.{◌≡◌, ℕ, zero, suc, ◌-◌, true, Option, None, refl, sym, ap, subst, ◌∙◌, arith}
+use Rattle.fdc_chip.proofs.Common.{false≢true, Front, TakesAt, results_outside, FrontStage, Seeking, ChipState, KeepsRest, asks_chip, interrupts_chip, with_front, EndsAs, MayEnd, judged, IsQuietFor, awaits_results, is_busy, takes_none, Follows, FollowsTask, HasLinesChip, Swallows, SwallowsAll, SwallowsAs, ChipStage, Busy, Sent, Sought, Refused, Verify, Track}
 use Rattle.std.specs.Prelude.{option_map}
-use Rattle.fdc_sequencer.specs.Fronts.{Front, TakesAt, results_outside}
 use Rattle.fdc_sequencer.specs.Quiet.{GoesAlongFor, StepsFrontBy, seeks_at}
-use Rattle.fdc_sequencer.specs.declared.stage.FrontStage.{FrontStage}
-use Rattle.fdc_sequencer.specs.declared.stage.FrontStage.TheVariants.{Through, Seeking, Moving}
 use Rattle.fdc_sequencer.specs.declared.stage.FrontStage.TheVariants as front
-use Rattle.fdc_chip.specs.Chips.{ChipState, KeepsRest, asks_chip, interrupts_chip, with_front}
-use Rattle.fdc_chip.specs.Ending.{EndsAs, MayEnd, judged}
-use Rattle.fdc_chip.specs.Quiet.{IsQuietFor, StepsBy, awaits_results, is_busy, takes_none}
-use Rattle.fdc_chip.specs.Steps.{Follows, FollowsTask, HasLinesChip, StepsChip, Swallows, SwallowsAll, SwallowsAs, SwallowsBy}
-use Rattle.fdc_chip.specs.declared.stage.ChipStage.{ChipStage}
-use Rattle.fdc_chip.specs.declared.stage.ChipStage.TheVariants.{Ready, Held, Busy, Telling}
+use Rattle.fdc_chip.specs.Quiet.{StepsBy}
+use Rattle.fdc_chip.specs.Steps.{SwallowsBy}
 use Rattle.fdc_chip.specs.declared.stage.ChipTask.{ChipTask}
-use Rattle.fdc_chip.specs.declared.stage.ChipTask.TheVariants.{Sent, Sought, Refused, Verify, Track}
 use Rattle.fdc_chip.proofs.Quieting.{same_lines}
 
 -- a device step waits for results only while a command is executed
 pub awaits_busy : (stage : ChipStage) (front : FrontStage) → awaits_results stage front ≡ true → is_busy stage ≡ true
 awaits_busy (Busy task) front awaits = refl
-awaits_busy Ready front awaits = absurd (false≢true awaits)
-awaits_busy Held front awaits = absurd (false≢true awaits)
-awaits_busy (Telling results left) front awaits = absurd (false≢true awaits)
+awaits_busy _ front awaits = absurd (false≢true awaits)
 
 -- ---- a VERIFY while the heads go to its cylinder
 
 takes_nothing : (stage : FrontStage) (old : Front) (byte : Option ℕ) (new : Front) → seeks_at stage ≡ true → TakesAt stage old byte new → (byte ≡ None) × (new ≡ old)
 takes_nothing (Seeking transfer counted) old byte new seeks takes = takes
-takes_nothing Through old byte new seeks takes = absurd (false≢true seeks)
-takes_nothing (Moving moving) old byte new seeks takes = absurd (false≢true seeks)
-takes_nothing (front.Telling results) old byte new seeks takes = absurd (false≢true seeks)
+takes_nothing _ old byte new seeks takes = absurd (false≢true seeks)
 
 swallows_one : (left : ℕ) (old : Front) (now : ℕ) (new : Front) → seeks_at old.stage ≡ true → Swallows left old now new → (now ≡ left) × (new ≡ old)
 swallows_one left old now new seeks swallows =
@@ -108,9 +96,7 @@ task_quiet count task chip at takes lasts (suc n) new within steps =
 stage_quiet : (count : ℕ) (stage : ChipStage) (chip : ChipState) → chip.stage ≡ stage → awaits_results stage chip.front.stage ≡ true → GoesAlongFor count chip.front
     → IsQuietFor count chip
 stage_quiet count (Busy task) chip at awaits lasts = task_quiet count task chip at awaits lasts
-stage_quiet count Ready chip at awaits lasts = absurd (false≢true awaits)
-stage_quiet count Held chip at awaits lasts = absurd (false≢true awaits)
-stage_quiet count (Telling answer read) chip at awaits lasts = absurd (false≢true awaits)
+stage_quiet count _ chip at awaits lasts = absurd (false≢true awaits)
 
 -- as long as nothing changes outside the inner controller, neither line changes
 pub awaits_quiet : (count : ℕ) (chip : ChipState) → awaits_results chip.stage chip.front.stage ≡ true → GoesAlongFor count chip.front → IsQuietFor count chip

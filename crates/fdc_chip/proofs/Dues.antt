@@ -1,45 +1,22 @@
 -- Device steps while heads move: neither line changes before their seek ends.
 use Rattle.std.proofs.Common.{◌≡◌, inl, inr, ℕ, zero, suc, ◌+◌, ◌-◌, ◌*◌, ◌%◌, ◌<◌, ◌≤◌, max, min, nat_le, nat_lt, Bool, true, false, not, ◌&&◌, ◌||◌, ◌==◌, if◌then◌else◌, Option, Some, None, is_none, is_some, List, [], ◌∷◌, length, slice_index, unwrap_or, refl, sym, ◌∙◌, ap, subst, arith}
 use Rattle.std.specs.Prelude.{position}
-use Rattle.std.specs.Option.{ForSome}
+use Rattle.fdc_chip.proofs.Common.{ForSome, and_from, and_parts, and_right, eqb-true, false≢true, not-true, or_right, nat_tests, first_pending, pulses_within, seek_bits, with_motion, Outward, Toward, DriveSeek, awaits_nothing, comes_poll, is_gated, is_held, is_idle, Fdc, steps_ahead, Front, GivesCommand, asks_outside, interrupts_at, interrupts_outside, is_ready, with_controller, StepsFront, recalibrated_at, recalibrated_outside, ChipState, asks_chip, interrupts_chip, passes, passes_at, shows_behind, with_front, AttendsIf, AttendsTo, drained, is_moving, moves_heads, moving, needs_heads, EndsAt, GoesOn, GoesOnIf, Paces, PulsesIf, is_due, is_over, pulses_left, pulses_to, stepped, steps_left, target_of, IsQuietFor, awaits_heads, due_steps, head_steps, is_for_heads, is_settled, is_still_at, quiet_steps, tells_alone, waits_at, is_by_port, step_words, Follows, HasLinesChip, StepsChip, PacedSeek, ChipStage, Ready, Held, Busy, Telling}
 use Rattle.std.proofs.Math.Nat.{mul-le-mul_right, suc-mul}
-use Rattle.std.proofs.lemmas.Bool.{and_from, and_parts, and_right, eqb-true, false≢true, not-true, or_right}
-use Rattle.std.proofs.lemmas.Bool.Decides.{nat_tests}
-use Rattle.fdc_commands.specs.Seeking.{first_pending, pulses_within, seek_bits, with_motion}
-use Rattle.fdc_commands.specs.declared.motion.Motion.TheVariants.{Outward, Toward}
-use Rattle.fdc_commands.specs.declared.motion.Seek.{Seek as DriveSeek}
-use Rattle.fdc_core.specs.Courses.{awaits_nothing, comes_poll}
 use Rattle.fdc_core.specs.Ranges.{IsInRange}
-use Rattle.fdc_core.specs.State.{is_gated, is_held}
-use Rattle.fdc_core.specs.Whole.{is_idle}
-use Rattle.fdc_core.specs.declared.controller.Fdc.{Fdc}
-use Rattle.fdc_sequencer.specs.AdapterStill.{steps_ahead}
-use Rattle.fdc_sequencer.specs.Fronts.{Front, GivesCommand, asks_outside, interrupts_at, interrupts_outside, is_ready, with_controller}
-use Rattle.fdc_sequencer.specs.Moves.{StepsFront}
-use Rattle.fdc_sequencer.specs.Senses.{recalibrated_at, recalibrated_outside}
-use Rattle.fdc_chip.specs.Chips.{ChipState, asks_chip, interrupts_chip, passes, passes_at, shows_behind, with_front}
 use Rattle.fdc_chip.specs.Codes.{code_of}
-use Rattle.fdc_chip.specs.Doing.{AttendsIf, AttendsTo, drained, is_moving, moves_heads, moving, needs_heads}
 use Rattle.fdc_chip.specs.Orders.{is_format}
-use Rattle.fdc_chip.specs.Paces.{EndsAt, GoesOn, GoesOnIf, Paces, PulsesIf, is_due, is_over, pulses_left, pulses_to, stepped, steps_left, target_of}
-use Rattle.fdc_chip.specs.Quiet.{IsQuietFor, StepsBy, awaits_heads, due_steps, head_steps, is_for_heads, is_settled, is_still_at, quiet_steps, tells_alone, waits_at}
-use Rattle.fdc_chip.specs.Settings.{is_by_port, step_words}
-use Rattle.fdc_chip.specs.Steps.{Follows, HasLinesChip, StepsChip}
+use Rattle.fdc_chip.specs.Quiet.{StepsBy}
 use Rattle.fdc_chip.specs.declared.code.ChipOpcode.{ChipOpcode}
 use Rattle.fdc_chip.specs.declared.order.Order.{Order}
-use Rattle.fdc_chip.specs.declared.pace.PacedSeek.{PacedSeek}
-use Rattle.fdc_chip.specs.declared.stage.ChipStage.{ChipStage}
-use Rattle.fdc_chip.specs.declared.stage.ChipStage.TheVariants.{Ready, Held, Busy, Telling}
 use Rattle.fdc_chip.proofs.Giving.{IsTaking, bit_moves, none_moves, ready_taking, seek_given, taking_idle}
 use Rattle.fdc_chip.proofs.Heading.{IsAhead, ahead_down, ahead_drained, bare, bare_ahead, ended_drained, front_goes, none_pending, some_four}
 
 -- ---- the lines
 
 passes_none : (stage : ChipStage) (order : Order) → waits_at stage order ≡ true → passes_at stage ≡ false
-passes_none Ready order waits = refl
-passes_none Held order waits = refl
-passes_none (Telling answer read) order waits = refl
 passes_none (Busy task) order waits = absurd (false≢true waits)
+passes_none _ order waits = refl
 
 no_passes : (chip : ChipState) → passes_at chip.stage ≡ false → passes chip ≡ false
 no_passes chip none = ap (λ b. b && not (is_format chip.order && chip.keys == 0)) none
@@ -56,9 +33,7 @@ resting_asks chip none =
 
 shows_none : (stage : ChipStage) (front : Front) → interrupts_outside front ≡ false → shows_behind stage front ≡ false
 shows_none Ready front down = down
-shows_none Held front down = refl
-shows_none (Busy task) front down = refl
-shows_none (Telling answer read) front down = refl
+shows_none _ front down = refl
 
 -- ---- what is known
 
@@ -365,11 +340,7 @@ four_none (Some a ∷ b ∷ c ∷ d ∷ []) four none = absurd (false≢true (sy
 four_none (None ∷ Some b ∷ c ∷ d ∷ []) four none = absurd (false≢true (sym none))
 four_none (None ∷ None ∷ Some c ∷ d ∷ []) four none = absurd (false≢true (sym none))
 four_none (None ∷ None ∷ None ∷ Some d ∷ []) four none = absurd (false≢true (sym none))
-four_none [] four none = absurd (omega arith)
-four_none (a ∷ []) four none = absurd (omega arith)
-four_none (a ∷ b ∷ []) four none = absurd (omega arith)
-four_none (a ∷ b ∷ c ∷ []) four none = absurd (omega arith)
-four_none (a ∷ b ∷ c ∷ d ∷ e ∷ rest) four none = absurd (omega arith)
+four_none _ four none = absurd (omega arith)
 
 if_parts : (b c : Bool) → (if b then c else false) ≡ true → (b ≡ true) × (c ≡ true)
 if_parts true c is = (refl, is)

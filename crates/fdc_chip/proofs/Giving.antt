@@ -1,26 +1,13 @@
 -- A front whose controller takes the first byte of a command, and a SEEK that is given to it.
-use Rattle.std.proofs.Common.{◌≡◌, ℕ, zero, suc, ◌<◌, ◌^◌, Bool, true, false, not, ◌==◌, if◌then◌else◌, Option, Some, None, List, [], ◌∷◌, bit_and, bit_or, refl, sym, ◌∙◌, ap, subst, arith}
-use Rattle.std.specs.Option.{option_map_or, ForSome}
-use Rattle.std.proofs.lemmas.Bool.{and_parts, and_from, and_right, false≢true, not-true}
-use Rattle.fdc_commands.specs.Seeking.{seek_bits}
+use Rattle.std.proofs.Common.{◌≡◌, ℕ, suc, ◌<◌, ◌^◌, Bool, true, false, not, ◌==◌, if◌then◌else◌, Option, Some, None, List, [], ◌∷◌, bit_and, bit_or, refl, sym, ◌∙◌, ap, subst, arith}
+use Rattle.fdc_chip.proofs.Common.{option_map_or, ForSome, and_parts, and_from, false≢true, not-true, seek_bits, DriveSeek, Phase, Taking, is_held, is_idle, Fdc, lines_at, Commands, CommandsIf, Front, GivesCommand, is_ready, is_ready_at, status_at, FrontStage, Through, moves_heads, moving}
 use Rattle.fdc_commands.specs.Table.{is_begun, whole}
 use Rattle.fdc_commands.specs.declared.bytes.Accepted.TheVariants.{Ready}
 use Rattle.fdc_commands.specs.declared.command.Command.{Command}
 use Rattle.fdc_commands.specs.declared.command.Command.TheVariants.{Seek}
-use Rattle.fdc_commands.specs.declared.motion.Seek.{Seek as DriveSeek}
-use Rattle.fdc_phases.specs.declared.phases.Phase.{Phase}
-use Rattle.fdc_phases.specs.declared.phases.Phase.TheVariants.{Command as Taking, Execute, Result}
 use Rattle.fdc_core.specs.Commands.{Obeys, TakesAs, seeking}
 use Rattle.fdc_core.specs.Ports.{is_taking, main_status, phase_bits, takes_in}
-use Rattle.fdc_core.specs.State.{is_held}
-use Rattle.fdc_core.specs.Whole.{is_idle}
-use Rattle.fdc_core.specs.declared.controller.Fdc.{Fdc}
 use Rattle.fdc_core.specs.declared.controller.Lines.{Lines}
-use Rattle.fdc_sequencer.specs.Adapters.{lines_at}
-use Rattle.fdc_sequencer.specs.Fronts.{Commands, CommandsIf, Front, GivesCommand, is_ready, is_ready_at, status_at}
-use Rattle.fdc_sequencer.specs.declared.stage.FrontStage.{FrontStage}
-use Rattle.fdc_sequencer.specs.declared.stage.FrontStage.TheVariants.{Through, Seeking, Moving, Telling}
-use Rattle.fdc_chip.specs.Doing.{moves_heads, moving}
 
 -- ---- a front that takes a command
 
@@ -33,8 +20,7 @@ pub record IsTaking (front : Front) : Type 0 where
 
 taking_phase : (phase : Phase) (held : Bool) → takes_in phase held ≡ true → (phase ≡ Taking) × (held ≡ false)
 taking_phase Taking held is = (refl, not-true held is)
-taking_phase (Execute execution) held is = absurd (false≢true is)
-taking_phase (Result ended) held is = absurd (false≢true is)
+taking_phase _ held is = absurd (false≢true is)
 
 begun_none : (command : List ℕ) → is_begun command ≡ false → command ≡ []
 begun_none [] is = refl
@@ -42,9 +28,7 @@ begun_none (byte ∷ rest) is = absurd (false≢true (sym is))
 
 ready_through : (stage : FrontStage) (fdc : Fdc) → is_ready_at stage fdc ≡ true → (stage ≡ Through) × (is_idle fdc ≡ true)
 ready_through Through fdc is = (refl, is)
-ready_through (Seeking transfer counted) fdc is = absurd (false≢true is)
-ready_through (Moving moving) fdc is = absurd (false≢true is)
-ready_through (Telling results) fdc is = absurd (false≢true is)
+ready_through _ fdc is = absurd (false≢true is)
 
 -- by what this is seen
 pub ready_taking : (front : Front) → is_ready front ≡ true → IsTaking front
@@ -74,11 +58,8 @@ status_free fdc free takes none =
     ∙ ap (λ command. bit_or (phase_bits (is_begun command) Taking) (seek_bits fdc.seeks)) none)
 
 bit_shown : (drive : ℕ) → drive < 4 → (bit_and (bit_or 0x80 (2 ^ drive)) 0x0F == 0) ≡ false
-bit_shown zero few = refl
-bit_shown (suc zero) few = refl
-bit_shown (suc (suc zero)) few = refl
-bit_shown (suc (suc (suc zero))) few = refl
 bit_shown (suc (suc (suc (suc drive)))) few = absurd (omega arith)
+bit_shown _ few = refl
 
 taking_status : (front : Front) → IsTaking front → moves_heads front ≡ not (bit_and (bit_or 0x80 (seek_bits front.adapter.controller.seeks)) 0x0F == 0)
 taking_status front is =

@@ -1,29 +1,12 @@
 -- The inner controller while only its heads move: device steps, and results that are taken over.
 use Rattle.std.proofs.Common.{◌≡◌, ◌⊎◌, inl, inr, ℕ, zero, suc, ◌+◌, ◌-◌, ◌%◌, ◌<◌, ◌≤◌, min, nat_lt, Bool, true, false, not, ◌&&◌, ◌||◌, ◌==◌, if◌then◌else◌, Option, Some, None, is_some, List, [], ◌∷◌, slice_set, refl, sym, ◌∙◌, ap, subst, arith}
-use Rattle.std.specs.Option.{option_map_or, ForSome}
-use Rattle.std.proofs.lemmas.Bool.{and_right, eqb-true, false≢true}
-use Rattle.std.proofs.lemmas.Bool.Decides.{nat_tests}
+use Rattle.fdc_chip.proofs.Common.{option_map_or, ForSome, and_right, eqb-true, false≢true, nat_tests, ended, has_ended, is_seeking, neighbour, pulse_due, pulse_of, pulses_ahead, pulses_from, recalibrated, sought, stepped_seek, with_motion, with_polls, Outward, Toward, Ended, DriveSeek, Phase, Taking, mark_of, Works, is_gated, is_held, Fdc, AdapterState, StepsAdapter, selected_at, heads_at, steps_ahead, Front, interrupts_at, interrupts_outside, FollowsStep, StepsFront, Through, ChipState, drained, drained_one, is_told, moves_heads, PacedSeek}
 use Rattle.drive_model.specs.Drive.{DriveState}
 use Rattle.fdc_registers.specs.declared.drive_lines.Dor.{Dor}
-use Rattle.fdc_commands.specs.Seeking.{Seeking, ended, has_ended, is_seeking, neighbour, pulse_due, pulse_of, pulses_ahead, pulses_from, recalibrated, sought, stepped, stepped_seek, with_motion, with_polls}
+use Rattle.fdc_commands.specs.Seeking.{Seeking, stepped}
 use Rattle.fdc_commands.specs.declared.motion.Motion.{Motion}
-use Rattle.fdc_commands.specs.declared.motion.Motion.TheVariants.{Outward, Toward, Ended}
-use Rattle.fdc_commands.specs.declared.motion.Seek.{Seek as DriveSeek}
-use Rattle.fdc_phases.specs.declared.phases.Phase.{Phase}
-use Rattle.fdc_phases.specs.declared.phases.Phase.TheVariants.{Command as Taking}
-use Rattle.fdc_core.specs.Whole.{mark_of}
-use Rattle.fdc_core.specs.Courses.{Works}
-use Rattle.fdc_core.specs.State.{is_gated, is_held}
 use Rattle.fdc_core.specs.Steps.{Moves, MovesIn, Rests, RestsIn, Stays, polled, seek_stepped}
-use Rattle.fdc_core.specs.declared.controller.Fdc.{Fdc}
-use Rattle.fdc_sequencer.specs.Adapters.{AdapterState, StepsAdapter, selected_at}
-use Rattle.fdc_sequencer.specs.AdapterStill.{heads_at, steps_ahead}
-use Rattle.fdc_sequencer.specs.Fronts.{Front, interrupts_at, interrupts_outside}
-use Rattle.fdc_sequencer.specs.Moves.{FollowsStep, StepsFront}
-use Rattle.fdc_sequencer.specs.declared.stage.FrontStage.TheVariants.{Through}
-use Rattle.fdc_chip.specs.Chips.{ChipState}
-use Rattle.fdc_chip.specs.Doing.{drained, drained_by, drained_one, is_told, moves_heads}
-use Rattle.fdc_chip.specs.declared.pace.PacedSeek.{PacedSeek}
+use Rattle.fdc_chip.specs.Doing.{drained_by}
 use Rattle.fdc_chip.proofs.Giving.{IsTaking, bit_moves}
 
 -- ---- what is known
@@ -105,11 +88,8 @@ ending drive status cylinders up chip =
 
 untold_one : (drive status : ℕ) (cylinders : List ℕ) (up : Bool) (chip : ChipState) → drive < 4 → is_held chip.front.adapter.controller ≡ false → is_told chip.pace status ≡ false
     → drained_one (ending drive status cylinders up chip) ≡ bare cylinders None false chip
-untold_one zero status cylinders up chip few free untold = rw (free, untold) refl
-untold_one (suc zero) status cylinders up chip few free untold = rw (free, untold) refl
-untold_one (suc (suc zero)) status cylinders up chip few free untold = rw (free, untold) refl
-untold_one (suc (suc (suc zero))) status cylinders up chip few free untold = rw (free, untold) refl
 untold_one (suc (suc (suc (suc drive)))) status cylinders up chip few free untold = absurd (omega arith)
+untold_one _ status cylinders up chip few free untold = rw (free, untold) refl
 
 untold_drained : (drive status : ℕ) (cylinders : List ℕ) (up : Bool) (chip : ChipState) → drive < 4 → is_held chip.front.adapter.controller ≡ false → is_told chip.pace status ≡ false
     → drained (ending drive status cylinders up chip) ≡ bare cylinders None false chip

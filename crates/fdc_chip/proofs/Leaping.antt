@@ -1,16 +1,10 @@
 -- Device steps at once while the inner controller moves a sector.
 use Rattle.std.proofs.Common.{◌≡◌, ℕ, zero, suc, ◌+◌, Bool, false, refl, sym, ap, subst, ◌∙◌, arith}
 use Rattle.std.specs.Prelude.{None, option_map}
-use Rattle.fdc_sequencer.specs.Fronts.{Front, interrupts_at, interrupts_outside, results_at}
-use Rattle.fdc_sequencer.specs.Moves.{LeapsFront, MovesAlong, StepsFront}
+use Rattle.fdc_chip.proofs.Common.{Front, interrupts_at, interrupts_outside, results_at, MovesAlong, StepsFront, Moving, ChipState, with_front, EndsAs, judged, results_judged, Follows, HasLinesChip, StepsChip, ChipStage, Busy, Sent}
+use Rattle.fdc_sequencer.specs.Moves.{LeapsFront}
 use Rattle.fdc_sequencer.specs.declared.stage.Moving.{Moving as MovingSector}
-use Rattle.fdc_sequencer.specs.declared.stage.FrontStage.TheVariants.{Moving}
-use Rattle.fdc_chip.specs.Chips.{ChipState, with_front, interrupts_chip, asks_chip}
-use Rattle.fdc_chip.specs.Ending.{EndsAs, judged, results_judged}
-use Rattle.fdc_chip.specs.Steps.{Follows, HasLinesChip, RunsChipWith, StepsChip}
-use Rattle.fdc_chip.specs.declared.stage.ChipStage.{ChipStage}
-use Rattle.fdc_chip.specs.declared.stage.ChipStage.TheVariants.{Busy}
-use Rattle.fdc_chip.specs.declared.stage.ChipTask.TheVariants.{Sent}
+use Rattle.fdc_chip.specs.Steps.{RunsChipWith}
 use Rattle.fdc_chip.proofs.Quieting.{same_lines}
 use Rattle.fdc_chip.proofs.Runs.{runs_one, runs_plus}
 

@@ -1,3 +1,4 @@
+mod Common
 pub mod Runs
 mod Lists
 mod Giving

@@ -1,11 +1,9 @@
 -- Results that are taken over one by one, and bytes that go nowhere one by one.
 use Rattle.std.specs.Prelude.{Option, ⊤}
-use Rattle.std.specs.Option.{ForSome}
+use Rattle.fdc_chip.proofs.Common.{ForSome, Front, ChipState, drained_one, Swallows}
 use Rattle.std.proofs.Common.{◌≡◌, ℕ, ◌+◌, refl, ap, ◌∙◌, add-one}
-use Rattle.fdc_sequencer.specs.Fronts.{Front}
-use Rattle.fdc_chip.specs.Chips.{ChipState}
-use Rattle.fdc_chip.specs.Doing.{drained_one, drained_by}
-use Rattle.fdc_chip.specs.Steps.{Swallows, SwallowsBy}
+use Rattle.fdc_chip.specs.Doing.{drained_by}
+use Rattle.fdc_chip.specs.Steps.{SwallowsBy}
 
 -- ---- results
 

@@ -1,20 +1,12 @@
 -- Device steps that change no line.
 use Rattle.std.proofs.Common.{◌≡◌, inl, inr, ℕ, zero, suc, ◌-◌, Bool, true, false, Option, Some, None, is_some, refl, sym, ap, subst, ◌∙◌}
-use Rattle.std.proofs.lemmas.Bool.{true≢false}
+use Rattle.fdc_chip.proofs.Common.{true≢false, Front, KeepsFront, asks_at, asks_outside, interrupts_at, interrupts_outside, RunsFront, pending_outside, recalibrated_outside, sensed_outside, ChipState, KeepsChip, KeepsRest, asks_chip, interrupts_chip, passes_at, passes_by_channel, passes_by_port, shows_behind, with_front, drained, drained_one, is_told, kept, EndsAt, GoesOnIf, Paces, PulsesIf, is_due, is_over, stepped, IsQuietFor, IsSettled, IsStill, is_settled, rests_at, tells_alone, step_words, Follows, HasLinesChip, StepsChip, PacedSeek, ChipStage, Ready, Held, Busy, Telling}
 use Rattle.std.specs.Prelude.{◌&&◌, ◌||◌, if◌then◌else◌}
-use Rattle.fdc_sequencer.specs.Fronts.{Front, KeepsFront, asks_at, asks_outside, interrupts_at, interrupts_outside}
-use Rattle.fdc_sequencer.specs.Moves.{RunsFrontWith, RunsFront}
-use Rattle.fdc_sequencer.specs.Senses.{pending_outside, recalibrated_outside, sensed_outside}
-use Rattle.fdc_chip.specs.Chips.{ChipState, KeepsChip, KeepsRest, asks_chip, interrupts_chip, passes_at, passes_by_channel, passes_by_port, shows_behind, with_front}
-use Rattle.fdc_chip.specs.Doing.{drained, drained_by, drained_one, is_told, kept}
+use Rattle.fdc_sequencer.specs.Moves.{RunsFrontWith}
+use Rattle.fdc_chip.specs.Doing.{drained_by}
 use Rattle.fdc_chip.specs.Interrupts.{with_result}
-use Rattle.fdc_chip.specs.Paces.{EndsAt, GoesOnIf, Paces, PulsesIf, is_due, is_over, stepped}
-use Rattle.fdc_chip.specs.Quiet.{IsQuietFor, IsSettled, IsStill, StepsBy, is_settled, rests_at, tells_alone}
-use Rattle.fdc_chip.specs.Settings.{step_words}
-use Rattle.fdc_chip.specs.Steps.{Follows, HasLinesChip, RunsChipWith, StepsChip}
-use Rattle.fdc_chip.specs.declared.pace.PacedSeek.{PacedSeek}
-use Rattle.fdc_chip.specs.declared.stage.ChipStage.{ChipStage}
-use Rattle.fdc_chip.specs.declared.stage.ChipStage.TheVariants.{Ready, Held, Busy, Telling}
+use Rattle.fdc_chip.specs.Quiet.{StepsBy}
+use Rattle.fdc_chip.specs.Steps.{RunsChipWith}
 use Rattle.fdc_chip.proofs.Dues.{resting_asks, resting_interrupts}
 
 -- ---- what is done after a step
@@ -30,8 +22,7 @@ follows_none Ready old new rests unpaced down (paced, paces, is) =
     is ∙ (ap (λ (c : ChipState). if interrupts_outside c.front then drained c else c) (paced_none old.pace old paced unpaced paces)
     ∙ ap (λ b. if b then drained old else old) down)
 follows_none (Telling answer read) old new rests unpaced down paces = paced_none old.pace old new unpaced paces
-follows_none Held old new rests unpaced down follows = absurd (true≢false (sym rests))
-follows_none (Busy task) old new rests unpaced down follows = absurd (true≢false (sym rests))
+follows_none _ old new rests unpaced down follows = absurd (true≢false (sym rests))
 
 paces_still : (chip : ChipState) → chip.pace ≡ None → Paces chip.pace chip chip
 paces_still chip unpaced = subst (λ (pace : Option PacedSeek). Paces pace chip chip) (sym unpaced) refl
@@ -39,8 +30,7 @@ paces_still chip unpaced = subst (λ (pace : Option PacedSeek). Paces pace chip 
 follows_still : (stage : ChipStage) (chip : ChipState) → rests_at stage ≡ true → chip.pace ≡ None → interrupts_outside chip.front ≡ false → Follows stage chip chip
 follows_still Ready chip rests unpaced down = (chip, paces_still chip unpaced, sym (ap (λ b. if b then drained chip else chip) down))
 follows_still (Telling answer read) chip rests unpaced down = paces_still chip unpaced
-follows_still Held chip rests unpaced down = absurd (true≢false (sym rests))
-follows_still (Busy task) chip rests unpaced down = absurd (true≢false (sym rests))
+follows_still _ chip rests unpaced down = absurd (true≢false (sym rests))
 
 -- ---- the lines
 
@@ -50,9 +40,7 @@ interrupts_by chip asks shows = chip.gated && (if passes_by_port chip then asks 
 
 same_shows : (stage : ChipStage) (one other : Front) → interrupts_outside one ≡ interrupts_outside other → shows_behind stage one ≡ shows_behind stage other
 same_shows Ready one other same = same
-same_shows Held one other same = refl
-same_shows (Busy task) one other same = refl
-same_shows (Telling answer read) one other same = refl
+same_shows _ one other same = refl
 
 pub same_lines : (chip : ChipState) (front : Front) → asks_outside front ≡ asks_outside chip.front → interrupts_outside front ≡ interrupts_outside chip.front
     → HasLinesChip (interrupts_chip chip) (asks_chip chip) (with_front front chip)
@@ -201,8 +189,7 @@ follows_alike : (stage : ChipStage) (old new : ChipState) → rests_at stage ≡
 follows_alike Ready old new rests (paced, paces, is) =
     alike_both old paced new (paces_alike old.pace old paced paces) (alike_as paced _ new (shown_alike (interrupts_outside paced.front) paced) is)
 follows_alike (Telling answer read) old new rests paces = paces_alike old.pace old new paces
-follows_alike Held old new rests follows = absurd (true≢false (sym rests))
-follows_alike (Busy task) old new rests follows = absurd (true≢false (sym rests))
+follows_alike _ old new rests follows = absurd (true≢false (sym rests))
 
 settled_alike : (old new : ChipState) → IsSettled old → IsAlike old new → IsSettled new
 settled_alike old new settled alike = record {
@@ -218,10 +205,9 @@ settled_on first old new (settled, gate) step =
     (settled_alike old new settled now, alike.gate ∙ gate)
 
 rests_none : (stage : ChipStage) → rests_at stage ≡ true → passes_at stage ≡ false
-rests_none Ready rests = refl
-rests_none (Telling answer read) rests = refl
 rests_none Held rests = absurd (true≢false (sym rests))
 rests_none (Busy task) rests = absurd (true≢false (sym rests))
+rests_none _ rests = refl
 
 settled_int : (chip : ChipState) → IsSettled chip → interrupts_chip chip ≡ chip.gated
 settled_int chip settled =
@@ -258,10 +244,7 @@ settled_quiet most chip settled n new within steps =
 
 tells_stage : (stage : ChipStage) (pace : Option PacedSeek) → tells_alone stage pace ≡ true → (passes_at stage ≡ false) × (pace ≡ None)
 tells_stage (Telling answer read) None tells = (refl, refl)
-tells_stage (Telling answer read) (Some pace) tells = absurd (true≢false (sym tells))
-tells_stage Ready pace tells = absurd (true≢false (sym tells))
-tells_stage Held pace tells = absurd (true≢false (sym tells))
-tells_stage (Busy task) pace tells = absurd (true≢false (sym tells))
+tells_stage _ _ tells = absurd (true≢false (sym tells))
 
 -- a device step changes nothing but the inner controller
 tells_same : (stage : ChipStage) (pace : Option PacedSeek) (old new : ChipState) → tells_alone stage pace ≡ true → old.pace ≡ pace → Follows stage old new → new ≡ old
@@ -280,9 +263,7 @@ tells_on first old new tells was step =
 
 telling_shows : (stage : ChipStage) (pace : Option PacedSeek) (one other : Front) → tells_alone stage pace ≡ true → shows_behind stage one ≡ shows_behind stage other
 telling_shows (Telling answer read) pace one other tells = refl
-telling_shows Ready pace one other tells = absurd (true≢false (sym tells))
-telling_shows Held pace one other tells = absurd (true≢false (sym tells))
-telling_shows (Busy task) pace one other tells = absurd (true≢false (sym tells))
+telling_shows _ pace one other tells = absurd (true≢false (sym tells))
 
 telling_lines : (chip : ChipState) (front : Front) → tells_alone chip.stage chip.pace ≡ true → HasLinesChip (interrupts_chip chip) (asks_chip chip) (with_front front chip)
 telling_lines chip front tells =

@@ -1,15 +1,9 @@
 -- Device steps one by one, and those that the inner controller makes at once.
 use Rattle.std.proofs.Common.{◌≡◌, ◌≤◌, ℕ, zero, suc, ◌+◌, Bool, true, false, refl, sym, ap, subst, ◌∙◌, arith, add-suc}
 use Rattle.std.specs.Prelude.{Option, None, not, ◌&&◌, ◌||◌, if◌then◌else◌}
-use Rattle.fdc_sequencer.specs.Fronts.{Front, interrupts_outside, asks_outside}
-use Rattle.fdc_sequencer.specs.Moves.{HasLinesOutside, StepsFront, RunsFrontWith, RunsFront}
-use Rattle.fdc_chip.specs.Chips.{ChipState, with_front, interrupts_chip, asks_chip}
-use Rattle.fdc_chip.specs.Doing.{drained}
-use Rattle.fdc_chip.specs.Settings.{is_by_port}
-use Rattle.fdc_chip.specs.Steps.{HasLinesChip, StepsChip, Follows, RunsChipWith}
-use Rattle.fdc_chip.specs.declared.pace.PacedSeek.{PacedSeek}
-use Rattle.fdc_chip.specs.declared.stage.ChipStage.{ChipStage}
-use Rattle.fdc_chip.specs.declared.stage.ChipStage.TheVariants.{Ready}
+use Rattle.fdc_chip.proofs.Common.{Front, interrupts_outside, asks_outside, HasLinesOutside, RunsFront, ChipState, with_front, interrupts_chip, asks_chip, drained, is_by_port, HasLinesChip, StepsChip, Follows, PacedSeek, ChipStage, Ready}
+use Rattle.fdc_sequencer.specs.Moves.{RunsFrontWith}
+use Rattle.fdc_chip.specs.Steps.{RunsChipWith}
 
 pub runs_none : (int drq : Bool) (chip : ChipState) → RunsChipWith int drq 0 chip chip
 unfolding RunsChipWith

@@ -1,6 +1,6 @@
 -- What the host reads after a command.
 use Rattle.std.specs.Prelude.{ℕ, Bool, true, false, List, [], ◌∷◌, if◌then◌else◌, bit_and}
-use Rattle.std.specs.Int.RustNames.{bit_or}
+use Rattle.fdc_chip.specs.Common.{bit_or}
 use Rattle.fdc_commands.specs.Results.{result_bytes}
 use Rattle.fdc_chip.specs.declared.answer.ChipAnswer.{ChipAnswer}
 use Rattle.fdc_chip.specs.declared.answer.ChipAnswer.TheVariants as answer

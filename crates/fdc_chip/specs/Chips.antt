@@ -1,14 +1,9 @@
 -- The whole controller with its drives, as contracts see it: its state and its lines.
-use Rattle.std.specs.Prelude.{◌≡◌, ℕ, Bool, true, false, not, ◌==◌, ◌&&◌, ◌||◌, Option, Some, None, ◌%◌, if◌then◌else◌, bit_and, nat_le, nat_lt}
-use Rattle.std.specs.Int.RustNames.{bit_or}
+use Rattle.std.specs.Prelude.{◌≡◌, ℕ, Bool, true, false, not, ◌==◌, ◌&&◌, ◌||◌, Option, Some, None, if◌then◌else◌, bit_and, nat_le, nat_lt}
+use Rattle.fdc_chip.specs.Common.{bit_or, DriveState, place_under, rate_of, drive_at, selected_at, gate, to_memory_of, Front, drive_bit, front_state, front_with_drive, IsNewFront, KeepsFront, interrupts_outside, asks_outside, value_outside}
 use Rattle.flop_base.specs.declared.answers.Rate.{Rate}
 use Rattle.flop_base.specs.declared.answers.Rate.TheVariants.{R500, R250}
-use Rattle.drive_model.specs.Drive.{DriveState, place_under, rate_of}
-use Rattle.fdc_sequencer.specs.Adapters.{drive_at, selected_at}
-use Rattle.fdc_registers.specs.Dor.{gate}
 use Rattle.fdc_registers.specs.Msr.{rqm, dio, non_dma, busy}
-use Rattle.fdc_core.specs.Dma.{to_memory_of}
-use Rattle.fdc_sequencer.specs.Fronts.{Front, drive_bit, front_state, front_with_drive, IsNewFront, KeepsFront, interrupts_outside, asks_outside, value_outside}
 use Rattle.fdc_sequencer.specs.declared.sequencer.Sequencer.{Sequencer}
 use Rattle.fdc_chip.specs.Interrupts.{Interrupting, at_rest, seek_bits}
 use Rattle.fdc_chip.specs.Orders.{blank, is_format}

@@ -1,16 +1,10 @@
 -- What a whole command does.
 use Rattle.std.specs.Prelude.{◌≡◌, ℕ, zero, suc, ◌+◌, ◌-◌, ◌*◌, ◌%◌, Bool, true, false, not, ◌==◌, ◌&&◌, ◌||◌, Option, Some, None, is_none, is_some, if◌then◌else◌, nat_le, bit_and, min}
-use Rattle.std.specs.Int.RustNames.{bit_or}
-use Rattle.flop_base.specs.declared.key.Chrn.{Chrn}
+use Rattle.fdc_chip.specs.Common.{bit_or, Chrn, lines_at, Front, GivesCommand, GivesTransfer, value_outside, pending_outside, sensed_outside, seek_end, size_of, transfer_with}
 use Rattle.fdc_commands.specs.declared.command.Command.{Command}
 use Rattle.fdc_commands.specs.declared.command.Command.TheVariants as command
 use Rattle.fdc_core.specs.Commands.{status_of_lines}
-use Rattle.fdc_sequencer.specs.Adapters.{lines_at}
-use Rattle.fdc_sequencer.specs.Fronts.{Front, GivesCommand, GivesTransfer, value_outside}
 use Rattle.fdc_sequencer.specs.Opcodes.{opcode_of}
-use Rattle.fdc_sequencer.specs.Senses.{pending_outside, sensed_outside}
-use Rattle.fdc_registers.specs.St0.{seek_end}
-use Rattle.fdc_sequencer.specs.Transfers.{size_of, transfer_with}
 use Rattle.fdc_sequencer.specs.declared.transfer.Transfer.{Transfer}
 use Rattle.fdc_chip.specs.Chips.{ChipState, with_front, KeepsRest}
 use Rattle.fdc_chip.specs.Codes.{has_bit}

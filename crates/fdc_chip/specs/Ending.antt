@@ -1,16 +1,11 @@
 -- How what the inner controller executes ends, and what comes of it.
 use Rattle.std.specs.Prelude.{◌≡◌, ℕ, ◌+◌, ◌-◌, ◌*◌, ◌%◌, nat_le, Bool, true, false, not, ◌==◌, ◌&&◌, ◌||◌, Option, Some, None, option_map, if◌then◌else◌, bit_and}
 use Rattle.std.specs.Int.Bits.{bit_xor}
-use Rattle.std.specs.Int.RustNames.{bit_or}
-use Rattle.flop_base.specs.declared.key.Chrn.{Chrn}
+use Rattle.fdc_chip.specs.Common.{bit_or, Chrn, abnormal, seek_end, drive_at, selected_at, size_of, ReadsSector, is_through, results_outside, results_taken, sector_alone}
 use Rattle.raw_image.specs.Disk.{Disk}
-use Rattle.fdc_registers.specs.St0.{abnormal, seek_end}
 use Rattle.fdc_registers.specs.St1.{end_of_cylinder, overrun, no_data, missing_mark}
 use Rattle.fdc_registers.specs.St2.{wrong_cylinder, bad_cylinder, missing_data_mark}
 use Rattle.fdc_commands.specs.declared.results.Results.{Results}
-use Rattle.fdc_sequencer.specs.Adapters.{drive_at, selected_at}
-use Rattle.fdc_sequencer.specs.Transfers.{size_of}
-use Rattle.fdc_sequencer.specs.Fronts.{Front, ReadsSector, is_through, results_outside, results_taken, sector_alone}
 use Rattle.fdc_chip.specs.Chips.{ChipState, KeepsRest, with_front}
 use Rattle.fdc_chip.specs.Codes.{has_bit, has_multitrack}
 use Rattle.fdc_chip.specs.Doing.{GivesOn, told, identifying, is_size}

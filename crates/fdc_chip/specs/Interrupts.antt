@@ -1,8 +1,6 @@
 -- The results of seeks and polls, the present cylinder numbers, and the interrupt line.
-use Rattle.std.specs.Prelude.{◌≡◌, ℕ, ◌%◌, Bool, true, false, not, ◌==◌, List, [], ◌∷◌, Option, Some, None, is_some, unwrap_or, if◌then◌else◌, bit_and, option_map, position, slice_index, slice_index_or, slice_set, length}
-use Rattle.std.specs.Option.{option_map_or}
-use Rattle.std.specs.Int.RustNames.{bit_or}
-use Rattle.fdc_registers.specs.St0.{seek_end}
+use Rattle.std.specs.Prelude.{◌≡◌, ℕ, ◌%◌, Bool, true, false, ◌==◌, List, [], ◌∷◌, Option, Some, None, is_some, unwrap_or, if◌then◌else◌, bit_and, option_map, position, slice_index, slice_index_or, slice_set, length}
+use Rattle.fdc_chip.specs.Common.{option_map_or, bit_or, seek_end}
 
 -- ST0 of each drive's pending result, the present cylinder number of each drive, and INT, if DOR lets it out
 pub record Interrupting : Type 0 where

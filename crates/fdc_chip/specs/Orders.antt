@@ -1,6 +1,5 @@
 -- The bytes of a command, one after the other.
 use Rattle.std.specs.Prelude.{ℕ, Bool, ◌==◌, if◌then◌else◌, bit_and}
-use Rattle.flop_base.specs.declared.key.Chrn.{Chrn}
 use Rattle.fdc_chip.specs.declared.order.Order.{Order}
 
 abbrev pub blank : Order

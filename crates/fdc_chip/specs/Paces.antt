@@ -1,7 +1,6 @@
 -- Seeks whose pulses come in the time that SPECIFY sets.
 use Rattle.std.specs.Prelude.{◌≡◌, ℕ, ◌+◌, ◌-◌, ◌*◌, max, min, Bool, true, false, not, ◌==◌, ◌&&◌, ◌||◌, Option, Some, None, is_none, if◌then◌else◌, nat_le, nat_lt, unwrap_or}
-use Rattle.fdc_sequencer.specs.Fronts.{is_ready}
-use Rattle.fdc_sequencer.specs.Senses.{recalibrated_outside}
+use Rattle.fdc_chip.specs.Common.{is_ready, recalibrated_outside}
 use Rattle.fdc_chip.specs.Chips.{ChipState, with_front}
 use Rattle.fdc_chip.specs.Doing.{GivesOn, drained, moving, moves_heads}
 use Rattle.fdc_chip.specs.Settings.{step_words}

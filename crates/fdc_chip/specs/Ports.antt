@@ -1,9 +1,7 @@
 -- Port accesses, and the side of the channel.
 use Rattle.std.specs.Prelude.{◌≡◌, ℕ, ◌+◌, ◌-◌, ◌%◌, Bool, true, false, not, ◌==◌, ◌&&◌, ◌||◌, Option, Some, None, if◌then◌else◌, nat_le, get_or, length, unwrap_or, bit_and}
-use Rattle.std.specs.Int.RustNames.{bit_or}
-use Rattle.fdc_registers.specs.Dor.{gate}
+use Rattle.fdc_chip.specs.Common.{bit_or, gate, GivesFront, TakesFront, WritesFront, is_ready, told_front}
 use Rattle.fdc_core.specs.Ports.{resets}
-use Rattle.fdc_sequencer.specs.Fronts.{Front, GivesFront, TakesFront, WritesFront, is_ready, told_front}
 use Rattle.fdc_chip.specs.Answers.{answer_bytes, is_of_data}
 use Rattle.fdc_chip.specs.Chips.{ChipState, with_front, KeepsRest, status_of, value_of, passes_by_port, passes_by_channel, is_data}
 use Rattle.fdc_chip.specs.Codes.{code_of, has_bit, parameters}
@@ -14,8 +12,7 @@ use Rattle.fdc_chip.specs.Settings.{reset}
 use Rattle.fdc_chip.specs.declared.answer.ChipAnswer.{ChipAnswer}
 use Rattle.fdc_chip.specs.declared.code.ChipOpcode.{ChipOpcode}
 use Rattle.fdc_chip.specs.declared.stage.ChipStage.{ChipStage}
-use Rattle.fdc_chip.specs.declared.stage.ChipStage.TheVariants.{Ready, Held, Busy, Telling}
-use Rattle.fdc_chip.specs.declared.stage.ChipTask.{ChipTask}
+use Rattle.fdc_chip.specs.declared.stage.ChipStage.TheVariants.{Ready, Busy, Telling}
 use Rattle.fdc_chip.specs.declared.stage.ChipTask.TheVariants as task
 use Rattle.fdc_chip.specs.declared.stage.Track.{Track}
 

@@ -2,8 +2,7 @@
 use Rattle.std.specs.Prelude.{◌≡◌, ◌⊎◌, ◌≤◌, ℕ, zero, suc, min, Bool, true, false, is_none, Option, None, Some, if◌then◌else◌}
 use Rattle.fdc_core.specs.Courses.{awaits_nothing}
 use Rattle.fdc_sequencer.specs.AdapterStill.{steps_ahead}
-use Rattle.fdc_sequencer.specs.Fronts.{interrupts_outside, is_ready}
-use Rattle.fdc_sequencer.specs.Quiet.{ForeseesBehind, IsLongestBehind, IsQuietBehind, seeks_at}
+use Rattle.fdc_chip.specs.Common.{interrupts_outside, is_ready, ForeseesBehind, IsLongestBehind, IsQuietBehind, seeks_at}
 use Rattle.fdc_sequencer.specs.Still.{stands_at, StandsFront}
 use Rattle.fdc_sequencer.specs.declared.stage.FrontStage.{FrontStage}
 use Rattle.fdc_chip.specs.Chips.{ChipState, interrupts_chip, asks_chip}

@@ -1,6 +1,6 @@
 -- What commands set, and what a reset leaves of it.
-use Rattle.std.specs.Prelude.{ℕ, ◌-◌, ◌*◌, ◌/◌, Bool, true, false, if◌then◌else◌, bit_and}
-use Rattle.std.specs.Int.RustNames.{bit_or}
+use Rattle.std.specs.Prelude.{ℕ, ◌-◌, ◌*◌, ◌/◌, Bool, false, if◌then◌else◌, bit_and}
+use Rattle.fdc_chip.specs.Common.{bit_or}
 use Rattle.fdc_chip.specs.Codes.{has_bit}
 use Rattle.fdc_chip.specs.declared.settings.Settings.{Settings}
 

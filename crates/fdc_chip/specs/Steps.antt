@@ -1,8 +1,8 @@
 -- Device steps.
-use Rattle.std.specs.Prelude.{◌≡◌, ◌≤◌, ℕ, zero, suc, ◌-◌, Bool, true, false, ◌==◌, ◌&&◌, Option, Some, None, if◌then◌else◌}
-use Rattle.fdc_sequencer.specs.Fronts.{Front, TakesFront, interrupts_outside, told_front}
+use Rattle.std.specs.Prelude.{◌≡◌, ◌≤◌, ℕ, zero, suc, ◌-◌, Bool, ◌==◌, Option, Some, None, if◌then◌else◌}
+use Rattle.fdc_chip.specs.Common.{Front, TakesFront, interrupts_outside, told_front}
 use Rattle.fdc_sequencer.specs.Moves.{StepsFront}
-use Rattle.fdc_chip.specs.Chips.{ChipState, with_front, KeepsRest, interrupts_chip, asks_chip}
+use Rattle.fdc_chip.specs.Chips.{ChipState, with_front, interrupts_chip, asks_chip}
 use Rattle.fdc_chip.specs.Codes.{code_of}
 use Rattle.fdc_chip.specs.Doing.{AttendsTo, drained}
 use Rattle.fdc_chip.specs.Ending.{MayEnd}

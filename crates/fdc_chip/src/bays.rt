@@ -1,12 +1,8 @@
 // The bays and what a front end shows, which are those of the inner controller.
 ghost use Rattle.std.specs.Prelude.{◌≡◌, ◌≤◌, ◌+◌, ◌%◌, ◌↔◌, IsTrue, IsBitSet};
-ghost use Rattle.std.specs.Option.{option_copied};
-ghost use Rattle.drive_model.specs.Drive.{forgotten, rate_of};
-ghost use Rattle.fdc_sequencer.specs.Adapters.{controller_of, drive_at};
-ghost use Rattle.fdc_sequencer.specs.Handling.{PutsIn, TakesOut, Sets};
+ghost use Rattle.fdc_chip.specs.Common.{option_copied, forgotten, rate_of, controller_of, drive_at, PutsIn, TakesOut, Sets, adapter_of};
 ghost use Rattle.fdc_sequencer.specs.WordTimes.{nanoseconds};
 ghost use Rattle.fdc_core.specs.State.{dor_of, data_rate};
-ghost use Rattle.fdc_sequencer.specs.Fronts.{adapter_of};
 ghost use Rattle.fdc_chip.specs.Chips.{chip_state, behind_of, KeepsChip, index_words, indexes, indexes_chip};
 
 use crate::chip::Chip;

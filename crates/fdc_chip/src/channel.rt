@@ -1,7 +1,6 @@
 // The side of the DMA channel.
 ghost use Rattle.std.specs.Prelude.{◌≡◌, true};
-ghost use Rattle.fdc_sequencer.specs.Adapters.{SameDrives};
-ghost use Rattle.fdc_sequencer.specs.Fronts.{adapter_of, GivesFront};
+ghost use Rattle.fdc_chip.specs.Common.{SameDrives, adapter_of, GivesFront};
 ghost use Rattle.fdc_chip.specs.Chips.{chip_state, behind_of, is_data, KeepsRest};
 ghost use Rattle.fdc_chip.specs.Ports.{TakesChip, GivesChip, given_one, counted_if, told_chip};
 

@@ -1,8 +1,6 @@
 // The state, the straps, and the lines that are seen outside.
 ghost use Rattle.std.specs.Prelude.{◌≡◌, IfOk, IsTrue, IsFalse};
-ghost use Rattle.fdc_sequencer.specs.Adapters.{controller_of, SameDrives};
-ghost use Rattle.fdc_core.specs.Dma.{to_memory_of};
-ghost use Rattle.fdc_sequencer.specs.Fronts.{adapter_of};
+ghost use Rattle.fdc_chip.specs.Common.{controller_of, SameDrives, to_memory_of, adapter_of};
 ghost use Rattle.fdc_chip.specs.Chips.{chip_state, behind_of, IsNewChip, interrupts_chip, asks_chip, passes, passes_by_port, passes_by_channel, passes_at, passes_bytes, is_data};
 ghost use Rattle.fdc_chip.specs.Steps.{HasLinesChip};
 

@@ -1,9 +1,7 @@
 // A FORMAT TRACK that the index cuts in gap 3 of its last sector. It is done (82077AA data sheet: a format ends at the
 // index). The inner controller reports it as cut, because it counts this gap as a part of the layout.
 ghost use Rattle.std.specs.Prelude.{◌≡◌, ◌≤◌, ◌+◌};
-ghost use Rattle.fdc_sequencer.specs.Adapters.{drive_at};
-ghost use Rattle.fdc_sequencer.specs.Fronts.{results_taken};
-ghost use Rattle.fdc_sequencer.specs.Transfers.{size_of};
+ghost use Rattle.fdc_chip.specs.Common.{drive_at, results_taken, size_of};
 ghost use Rattle.fdc_chip.specs.Chips.{chip_state, with_front};
 ghost use Rattle.fdc_chip.specs.Ending.{as_done, done_if, fits_but_gap, fits_selected, has_room, layout_words, results_judged, says_cut, words_in};
 

@@ -1,6 +1,6 @@
 // Device steps.
 ghost use Rattle.std.specs.Prelude.{◌≡◌, ◌≤◌, true, false, None, if◌then◌else◌};
-ghost use Rattle.fdc_sequencer.specs.Fronts.{front_state, interrupts_outside};
+ghost use Rattle.fdc_chip.specs.Common.{front_state, interrupts_outside};
 ghost use Rattle.fdc_chip.specs.Chips.{chip_state, behind_of, interrupts_chip, asks_chip};
 ghost use Rattle.fdc_chip.specs.Doing.{drained};
 ghost use Rattle.fdc_chip.specs.Steps.{Swallows, SwallowsAll, Follows, FollowsTask, StepsChip, RunsChipWith, RunsChip};

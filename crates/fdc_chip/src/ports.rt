@@ -1,7 +1,6 @@
 // Ports.
 ghost use Rattle.std.specs.Prelude.{◌≡◌, ◌==◌, ◌&&◌};
-ghost use Rattle.fdc_sequencer.specs.Adapters.{SameDrives};
-ghost use Rattle.fdc_sequencer.specs.Fronts.{adapter_of};
+ghost use Rattle.fdc_chip.specs.Common.{SameDrives, adapter_of};
 ghost use Rattle.fdc_chip.specs.Chips.{chip_state, behind_of, status_of, stage_bits, execution_bits, port_bits, output_of};
 ghost use Rattle.fdc_chip.specs.Ports.{ReadsChip, ReadsAt, PassesOut, byte_told, WritesChip, TakesByte, Collects, may_come, with_next, PassesIn, is_whole, latched_by, value_behind};
 

@@ -1,7 +1,7 @@
 // How long no line changes, and device steps while nothing runs; also the ranges of the inner controller's numbers.
 ghost use Rattle.std.specs.Prelude.{◌≡◌, ◌≤◌, true};
 ghost use Rattle.fdc_core.specs.Ranges.{IsInRange};
-ghost use Rattle.fdc_sequencer.specs.Quiet.{ForeseesBehind, IsLongestBehind, IsQuietBehind};
+ghost use Rattle.fdc_chip.specs.Common.{ForeseesBehind, IsLongestBehind, IsQuietBehind};
 ghost use Rattle.fdc_sequencer.specs.Ranges.{HasByteNumbers};
 ghost use Rattle.fdc_chip.specs.Chips.{chip_state, interrupts_chip, asks_chip};
 ghost use Rattle.fdc_chip.specs.Quiet.{IsIdle, IsQuietFor, IsStill, StaysQuiet, awaits_heads, awaits_results, due_steps, idles, is_busy, is_for_heads, is_settled, is_still_at, quiet_steps, rests_at, takes_none, tells_alone, waits_at};

@@ -1,7 +1,6 @@
 // Data commands. The inner controller is given those that this medium can have. For the others it searches instead.
 ghost use Rattle.std.specs.Prelude.{◌≡◌, ◌≤◌, ◌*◌, true};
-ghost use Rattle.fdc_sequencer.specs.Fronts.{GivesCommand, GivesTransfer};
-ghost use Rattle.fdc_sequencer.specs.Transfers.{size_of};
+ghost use Rattle.fdc_chip.specs.Common.{GivesCommand, GivesTransfer, size_of};
 ghost use Rattle.fdc_chip.specs.Chips.{chip_state};
 ghost use Rattle.fdc_chip.specs.Doing.{Begins, Opens, Remembers, Refuses, BeginsReadId, Formats, FormatsIf, Transfers, TransfersIf, Verifies, ReadsTrack, with_last, with_keys, implies, sectors_of_track, sought_if, is_size, no_key, sectors_to, sectors_verified, verifying, track_begun, absent_key, reading_one};
 

@@ -5,22 +5,15 @@ use Rattle.fdc_commands.specs.Spelled.{spelled}
 use Rattle.fdc_commands.specs.Table.{answer, SizeInRange}
 use Rattle.fdc_commands.specs.declared.bytes.Accepted.TheVariants.{Ready}
 use Rattle.fdc_commands.specs.declared.command.Command.{Command}
-use Rattle.fdc_commands.specs.declared.command.Command.TheVariants.{Specify, SenseDrive, Recalibrate, SenseInterrupt, Seek, Version, Configure, ReadId, ReadData, WriteData, WriteDeleted, FormatTrack}
+use Rattle.fdc_commands.specs.declared.command.Command.TheVariants.{ReadData, WriteData, WriteDeleted, FormatTrack}
 
 within : (n : ℕ) → (1 ≤ n) × (n ≤ 6) → (nat_le 1 n && nat_le n 6) ≡ true
 within n (low, high) = grind (arith, nat_tests)
 
 pub read_back : (command : Command) → SizeInRange command → answer (spelled command) ≡ Ready command
 unfolding answer
-read_back (Specify srt_hut hlt_nd) sized = refl
-read_back (SenseDrive head_drive) sized = refl
-read_back (Recalibrate drive) sized = refl
-read_back SenseInterrupt sized = refl
-read_back (Seek head_drive ncn) sized = refl
-read_back Version sized = refl
-read_back (Configure fixed options pretrk) sized = refl
-read_back (ReadId head_drive) sized = refl
 read_back (ReadData head_drive key eot gpl dtl) sized = rw (within key.n sized) refl
 read_back (WriteData head_drive key eot gpl dtl) sized = rw (within key.n sized) refl
 read_back (WriteDeleted head_drive key eot gpl dtl) sized = rw (within key.n sized) refl
 read_back (FormatTrack head_drive n sc gpl fill) sized = rw (within n sized) refl
+read_back _ sized = refl

@@ -1,27 +1,15 @@
 -- A READ DATA that hears the ten words of an address field still waits for the data field: nothing else can have come of
 -- so few words.
 use Rattle.std.proofs.Common.{◌≡◌, inl, inr, ℕ, suc, ◌+◌, ◌<◌, ◌≤◌, false, List, [], ◌∷◌, ◌++◌, length, take, get_or, refl, sym, ap, ◌∙◌, subst, arith}
-use Rattle.std.proofs.lemmas.List.{take_more, take_all, length-append, length-take-le}
-use Rattle.flop_base.specs.declared.key.Chrn.{Chrn}
-use Rattle.track_model.specs.Fields.{content_size}
-use Rattle.track_separator.proofs.Lawful.{reads_mark}
-use Rattle.fdc_stages.specs.History.{IsAmong, Past, heard}
-use Rattle.fdc_stages.specs.Readings.{FailsWell, HasHeard, HasRead, IsFailure, IsReading, read_outcome}
-use Rattle.fdc_stages.specs.declared.ending.Ending.{Ending}
-use Rattle.fdc_stages.specs.declared.ending.Ending.TheVariants.{Done, NoMark, NoSector, NoField, BadCheck, Overrun, NoCount, Protected, Late}
-use Rattle.fdc_stages.specs.declared.reading.ReadHeard.{ReadHeard}
+use Rattle.fdc_core.proofs.Common.{take_more, take_all, length-append, length-take-le, Chrn, content_size, reads_mark, IsAmong, Past, heard, FailsWell, HasHeard, HasRead, IsFailure, IsReading, read_outcome, Ending, Done, NoMark, NoSector, NoField, BadCheck, Overrun, NoCount, Protected, Late, ReadHeard, ReadStage, Wait, Content, Over, heard_words}
 use Rattle.fdc_stages.specs.declared.reading.ReadHeard.TheVariants as given
-use Rattle.fdc_stages.specs.declared.reading.ReadStage.{ReadStage}
-use Rattle.fdc_stages.specs.declared.reading.ReadStage.TheVariants.{Search, Wait, Content, Over}
-use Rattle.fdc_core.specs.Fields.{heard_words}
 
 -- a stage goes by the words alone
 pub same_words : (past other : Past) (key : Chrn) (told : List ℕ) (stage : ReadStage) → IsReading past key told stage → IsReading (record other { turns = past.turns; seen = past.seen }) key told stage
-same_words past other key told (Search searching) was = was
 same_words past other key told (Wait separator) ((p, at), none) = ((p, record { address = at.address; waits = at.waits; few = at.few }), none)
 same_words past other key told (Content separator deleted) (p, q, taken, at) =
     (p, q, taken, record { address = at.address; reads = at.reads; bytes = at.bytes; few = at.few })
-same_words past other key told (Over deleted good) was = was
+same_words past other key told _ was = was
 
 nothing_turned : (turn : List ℕ) (turns : List (List ℕ)) → [] ≡ turn ∷ turns → ⊥
 nothing_turned turn turns is = let none : 0 ≡ suc (length turns) = ap length is in omega (arith, none)
@@ -32,8 +20,6 @@ one_none value is = let none : 1 ≡ 0 = ap length is in omega (arith, none)
 -- no byte of a content comes in so few words, and no reading ends
 module _ (past : Past) (key : Chrn) (none : past.turns ≡ []) (few : length past.seen ≤ 10) where
   none_given : (value : ℕ) (stage : ReadStage) → IsReading past key (value ∷ []) stage → ⊥
-  none_given value (Search searching) was = one_none value was.1
-  none_given value (Wait separator) was = one_none value was.1
   none_given value (Content separator deleted) (p, q, taken, at) =
       let mark = (reads_mark separator past.seen p q deleted (content_size key.n) taken at.reads).mark in
       let after = mark.after in
@@ -45,6 +31,7 @@ module _ (past : Past) (key : Chrn) (none : past.turns ≡ []) (few : length pas
       let size : length turn ≡ length past.seen = ap length same in
       omega arith
   none_given value (Over deleted good) (turn, inr among, over) = absurd (subst (λ turns. IsAmong turns turn) none among)
+  none_given value _ was = one_none value was.1
 
   none_ended : (ending : Ending) → HasRead past key [] ending → IsFailure ending → ⊥
   none_ended NoMark read fails = nothing_turned _ _ (sym none ∙ read.cause.0.is.turns)

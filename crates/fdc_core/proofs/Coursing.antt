@@ -1,46 +1,21 @@
 -- Device steps in a row.
-use Rattle.std.proofs.Common.{◌≡◌, ◌≤◌, ◌<◌, ◌+◌, ℕ, zero, suc, Bool, true, false, not, ◌&&◌, ◌||◌, if◌then◌else◌, ◌==◌, List, [], ◌∷◌, length, take, Option, None, Some, refl, sym, subst, inr, length-append, ap, ◌∙◌, inl, arith, length-take-le}
-use Rattle.std.proofs.lemmas.Bool.{false≢true}
+use Rattle.std.proofs.Common.{◌≡◌, ◌≤◌, ◌<◌, ◌+◌, ℕ, suc, Bool, true, false, not, ◌&&◌, ◌||◌, if◌then◌else◌, ◌==◌, List, [], ◌∷◌, length, take, Option, None, Some, refl, sym, subst, inr, length-append, ap, ◌∙◌, inl, arith, length-take-le}
+use Rattle.fdc_core.proofs.Common.{false≢true, DriveState, Becomes, at_index, passed, rate_of, word_under, ahead_same, becomes_at, wants, Search, HearsNothing, DataRate, ReadId, Read, Write, Writing, StageHearsWord, gone_on, after_next, Reading, head_of, write_at, rate_fits, seen_of, at_stage, gone_on_reading, Seeking, with_polls, has_ended, is_seeking, stepped_seek, pulse_of, pulse_due, Execution, Phase, Command, Execute, Result, PassesMany, Works, HoldsLines, IsStill, IsQuiet, comes_poll, SeesUnder, StepsOn, Listens, ListensToNone, is_held, polled, seek_stepped, let_pass, Rests, RestsIn, Moves, MovesDrive, MovesIn, Ends, EndsIn, Stays, Flows, FlowsIn, StepsNowhere, TaskSteps, LastsOn, LastsIn, WritesOn, Fdc}
 use Rattle.std.specs.Option.{option_map_or}
-use Rattle.drive_model.specs.Drive.{DriveState, Becomes, at_index, passed, rate_of, word_under}
 use Rattle.drive_model.specs.Ahead.{LetsPass, AreAhead}
-use Rattle.drive_model.proofs.Passing.{ahead_same, becomes_at}
-use Rattle.fdc_registers.specs.Fifo.{wants}
-use Rattle.fdc_stages.specs.declared.searching.Search.{Search}
 use Rattle.fdc_stages.specs.declared.reading.ReadStage.TheVariants as stages
-use Rattle.fdc_stages.specs.Searches.{HearsNothing, HearsNothingIn}
-use Rattle.fdc_phases.specs.declared.rates.DataRate.{DataRate}
-use Rattle.fdc_phases.specs.declared.phases.Task.TheVariants.{ReadId, Read, Write}
-use Rattle.fdc_phases.specs.declared.transfers.Writing.{Writing}
-use Rattle.fdc_phases.specs.Writing.{StageHearsWord}
+use Rattle.fdc_stages.specs.Searches.{HearsNothingIn}
 use Rattle.fdc_stages.specs.declared.writing.WriteStage.TheVariants as write_stages
 use Rattle.fdc_stages.specs.declared.writing.WriteNext.TheVariants as write_next
 use Rattle.fdc_stages.specs.Searches as searched
-use Rattle.fdc_core.specs.Dma.{gone_on}
-use Rattle.fdc_core.specs.Writing.{after_next}
 use Rattle.fdc_core.proofs.Words.{heard_time}
-use Rattle.fdc_phases.specs.declared.transfers.Reading.{Reading}
-use Rattle.fdc_phases.specs.Phases.{head_of, write_at}
-use Rattle.fdc_phases.specs.Rates.{rate_fits, seen_of}
-use Rattle.fdc_core.specs.Reading.{at_stage, gone_on_reading}
 use Rattle.fdc_core.proofs.Following.{at_reading}
 use Rattle.fdc_core.proofs.Passing.{passed_by}
 use Rattle.fdc_commands.specs.declared.motion.Motion.{Motion}
-use Rattle.fdc_commands.specs.declared.motion.Motion.TheVariants.{Outward, Toward, Ended}
+use Rattle.fdc_commands.specs.declared.motion.Motion.TheVariants.{Ended}
 use Rattle.fdc_commands.specs.declared.motion.Seek.{Seek}
-use Rattle.fdc_commands.specs.Seeking.{Seeking, with_polls, has_ended, is_seeking, stepped_seek, pulse_of, pulse_due}
 use Rattle.fdc_phases.specs.declared.answers.Answer.{Answer}
-use Rattle.fdc_phases.specs.declared.phases.Execution.{Execution}
-use Rattle.fdc_phases.specs.declared.phases.Phase.{Phase}
-use Rattle.fdc_phases.specs.declared.phases.Phase.TheVariants.{Command, Execute, Result}
-use Rattle.fdc_core.specs.Courses.{PassesMany, Works, HoldsLines, Courses, IsStill, IsQuiet, comes_poll}
-use Rattle.fdc_core.specs.Listening.{SeesUnder, StepsOn, Listens, ListensToNone}
-use Rattle.fdc_core.specs.State.{is_held}
-use Rattle.fdc_core.specs.Steps.{polled, seek_stepped, let_pass, Rests, RestsIn, Moves, MovesDrive, MovesIn, Ends, EndsIn, Stays, Flows, FlowsIn}
-use Rattle.fdc_core.specs.Tasks.{StepsNowhere, TaskSteps}
-use Rattle.fdc_core.specs.Waiting.{LastsOn, LastsIn}
-use Rattle.fdc_core.specs.Writes.{WritesOn}
-use Rattle.fdc_core.specs.declared.controller.Fdc.{Fdc}
+use Rattle.fdc_core.specs.Courses.{Courses}
 use Rattle.fdc_core.proofs.Ending.{executes_left}
 use Rattle.fdc_core.proofs.Hearing.{executes_hears, rests_follows, rests_hears}
 use Rattle.fdc_core.proofs.Staying.{executes_stays, executes_flows, executes_moves, same_stays}
@@ -91,14 +66,12 @@ works_on old new before after execution due is steps =
 -- ---- no seek runs
 
 unmoved : (old : Seeking) (drive : ℕ) (motion : Motion) (track0 : Bool) → not (has_ended motion) ≡ false → stepped_seek old drive motion track0 ≡ old
-unmoved old drive (Outward pulses) track0 is = absurd (false≢true (sym is))
-unmoved old drive (Toward cylinder target) track0 is = absurd (false≢true (sym is))
 unmoved old drive Ended track0 is = refl
+unmoved old drive _ track0 is = absurd (false≢true (sym is))
 
 unpulsed : (motion : Motion) (track0 : Bool) → not (has_ended motion) ≡ false → pulse_of motion track0 ≡ None
-unpulsed (Outward pulses) track0 is = absurd (false≢true (sym is))
-unpulsed (Toward cylinder target) track0 is = absurd (false≢true (sym is))
 unpulsed Ended track0 is = refl
+unpulsed _ track0 is = absurd (false≢true (sym is))
 
 seek_same : (old : Seeking) (seek : Option Seek) (track0 : Bool) → option_map_or (λ s. not (has_ended s.motion)) seek false ≡ false → option_map_or (λ s. stepped_seek old s.drive s.motion track0) seek old ≡ old
 seek_same old None track0 is = refl
@@ -158,9 +131,8 @@ still fdc due ended other = record {
 -- the first of the words ahead are ahead
 pub ahead_first : (head count : ℕ) (words : List ℕ) (s : DriveState) → AreAhead head words s → AreAhead head (take count words) s
 unfolding AreAhead
-ahead_first head zero words s ahead = tt
-ahead_first head (suc count) [] s ahead = tt
 ahead_first head (suc count) (word ∷ rest) s (same, before, ahead) = (same, before, ahead_first head count rest (passed s) ahead)
+ahead_first head _ _ s ahead = tt
 
 -- after a word time with the gate closed
 pub ahead_behind : (head : ℕ) (rest : List ℕ) (before : DriveState) → AreAhead head rest (passed before) → AreAhead head rest (let_pass before)

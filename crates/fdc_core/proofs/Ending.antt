@@ -1,37 +1,11 @@
 -- A data command comes to its end.
-use Rattle.std.proofs.Common.{◌≡◌, ℕ, ◌+◌, ◌-◌, ◌<◌, ◌≤◌, Bool, true, false, if◌then◌else◌, ◌==◌, length, Option, None, Some, refl, sym, subst, arith, inl, inr}
-use Rattle.fdc_stages.specs.declared.ending.Ending.{Ending}
-use Rattle.fdc_stages.specs.declared.ending.Ending.TheVariants.{Done, NoMark, NoSector, NoField, BadCheck, Overrun, NoCount, Protected, Late}
-use Rattle.fdc_stages.specs.Readings.{ReadOutcome}
+use Rattle.std.proofs.Common.{◌≡◌, ℕ, ◌+◌, ◌-◌, ◌<◌, ◌≤◌, Bool, true, false, if◌then◌else◌, ◌==◌, length, Option, Some, refl, sym, subst, arith, inl, inr}
+use Rattle.fdc_core.proofs.Common.{Ending, Overrun, Protected, Late, ReadOutcome, SearchOutcome, ending_of, is_listening, after_searched, after_heard, over_or_on, gone_on_reading, at_stage, pushed, is_full, finished, DriveState, at_index, no_key, FormatDoes, after_laid, Hears, StepsOn, IsCounted, Ends, EndsIn, TaskSteps, TaskStepsNowhere, WordTime, Saw, KeptOut, Wrote, Stopped, WriteDoes, Stops, after_next, Phase, Execute, Formatting, Writing, FormatNext, WriteNext, Chrn, false≢true, Fdc, Execution, Reading, Task, ReadId, Read, Write, Format}
 use Rattle.fdc_stages.specs.Readings as heard
-use Rattle.fdc_stages.specs.Searches.{SearchOutcome}
 use Rattle.fdc_stages.specs.Searches as searched
-use Rattle.fdc_phases.specs.Phases.{ending_of, is_listening}
-use Rattle.fdc_core.specs.Reading.{after_searched, after_heard, over_or_on, gone_on_reading, at_stage, pushed, is_full}
-use Rattle.fdc_core.specs.State.{finished}
-use Rattle.drive_model.specs.Drive.{DriveState, at_index}
-use Rattle.fdc_phases.specs.Answers.{no_key}
-use Rattle.fdc_core.specs.Formatting.{FormatDoes, after_laid}
-use Rattle.fdc_core.specs.Listening.{Hears, StepsOn}
-use Rattle.fdc_core.specs.Steps.{steps_left, IsCounted, Ends, EndsIn}
-use Rattle.fdc_core.specs.Tasks.{TaskSteps, TaskStepsNowhere}
-use Rattle.fdc_core.specs.Times.{WordTime, Saw, KeptOut, Wrote, Stopped}
-use Rattle.fdc_core.specs.Writing.{WriteDoes, Stops, after_next}
-use Rattle.fdc_phases.specs.declared.phases.Phase.{Phase}
-use Rattle.fdc_phases.specs.declared.phases.Phase.TheVariants.{Execute}
-use Rattle.fdc_phases.specs.declared.transfers.Formatting.{Formatting}
-use Rattle.fdc_phases.specs.declared.transfers.Writing.{Writing}
-use Rattle.fdc_stages.specs.declared.formatting.FormatNext.{FormatNext}
+use Rattle.fdc_core.specs.Steps.{steps_left}
 use Rattle.fdc_stages.specs.declared.formatting.FormatNext.TheVariants as format_next
-use Rattle.fdc_stages.specs.declared.writing.WriteNext.{WriteNext}
 use Rattle.fdc_stages.specs.declared.writing.WriteNext.TheVariants as write_next
-use Rattle.flop_base.specs.declared.key.Chrn.{Chrn}
-use Rattle.std.proofs.lemmas.Bool.{false≢true}
-use Rattle.fdc_core.specs.declared.controller.Fdc.{Fdc}
-use Rattle.fdc_phases.specs.declared.phases.Execution.{Execution}
-use Rattle.fdc_phases.specs.declared.transfers.Reading.{Reading}
-use Rattle.fdc_phases.specs.declared.phases.Task.{Task}
-use Rattle.fdc_phases.specs.declared.phases.Task.TheVariants.{ReadId, Read, Write, Format}
 
 -- at most so many steps are left, and they are counted
 abbrev Leaves : ℕ → Phase → Type 0
@@ -43,13 +17,11 @@ LeavesFewer steps phase = (steps_left phase < 65536 - steps) × IsCounted phase
 
 searched_left : (head_drive steps : ℕ) (old : Fdc) (after : SearchOutcome) → steps < 65536 → Leaves steps (after_searched head_drive steps after old).phase
 searched_left head_drive steps old (searched.On search) few = (omega arith, few)
-searched_left head_drive steps old (searched.Met key separator) few = (omega arith, tt)
-searched_left head_drive steps old (searched.Missed ending) few = (omega arith, tt)
+searched_left head_drive steps old _ few = (omega arith, tt)
 
 over_left : (ending : Option Ending) (empty : Bool) (head_drive steps : ℕ) (reading : Reading) (old : Fdc) → steps < 65536 → Leaves steps (over_or_on ending empty head_drive steps reading old).phase
-over_left None empty head_drive steps reading old few = (omega arith, few)
 over_left (Some ending) true head_drive steps reading old few = (omega arith, tt)
-over_left (Some ending) false head_drive steps reading old few = (omega arith, few)
+over_left _ _ head_drive steps reading old few = (omega arith, few)
 
 on_left : (head_drive steps : ℕ) (reading : Reading) (old : Fdc) → steps < 65536 → Leaves steps (gone_on_reading head_drive steps reading old).phase
 on_left head_drive steps reading old few = over_left (ending_of reading) (length old.fifo.bytes == 0) head_drive steps reading old few
@@ -67,12 +39,11 @@ heard_left head_drive steps reading old (heard.Ended ending) few = (omega arith,
 
 -- a word that is heard
 hears_left : (index : Bool) (word head_drive steps : ℕ) (task : Task) (old new : Fdc) → is_listening task ≡ true → steps < 65536 → Hears head_drive steps task index word old new → Leaves steps new.phase
-hears_left index word head_drive steps (Write writing) old new listens few hears = absurd (false≢true listens)
-hears_left index word head_drive steps (Format formatting) old new listens few hears = absurd (false≢true listens)
 hears_left index word head_drive steps (ReadId search) old new listens few (after, hears, is) =
     subst (λ fdc. Leaves steps fdc.phase) (sym is) (searched_left head_drive steps old after few)
 hears_left index word head_drive steps (Read reading) old new listens few (after, hears, is) =
     subst (λ fdc. Leaves steps fdc.phase) (sym is) (heard_left head_drive steps reading old after few)
+hears_left index word head_drive steps _ old new listens few hears = absurd (false≢true listens)
 
 -- a command that listens
 listen_left : (index : Bool) (word head_drive steps : ℕ) (task : Task) (old new : Fdc) → is_listening task ≡ true → StepsOn head_drive steps task index word old new → LeavesFewer steps new.phase
@@ -94,12 +65,7 @@ stops_few : (steps : ℕ) (protects : Bool) (byte : Option ℕ) (ending : Ending
 stops_few steps protects byte Late is = omega arith
 stops_few steps protects byte Protected is = let first = is.0 in omega arith
 stops_few steps protects byte Overrun is = let few = is.0 in omega arith
-stops_few steps protects byte (Done deleted) is = absurd is
-stops_few steps protects byte NoMark is = absurd is
-stops_few steps protects byte NoSector is = absurd is
-stops_few steps protects byte NoField is = absurd is
-stops_few steps protects byte BadCheck is = absurd is
-stops_few steps protects byte NoCount is = absurd is
+stops_few steps protects byte _ is = absurd is
 
 stop_left : (ending : Ending) (head_drive steps : ℕ) (key : Chrn) (old new : Fdc) → steps ≤ 65535 → new ≡ finished ending head_drive key old → LeavesFewer steps new.phase
 stop_left ending head_drive steps key old new few is = subst (λ fdc. LeavesFewer steps fdc.phase) (sym is) (omega arith, tt)
@@ -111,10 +77,9 @@ write_left (Wrote opened closed index word) head_drive steps writing old before 
 write_left Stopped head_drive steps writing old before new is = stop_left is.ending head_drive steps writing.wanted.key old new (stops_few steps _ _ is.ending is.stops) is.after_is
 
 format_left : (time : WordTime) (head_drive steps : ℕ) (formatting : Formatting) (old : Fdc) (before : DriveState) (new : Fdc) → FormatDoes time head_drive steps formatting old before new → LeavesFewer steps new.phase
-format_left (Saw index word) head_drive steps formatting old before new (due, is) = laid_left head_drive steps formatting is.next old new is.few is.after_is
-format_left (KeptOut index word) head_drive steps formatting old before new (due, is) = laid_left head_drive steps formatting is.next old new is.few is.after_is
 format_left (Wrote opened closed index word) head_drive steps formatting old before new is = laid_left head_drive steps formatting is.next _ new is.few is.after_is
 format_left Stopped head_drive steps formatting old before new is = stop_left is.ending head_drive steps no_key old new (stops_few steps _ _ is.ending is.stops) is.after_is
+format_left _ head_drive steps formatting old before new (due, is) = laid_left head_drive steps formatting is.next old new is.few is.after_is
 
 task_left : (task : Task) (head_drive steps : ℕ) (old : Fdc) (before after : DriveState) (new : Fdc) → TaskSteps task head_drive steps old before after new → LeavesFewer steps new.phase
 task_left (ReadId search) head_drive steps old before after new is = listen_left (at_index before) is.word head_drive steps (ReadId search) old new refl is.does

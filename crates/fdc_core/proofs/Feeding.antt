@@ -1,22 +1,7 @@
 -- DRQ by the FIFO's rule, and how long the controller can wait while it is low.
 use Rattle.std.proofs.Common.{◌≡◌, ◌⊎◌, ◌<◌, ◌≤◌, ℕ, ◌-◌, Bool, true, false, not, ◌&&◌, ◌||◌, if◌then◌else◌, ◌==◌, List, [], ◌∷◌, ◌++◌, length, drop, bit_and, nat_le, max, refl, sym, ap, subst, ◌∙◌, arith, inl, inr, length-append, length-drop}
-use Rattle.std.proofs.lemmas.Bool.{false≢true, eqb-true}
-use Rattle.std.proofs.lemmas.Bool.Decides.{nat_tests}
-use Rattle.fdc_registers.specs.Fifo.{Fifo, room_of, worth_fetching, low_level, wants}
-use Rattle.fdc_core.specs.Dma.{with_byte, taken_out, taken_in, fifo_told, asking_told, told_count}
-use Rattle.fdc_phases.specs.Dma.{task_asks, phase_asks, task_told, phase_told}
-use Rattle.fdc_phases.specs.Phases.{is_over, is_read, is_reading, moves_bytes, is_moving}
-use Rattle.fdc_core.specs.State.{asks, is_gated, is_held}
-use Rattle.fdc_core.specs.Steps.{Stays, polled, seek_stepped}
+use Rattle.fdc_core.proofs.Common.{false≢true, eqb-true, nat_tests, Fifo, room_of, worth_fetching, low_level, wants, with_byte, taken_out, taken_in, fifo_told, asking_told, told_count, task_asks, phase_asks, task_told, phase_told, is_over, is_read, is_reading, moves_bytes, is_moving, asks, is_gated, is_held, Stays, polled, seek_stepped, with_polls, CanWait, Feeds, TaskWaits, PhaseWaits, Fdc, Phase, Execute, Task, ReadId, Read, Write, Format}
 use Rattle.fdc_registers.specs.Dor.{gate}
-use Rattle.fdc_commands.specs.Seeking.{with_polls}
-use Rattle.fdc_core.specs.Waiting.{CanWait, Feeds}
-use Rattle.fdc_phases.specs.Waiting.{TaskWaits, PhaseWaits}
-use Rattle.fdc_core.specs.declared.controller.Fdc.{Fdc}
-use Rattle.fdc_phases.specs.declared.phases.Phase.{Phase}
-use Rattle.fdc_phases.specs.declared.phases.Phase.TheVariants.{Command, Execute, Result}
-use Rattle.fdc_phases.specs.declared.phases.Task.{Task}
-use Rattle.fdc_phases.specs.declared.phases.Task.TheVariants.{ReadId, Read, Write, Format}
 
 below : (m n : ℕ) → nat_le m n ≡ false → n < m
 below m n is = grind (arith, nat_tests)
@@ -37,9 +22,8 @@ few_fetched len (inr few) = let is = below 8 len few in omega arith
 fill_low : (counted full before few : Bool) → counted ≡ false → (not (counted || full) && (before || few)) ≡ false → (full ≡ true) ⊎ (few ≡ false)
 fill_low true full before few none is = absurd (false≢true (sym none))
 fill_low false true before few none is = inl refl
-fill_low false false true few none is = absurd (false≢true (sym is))
-fill_low false false false true none is = absurd (false≢true (sym is))
 fill_low false false false false none is = inr refl
+fill_low false false _ _ none is = absurd (false≢true (sym is))
 
 many_filled : (len room : ℕ) → room ≡ 16 → ((len == room) ≡ true) ⊎ (nat_le len 8 ≡ false) → 9 ≤ len
 many_filled len room is (inl full) = let same = eqb-true len room full in omega arith
@@ -74,9 +58,8 @@ low_task slack (Format formatting) before fifo on threshold waits low = λ none.
     (lead, has, omega arith)
 
 low_phase : (slack : ℕ) (phase : Phase) (before : Bool) (fifo : Fifo) → fifo.on ≡ true → fifo.threshold ≡ 8 → PhaseWaits slack phase fifo → phase_asks phase before fifo ≡ false → PhaseWaits 9 phase fifo
-low_phase slack Command before fifo on threshold waits low = tt
-low_phase slack (Result answer) before fifo on threshold waits low = tt
 low_phase slack (Execute execution) before fifo on threshold waits low = low_task slack execution.task before fifo on threshold waits low
+low_phase slack _ before fifo on threshold waits low = tt
 
 second_low : (gated asking : Bool) → gated ≡ true → (gated && asking) ≡ false → asking ≡ false
 second_low true asking up low = low
@@ -92,13 +75,11 @@ low_waits slack fdc feeds waits low =
 out_task : (slack : ℕ) (task : Task) (bytes : List ℕ) (on : Bool) (threshold : ℕ) → TaskWaits slack task (record { bytes = bytes; on = on; threshold = threshold }) → is_read task ≡ true → TaskWaits slack task (record { bytes = drop 1 bytes; on = on; threshold = threshold })
 out_task slack (ReadId search) bytes on threshold waits reads = tt
 out_task slack (Read reading) bytes on threshold waits reads = λ none. let room = waits none in let less = length-drop 1 bytes in omega arith
-out_task slack (Write writing) bytes on threshold waits reads = absurd (false≢true reads)
-out_task slack (Format formatting) bytes on threshold waits reads = absurd (false≢true reads)
+out_task slack _ bytes on threshold waits reads = absurd (false≢true reads)
 
 pub out_waits : (slack : ℕ) (phase : Phase) (fifo : Fifo) → is_reading phase ≡ true → PhaseWaits slack phase fifo → PhaseWaits slack phase (record fifo { bytes = drop 1 fifo.bytes })
-out_waits slack Command fifo reads waits = tt
-out_waits slack (Result answer) fifo reads waits = tt
 out_waits slack (Execute execution) fifo reads waits = out_task slack execution.task fifo.bytes fifo.on fifo.threshold waits reads
+out_waits slack _ fifo reads waits = tt
 
 held_more : (byte : ℕ) (full : Bool) (fifo : Fifo) → length fifo.bytes ≤ length (if full then fifo else record fifo { bytes = fifo.bytes ++ byte ∷ [] }).bytes
 held_more byte true fifo = omega arith
@@ -112,9 +93,8 @@ in_task slack byte (Format formatting) fifo writes waits = λ none.
     let (lead, has, room) = waits none in let more = held_more byte (length fifo.bytes == room_of fifo.on) fifo in (lead, has, omega arith)
 
 pub in_waits : (slack byte : ℕ) (phase : Phase) (fifo : Fifo) → is_reading phase ≡ false → PhaseWaits slack phase fifo → PhaseWaits slack phase (with_byte byte fifo)
-in_waits slack byte Command fifo writes waits = tt
-in_waits slack byte (Result answer) fifo writes waits = tt
 in_waits slack byte (Execute execution) fifo writes waits = in_task slack byte execution.task fifo writes waits
+in_waits slack byte _ fifo writes waits = tt
 
 kept_on : (byte : ℕ) (full : Bool) (fifo : Fifo) → ((if full then fifo else record fifo { bytes = fifo.bytes ++ byte ∷ [] }).on ≡ fifo.on) × ((if full then fifo else record fifo { bytes = fifo.bytes ++ byte ∷ [] }).threshold ≡ fifo.threshold)
 kept_on byte true fifo = (refl, refl)
@@ -139,26 +119,20 @@ in_feeds byte old feeds = record {
 
 told_task_waits : (slack : ℕ) (task : Task) (fifo : Fifo) → TaskWaits slack (task_told task) fifo
 told_task_waits slack (ReadId search) fifo = tt
-told_task_waits slack (Read reading) fifo = λ none. absurd (false≢true (sym none))
-told_task_waits slack (Write writing) fifo = λ none. absurd (false≢true (sym none))
-told_task_waits slack (Format formatting) fifo = λ none. absurd (false≢true (sym none))
+told_task_waits slack _ fifo = λ none. absurd (false≢true (sym none))
 
 pub told_waits : (slack : ℕ) (phase : Phase) (fifo : Fifo) → PhaseWaits slack (phase_told phase) fifo
-told_waits slack Command fifo = tt
-told_waits slack (Result answer) fifo = tt
 told_waits slack (Execute execution) fifo = told_task_waits slack execution.task fifo
+told_waits slack _ fifo = tt
 
 -- the FIFO's rule then says that DRQ is down
 told_asks : (task : Task) (before asking : Bool) (fifo : Fifo) → asking ≡ task_asks task before fifo → asking_told (moves_bytes task) asking ≡ task_asks (task_told task) before (fifo_told (is_read task) fifo)
 told_asks (ReadId search) before asking fifo is = is
-told_asks (Read reading) before asking fifo is = refl
-told_asks (Write writing) before asking fifo is = refl
-told_asks (Format formatting) before asking fifo is = refl
+told_asks _ before asking fifo is = refl
 
 told_rule : (phase : Phase) (before asking : Bool) (fifo : Fifo) → asking ≡ phase_asks phase before fifo → asking_told (is_moving phase) asking ≡ phase_asks (phase_told phase) before (fifo_told (is_reading phase) fifo)
-told_rule Command before asking fifo is = is
-told_rule (Result answer) before asking fifo is = is
 told_rule (Execute execution) before asking fifo is = told_asks execution.task before asking fifo is
+told_rule _ before asking fifo is = is
 
 told_on : (b : Bool) (fifo : Fifo) → ((fifo_told b fifo).on ≡ fifo.on) × ((fifo_told b fifo).threshold ≡ fifo.threshold)
 told_on true fifo = (refl, refl)

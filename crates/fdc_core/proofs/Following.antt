@@ -1,18 +1,7 @@
 -- What a word does in place is what it does to the whole.
 use Rattle.std.proofs.Common.{◌≡◌, ℕ, Bool, true, false, ◌==◌, length, Option, Some, None, if◌then◌else◌, refl}
-use Rattle.fdc_stages.specs.Readings.{read_outcome}
-use Rattle.fdc_stages.specs.declared.ending.Ending.{Ending}
-use Rattle.fdc_stages.specs.declared.ending.Ending.TheVariants.{Overrun}
-use Rattle.fdc_stages.specs.declared.reading.ReadHeard.{ReadHeard}
+use Rattle.fdc_core.proofs.Common.{read_outcome, Ending, Overrun, ReadHeard, ReadStage, ending_of, over_with, at_stage, over_or_on, gone_on_reading, settled_by, settled, pushed, is_full, followed_by, followed, after_heard, finished, Fdc, Execute, Reading, Read}
 use Rattle.fdc_stages.specs.declared.reading.ReadHeard.TheVariants as answer
-use Rattle.fdc_stages.specs.declared.reading.ReadStage.{ReadStage}
-use Rattle.fdc_phases.specs.Phases.{ending_of, over_with}
-use Rattle.fdc_core.specs.Reading.{at_stage, over_or_on, gone_on_reading, settled_by, settled, pushed, is_full, followed_by, followed, after_heard}
-use Rattle.fdc_core.specs.State.{finished}
-use Rattle.fdc_core.specs.declared.controller.Fdc.{Fdc}
-use Rattle.fdc_phases.specs.declared.phases.Phase.TheVariants.{Execute}
-use Rattle.fdc_phases.specs.declared.transfers.Reading.{Reading}
-use Rattle.fdc_phases.specs.declared.phases.Task.TheVariants.{Read}
 
 -- the controller at this point of a READ DATA
 abbrev pub at_reading : ℕ → ℕ → Reading → Fdc → Fdc

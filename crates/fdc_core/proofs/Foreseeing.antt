@@ -1,30 +1,8 @@
 -- Device steps in a row that surely change neither line.
 use Rattle.std.proofs.Common.{◌≡◌, ◌≤◌, ◌<◌, ◌+◌, ℕ, zero, suc, true, false, List, [], ◌∷◌, ◌++◌, length, take, Some, refl, sym, ap, subst, ◌∙◌, arith}
-use Rattle.std.proofs.lemmas.Bool.{false≢true}
-use Rattle.std.proofs.lemmas.List.{append_assoc}
-use Rattle.flop_base.specs.Counts.{CanTell}
+use Rattle.fdc_core.proofs.Common.{false≢true, append_assoc, CanTell, DriveState, Becomes, InRange, at_index, is_protected, rate_of, word_under, with_word, Past, heard, is_due, needs_byte, opens, Ending, Done, NoMark, NoSector, NoField, BadCheck, Overrun, NoCount, Protected, Late, head_of, is_listening, rate_fits, Execute, Task, Write, DataRate, Writing, HoldsLines, Works, ExecutesIn, Listens, SeesTask, SeesWord, StepsOn, ExecutesTask, Foresees, IsQuietBy, MovesDrive, MovesIn, MovesTask, let_pass, polled, IsTime, KeptOut, Saw, Stopped, WordTime, Wrote, WritesIn, WritesOn, HearsWord, Stops, StopsWriting, WriteDoes, byte_taken, Fdc}
 use Rattle.drive_model.specs.Ahead.{AreAhead}
-use Rattle.drive_model.specs.Drive.{DriveState, Becomes, InRange, at_index, is_protected, rate_of, word_under}
-use Rattle.track_separator.specs.Parts.{with_word}
-use Rattle.fdc_stages.specs.History.{Past, heard}
-use Rattle.fdc_stages.specs.Writings.{is_due, needs_byte, opens}
-use Rattle.fdc_stages.specs.declared.ending.Ending.{Ending}
-use Rattle.fdc_stages.specs.declared.ending.Ending.TheVariants.{Done, NoMark, NoSector, NoField, BadCheck, Overrun, NoCount, Protected, Late}
-use Rattle.fdc_phases.specs.Phases.{head_of, is_listening}
-use Rattle.fdc_phases.specs.Rates.{rate_fits}
-use Rattle.fdc_phases.specs.declared.phases.Phase.TheVariants.{Execute}
-use Rattle.fdc_phases.specs.declared.phases.Task.{Task}
-use Rattle.fdc_phases.specs.declared.phases.Task.TheVariants.{Write}
-use Rattle.fdc_phases.specs.declared.rates.DataRate.{DataRate}
-use Rattle.fdc_phases.specs.declared.transfers.Writing.{Writing}
-use Rattle.fdc_core.specs.Courses.{HoldsLines, Works}
-use Rattle.fdc_core.specs.Listening.{ExecutesIn, Listens, SeesTask, SeesWord, StepsOn, ExecutesTask}
-use Rattle.fdc_core.specs.Quiet.{Foresees, IsQuietBy, WorksBy}
-use Rattle.fdc_core.specs.Steps.{MovesDrive, MovesIn, MovesTask, let_pass, polled}
-use Rattle.fdc_core.specs.Times.{IsTime, KeptOut, Saw, Stopped, WordTime, Wrote}
-use Rattle.fdc_core.specs.Writes.{WritesIn, WritesOn}
-use Rattle.fdc_core.specs.Writing.{HearsWord, Stops, StopsWriting, WriteDoes, byte_taken}
-use Rattle.fdc_core.specs.declared.controller.Fdc.{Fdc}
+use Rattle.fdc_core.specs.Quiet.{WorksBy}
 use Rattle.fdc_core.proofs.Coursing.{ahead_first, none_comes, unpolled}
 use Rattle.fdc_core.proofs.Quieting.{HasNoFaults, ahead_after, fits_after, passes_calm, sees_ahead, some_none}
 

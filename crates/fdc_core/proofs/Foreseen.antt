@@ -1,37 +1,8 @@
 -- How long a READ ID and a READ DATA surely leave both lines as they are.
 use Rattle.std.proofs.Common.{◌≡◌, ◌≤◌, ◌<◌, ◌+◌, ◌-◌, ℕ, zero, suc, Bool, true, false, ◌==◌, List, [], ◌∷◌, ◌++◌, length, take, None, Some, refl, sym, ap, subst, ◌∙◌, inl, inr, arith, length-append, length-take-le}
-use Rattle.drive_model.specs.Ahead.{AreAhead}
-use Rattle.drive_model.specs.Drive.{DriveState, InRange, rate_of}
-use Rattle.flop_base.specs.declared.key.Chrn.{Chrn}
-use Rattle.track_model.specs.Fields.{IsDataMark, content_size}
-use Rattle.track_separator.specs.declared.state.Separator.{Separator}
-use Rattle.track_separator.specs.Parts.{IsPart, with_word}
-use Rattle.track_separator.proofs.Lawful.{address_stays, data_mark_stays, part_with_word, reads_mark}
-use Rattle.fdc_registers.specs.Fifo.{Fifo, room_of, wants}
-use Rattle.fdc_stages.specs.History.{Past, heard}
-use Rattle.fdc_stages.specs.Readings.{HasMark, HasRead, IsBareField, IsContent, IsFailure, IsReading, KeepsMark, ReadOutcome, mark_at}
+use Rattle.fdc_core.proofs.Common.{AreAhead, DriveState, InRange, rate_of, Chrn, IsDataMark, content_size, Separator, IsPart, with_word, address_stays, data_mark_stays, part_with_word, reads_mark, Fifo, room_of, wants, Past, heard, HasMark, HasRead, IsBareField, IsContent, IsFailure, IsReading, KeepsMark, ReadOutcome, mark_at, IsSearching, Ending, Done, NoMark, NoSector, NoField, BadCheck, Overrun, NoCount, Protected, Late, ReadStage, Search, over_full, Sent, MayReadIdIn, MayReadIdTask, MayReadIn, MayReadTask, MayWriteIn, MayWriteTask, head_of, rate_fits, Execution, Execute, ReadId, Read, Reading, HasRoom, with_bytes, IsQuiet, StageHears, StepsOn, Foresees, HasBytesLeft, HasNoneWanted, HasSingle, IsCertain, IsCertainOf, IsQuietBy, IsUnmarked, MarksNothing, MayBeMarked, MeetsNothing, past_with, after_heard, after_searched, at_stage, gone_on_reading, is_full, Fdc}
 use Rattle.fdc_stages.specs.Readings as given
-use Rattle.fdc_stages.specs.Searches.{IsSearching}
-use Rattle.fdc_stages.specs.declared.ending.Ending.{Ending}
-use Rattle.fdc_stages.specs.declared.ending.Ending.TheVariants.{Done, NoMark, NoSector, NoField, BadCheck, Overrun, NoCount, Protected, Late}
-use Rattle.fdc_stages.specs.declared.reading.ReadStage.{ReadStage}
 use Rattle.fdc_stages.specs.declared.reading.ReadStage.TheVariants as stages
-use Rattle.fdc_stages.specs.declared.searching.Search.{Search}
-use Rattle.fdc_stages.proofs.Lawful.{over_full}
-use Rattle.fdc_phases.specs.Heard.{Sent, MayReadIdIn, MayReadIdTask, MayReadIn, MayReadTask}
-use Rattle.fdc_phases.specs.Written.{MayWriteIn, MayWriteTask}
-use Rattle.fdc_phases.specs.Phases.{head_of}
-use Rattle.fdc_phases.specs.Rates.{rate_fits}
-use Rattle.fdc_phases.specs.declared.phases.Execution.{Execution}
-use Rattle.fdc_phases.specs.declared.phases.Phase.TheVariants.{Execute}
-use Rattle.fdc_phases.specs.declared.phases.Task.TheVariants.{ReadId, Read}
-use Rattle.fdc_phases.specs.declared.transfers.Reading.{Reading}
-use Rattle.fdc_core.specs.Contents.{HasRoom, with_bytes}
-use Rattle.fdc_core.specs.Courses.{IsQuiet}
-use Rattle.fdc_core.specs.Listening.{StageHears, StepsOn}
-use Rattle.fdc_core.specs.Quiet.{Foresees, HasBytesLeft, HasNoneWanted, HasSingle, IsCertain, IsCertainOf, IsQuietBy, IsUnmarked, MarksNothing, MayBeMarked, MeetsNothing, past_with}
-use Rattle.fdc_core.specs.Reading.{after_heard, after_searched, at_stage, gone_on_reading, is_full}
-use Rattle.fdc_core.specs.declared.controller.Fdc.{Fdc}
 use Rattle.fdc_core.proofs.Coursing.{id_at}
 use Rattle.fdc_core.proofs.Following.{at_reading}
 use Rattle.fdc_core.proofs.Foreseeing.{EachGoesOnWith, GoesOnWith, calm_told, hears_ahead, quiet_by, some_words}
@@ -77,8 +48,7 @@ module _ (head_drive : ℕ) (reading : Reading) (old : Fdc) (quiet : IsQuiet old
   goes_unmarked : (before steps : ℕ) (stage next : ReadStage) → mark_at next ≡ None → stage_at head_drive reading old steps next ≡ gone_on_reading head_drive steps (at_stage reading next) (stage_at head_drive reading old before stage)
   goes_unmarked before steps stage (stages.Search search) none = ap (λ asking. record (stage_at head_drive reading old steps (stages.Search search)) { asking = asking }) keeps
   goes_unmarked before steps stage (stages.Wait separator) none = ap (λ asking. record (stage_at head_drive reading old steps (stages.Wait separator)) { asking = asking }) keeps
-  goes_unmarked before steps stage (stages.Content separator deleted) none = absurd (some_none none)
-  goes_unmarked before steps stage (stages.Over deleted good) none = absurd (some_none none)
+  goes_unmarked before steps stage _ none = absurd (some_none none)
 
   await_next : (steps word : ℕ) (stage : ReadStage) (past : Past) (new : Fdc) → steps < 65535 → IsUnmarked past reading.wanted.key stage → MayBeMarked reading.wanted.key (with_word past.seen word)
       → StepsOn head_drive steps (Read (at_stage reading stage)) false word (stage_at head_drive reading old steps stage) new → GoesOnWith (stage_at head_drive reading old (steps + 1)) (AwaitsMark reading.wanted.key 0) (heard false word past) new
@@ -112,21 +82,18 @@ pub record IsInContent (key : Chrn) (counted deleted : Bool) (left : ℕ) (past 
   pub few : length now.told + left + 1 ≤ content_size key.n
 
 kept : (deleted : Bool) (stage : ReadStage) (after : ReadOutcome) → IsContent stage → mark_at stage ≡ Some deleted → KeepsMark stage after → HasMark deleted after
-kept deleted (stages.Search search) after content mark same = absurd content
-kept deleted (stages.Wait separator) after content mark same = absurd content
-kept deleted (stages.Over deleted_now good) after content mark same = absurd content
 kept deleted (stages.Content separator now) (given.On next) content mark same = same ∙ mark
 kept deleted (stages.Content separator now) (given.Byte next value) content mark same = same ∙ mark
 kept deleted (stages.Content separator now) (given.Ended ending) content mark same = tt
+kept deleted _ after content mark same = absurd content
 
 -- a field whose content isn't whole is read on
 still_content : (past : Past) (key : Chrn) (told : List ℕ) (deleted : Bool) (stage : ReadStage) → mark_at stage ≡ Some deleted → IsReading past key told stage → length told + 1 ≤ content_size key.n → IsContent stage
-still_content past key told deleted (stages.Search search) mark reads few = absurd (some_none (sym mark))
-still_content past key told deleted (stages.Wait separator) mark reads few = absurd (some_none (sym mark))
 still_content past key told deleted (stages.Content separator now) mark reads few = tt
 still_content past key told deleted (stages.Over now good) mark reads few =
     let full = over_full past key told now good reads in
     absurd (omega (arith, full, few))
+still_content past key told deleted _ mark reads few = absurd (some_none (sym mark))
 
 -- its address field has a data mark, so that it doesn't end without a field
 module _ (past : Past) (key : Chrn) (word : ℕ) (told : List ℕ) (single : HasSingle key (with_word past.seen word)) where
@@ -134,14 +101,12 @@ module _ (past : Past) (key : Chrn) (word : ℕ) (told : List ℕ) (single : Has
   later = heard false word past
 
   has_mark : (stage : ReadStage) (p : ℕ) → IsContent stage → IsReading past key told stage → IsBareField later key p → ⊥
-  has_mark (stages.Search search) p content reads bare = content
-  has_mark (stages.Wait separator) p content reads bare = content
-  has_mark (stages.Over deleted good) p content reads bare = content
   has_mark (stages.Content separator deleted) p content (r, q, taken, at) bare =
       let part = part_with_word past.seen word in
       let same : r ≡ p = single r p (address_stays past.seen later.seen part r key at.address) bare.address in
       let mark = data_mark_stays past.seen later.seen part r q deleted (reads_mark separator past.seen r q deleted (content_size key.n) taken at.reads).mark in
       bare.none.none q deleted (subst (λ k. IsDataMark later.seen k q deleted) same mark)
+  has_mark _ p content reads bare = content
 
   fails_never : (stage : ReadStage) (ending : Ending) → IsContent stage → IsReading past key told stage → HasRead later key told ending → IsFailure ending → ⊥
   fails_never stage NoMark content reads read fails = some_seen past.seen word read.cause.0.is.nothing
@@ -216,10 +181,9 @@ first_single key first rest whole is single p q one other =
 
 -- before the data mark no byte is decoded
 pub told_nothing : (past : Past) (key : Chrn) (told : List ℕ) (stage : ReadStage) → mark_at stage ≡ None → IsReading past key told stage → told ≡ []
-told_nothing past key told (stages.Search search) none reads = reads.1
-told_nothing past key told (stages.Wait separator) none reads = reads.1
 told_nothing past key told (stages.Content separator deleted) none reads = absurd (some_none none)
 told_nothing past key told (stages.Over deleted good) none reads = absurd (some_none none)
+told_nothing past key told _ none reads = reads.1
 
 -- some of the words ahead are heard
 module _ (old : Fdc) (execution : Execution) (count : ℕ) (some ahead : List ℕ) (before : DriveState) (quiet : IsQuiet old) (fits : rate_fits old.rate (rate_of before.medium) ≡ true) (range : InRange before)
@@ -317,7 +281,6 @@ by_count P (suc count) bytes is none some = some (omega (arith, is))
 
 -- the stage of a reading that has met no data mark
 pub not_marked : (stage : ReadStage) → ((separator : Separator) (deleted : Bool) → stage ≡ stages.Content separator deleted → ⊥) → ((deleted good : Bool) → stage ≡ stages.Over deleted good → ⊥) → mark_at stage ≡ None
-not_marked (stages.Search search) content over = refl
-not_marked (stages.Wait separator) content over = refl
 not_marked (stages.Content separator deleted) content over = absurd (content separator deleted refl)
 not_marked (stages.Over deleted good) content over = absurd (over deleted good refl)
+not_marked _ content over = refl

@@ -1,32 +1,9 @@
 -- How long a write surely leaves both lines as they are.
 use Rattle.std.proofs.Common.{◌≡◌, ◌≤◌, ◌+◌, ℕ, suc, Bool, true, false, List, [], ◌++◌, length, take, Some, refl, sym, ap, subst, ◌∙◌, inl, inr, arith, length-take-le}
-use Rattle.std.proofs.lemmas.Bool.{false≢true}
-use Rattle.drive_model.specs.Ahead.{AreAhead}
-use Rattle.drive_model.specs.Drive.{DriveState, InRange, rate_of}
-use Rattle.flop_base.specs.declared.key.Chrn.{Chrn}
-use Rattle.track_separator.specs.Parts.{with_word}
-use Rattle.fdc_registers.specs.Fifo.{wants}
-use Rattle.fdc_stages.specs.History.{Past, heard}
-use Rattle.fdc_stages.specs.Writings.{FailsWell, HasNext, HasWritten, IsFailure, IsWriting}
-use Rattle.fdc_stages.specs.declared.ending.Ending.{Ending}
-use Rattle.fdc_stages.specs.declared.ending.Ending.TheVariants.{Done, NoMark, NoSector, NoField, BadCheck, Overrun, NoCount, Protected, Late}
-use Rattle.fdc_stages.specs.declared.searching.Search.{Search}
-use Rattle.fdc_stages.specs.declared.writing.WriteNext.{WriteNext}
+use Rattle.fdc_core.proofs.Common.{false≢true, AreAhead, DriveState, InRange, rate_of, Chrn, with_word, wants, Past, heard, HasNext, HasWritten, IsWriting, Ending, Done, NoMark, NoSector, NoField, BadCheck, Overrun, NoCount, Protected, Late, Search, WriteNext, WriteStage, Sent, MayReadIdIn, MayReadIdTask, MayReadIn, MayReadTask, head_of, write_at, rate_fits, MayWriteIn, MayWriteTask, Execution, Execute, Write, Writing, IsQuiet, Foresees, HasNoneWanted, IsCertain, IsQuietBy, MeetsNothing, HearsWord, after_next, Fdc}
+use Rattle.fdc_stages.specs.Writings.{FailsWell, IsFailure}
 use Rattle.fdc_stages.specs.declared.writing.WriteNext.TheVariants as given
-use Rattle.fdc_stages.specs.declared.writing.WriteStage.{WriteStage}
 use Rattle.fdc_stages.specs.declared.writing.WriteStage.TheVariants as stages
-use Rattle.fdc_phases.specs.Heard.{Sent, MayReadIdIn, MayReadIdTask, MayReadIn, MayReadTask}
-use Rattle.fdc_phases.specs.Phases.{head_of, write_at}
-use Rattle.fdc_phases.specs.Rates.{rate_fits}
-use Rattle.fdc_phases.specs.Written.{MayWriteIn, MayWriteTask}
-use Rattle.fdc_phases.specs.declared.phases.Execution.{Execution}
-use Rattle.fdc_phases.specs.declared.phases.Phase.TheVariants.{Execute}
-use Rattle.fdc_phases.specs.declared.phases.Task.TheVariants.{Write}
-use Rattle.fdc_phases.specs.declared.transfers.Writing.{Writing}
-use Rattle.fdc_core.specs.Courses.{IsQuiet}
-use Rattle.fdc_core.specs.Quiet.{Foresees, HasNoneWanted, IsCertain, IsQuietBy, MeetsNothing}
-use Rattle.fdc_core.specs.Writing.{HearsWord, after_next}
-use Rattle.fdc_core.specs.declared.controller.Fdc.{Fdc}
 use Rattle.fdc_core.proofs.Coursing.{writes_at}
 use Rattle.fdc_core.proofs.Foreseeing.{EachGoesOnWith, GoesOnWith, calm_told, quiet_by, some_words, writes_ahead}
 use Rattle.fdc_core.proofs.Quieting.{first_none, plain_none, some_seen}
@@ -57,8 +34,7 @@ module _ (past : Past) (key : Chrn) (word : ℕ) (deleted : Bool) (handed : List
 
   stays : (stage : WriteStage) → IsWriting later key deleted handed stage → (next : Search) × (stage ≡ stages.Search next) × IsWriting later key deleted handed (stages.Search next)
   stays (stages.Search next) writes = (next, refl, writes)
-  stays (stages.Gap left) writes = absurd (none writes.1.0.0 key refl writes.1.0.1.address)
-  stays (stages.Window now) writes = absurd (none writes.1.0.0 key refl writes.1.0.1.address)
+  stays _ writes = absurd (none writes.1.0.0 key refl writes.1.0.1.address)
 
   searches_on : (next : WriteNext) → IsWriting past key deleted handed (stages.Search search) → HasNext later key deleted handed next → FailsWell next
       → (after : Search) × (next ≡ given.On (stages.Search after)) × IsWriting later key deleted handed (stages.Search after)

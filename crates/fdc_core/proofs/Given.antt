@@ -1,11 +1,7 @@
 -- Results, byte by byte.
 use Rattle.std.proofs.Common.{◌≡◌, ◌<◌, ◌≤◌, ℕ, ◌+◌, true, false, if◌then◌else◌, nat_le, sym, ap, subst, ◌∙◌, arith}
-use Rattle.std.proofs.lemmas.Bool.Decides.{nat_tests}
-use Rattle.fdc_core.specs.Ports.{GivesNext, Gives, value_read, after_read, result_byte, phase_after}
-use Rattle.fdc_phases.specs.declared.answers.Answer.TheVariants.{Long}
-use Rattle.fdc_core.specs.declared.controller.Fdc.{Fdc}
+use Rattle.fdc_core.proofs.Common.{nat_tests, GivesNext, Gives, value_read, after_read, result_byte, phase_after, Long, Fdc, Command, Result}
 use Rattle.fdc_core.specs.declared.controller.Lines.{Lines}
-use Rattle.fdc_phases.specs.declared.phases.Phase.TheVariants.{Command, Result}
 
 is_less : (m : ℕ) → m < 6 → nat_le 6 m ≡ false
 is_less m less = grind (arith, nat_tests)

@@ -1,35 +1,9 @@
 -- A device step of a command that listens, put together.
 use Rattle.std.proofs.Common.{◌≡◌, ℕ, ◌+◌, Bool, true, false, not, ◌&&◌, if◌then◌else◌, ◌==◌, length, Some, refl, sym, subst, ◌∙◌, inl, inr}
-use Rattle.std.proofs.lemmas.Bool.{false≢true}
-use Rattle.drive_model.specs.Drive.{DriveState, at_index}
-use Rattle.fdc_commands.specs.Seeking.{with_polls}
-use Rattle.fdc_stages.specs.Searches.{IsMiss, MissesWell}
-use Rattle.fdc_stages.specs.Readings.{IsFailure}
-use Rattle.fdc_stages.specs.declared.ending.Ending.{Ending}
-use Rattle.fdc_stages.specs.declared.ending.Ending.TheVariants.{Done, NoMark, NoSector, NoField, BadCheck, Overrun, NoCount, Protected, Late}
-use Rattle.fdc_stages.specs.Readings.{ReadOutcome}
+use Rattle.fdc_core.proofs.Common.{false≢true, DriveState, at_index, with_polls, IsMiss, MissesWell, IsFailure, Ending, NoMark, NoSector, NoField, Overrun, ReadOutcome, ReadStage, SearchOutcome, Chrn, no_key, SeesWord, Listens, ListensToNone, StepHears, Follows, StepsOn, ExecutesTask, ExecutesIn, OverrunsIn, OverrunsTask, FindsFull, Hears, StageHears, is_listening, ending_at, ending_over, is_overrun, after_searched, after_heard, over_or_on, gone_on_reading, at_stage, pushed, is_full, is_held, finished, polled, seek_stepped, TaskSteps, TaskStepsNowhere, Formatting, Writing, Fdc, Execution, Phase, Execute, Reading, Task, ReadId, Read, Write, Format}
 use Rattle.fdc_stages.specs.Readings as given
-use Rattle.fdc_stages.specs.declared.reading.ReadStage.{ReadStage}
 use Rattle.fdc_stages.specs.declared.reading.ReadStage.TheVariants as stages
-use Rattle.fdc_stages.specs.Searches.{SearchOutcome}
 use Rattle.fdc_stages.specs.Searches as searched
-use Rattle.flop_base.specs.declared.key.Chrn.{Chrn}
-use Rattle.fdc_phases.specs.Answers.{no_key}
-use Rattle.fdc_core.specs.Listening.{SeesWord, Listens, ListensToNone, StepHears, Follows, StepsOn, ExecutesTask, ExecutesIn, OverrunsIn, OverrunsTask, FindsFull, Hears, StageHears}
-use Rattle.fdc_phases.specs.Phases.{is_listening, ending_at, ending_over, is_overrun}
-use Rattle.fdc_core.specs.Reading.{after_searched, after_heard, over_or_on, gone_on_reading, at_stage, pushed, is_full}
-use Rattle.fdc_core.specs.State.{is_held, finished}
-use Rattle.fdc_core.specs.Steps.{polled, seek_stepped}
-use Rattle.fdc_core.specs.Tasks.{TaskSteps, TaskStepsNowhere}
-use Rattle.fdc_phases.specs.declared.transfers.Formatting.{Formatting}
-use Rattle.fdc_phases.specs.declared.transfers.Writing.{Writing}
-use Rattle.fdc_core.specs.declared.controller.Fdc.{Fdc}
-use Rattle.fdc_phases.specs.declared.phases.Execution.{Execution}
-use Rattle.fdc_phases.specs.declared.phases.Phase.{Phase}
-use Rattle.fdc_phases.specs.declared.phases.Phase.TheVariants.{Command, Execute, Result}
-use Rattle.fdc_phases.specs.declared.transfers.Reading.{Reading}
-use Rattle.fdc_phases.specs.declared.phases.Task.{Task}
-use Rattle.fdc_phases.specs.declared.phases.Task.TheVariants.{ReadId, Read, Write, Format}
 use Rattle.fdc_core.proofs.MayRead.{hears_reads, late_reads, rests_sees, rests_reads}
 use Rattle.fdc_core.proofs.MayReadId.{hears_identifies, late_identifies, rests_identifies}
 
@@ -38,29 +12,17 @@ use Rattle.fdc_core.proofs.MayReadId.{hears_identifies, late_identifies, rests_i
 miss_overruns : (ending : Ending) (head_drive : ℕ) (key : Chrn) (old : Fdc) → IsMiss ending → is_overrun (finished ending head_drive key old).phase ≡ false
 miss_overruns NoMark head_drive key old is = refl
 miss_overruns NoSector head_drive key old is = refl
-miss_overruns NoField head_drive key old is = absurd is
-miss_overruns (Done deleted) head_drive key old is = absurd is
-miss_overruns BadCheck head_drive key old is = absurd is
-miss_overruns Overrun head_drive key old is = absurd is
-miss_overruns NoCount head_drive key old is = absurd is
-miss_overruns Protected head_drive key old is = absurd is
-miss_overruns Late head_drive key old is = absurd is
+miss_overruns _ head_drive key old is = absurd is
 
 searched_overruns : (head_drive steps : ℕ) (old : Fdc) (after : SearchOutcome) → MissesWell after → is_overrun (after_searched head_drive steps after old).phase ≡ false
-searched_overruns head_drive steps old (searched.On search) well = refl
-searched_overruns head_drive steps old (searched.Met key separator) well = refl
 searched_overruns head_drive steps old (searched.Missed ending) well = miss_overruns ending head_drive no_key old well
+searched_overruns head_drive steps old _ well = refl
 
 failure_overruns : (ending : Ending) (head_drive : ℕ) (key : Chrn) (old : Fdc) → IsFailure ending → is_overrun (finished ending head_drive key old).phase ≡ false
 failure_overruns NoMark head_drive key old is = refl
 failure_overruns NoSector head_drive key old is = refl
 failure_overruns NoField head_drive key old is = refl
-failure_overruns (Done deleted) head_drive key old is = absurd is
-failure_overruns BadCheck head_drive key old is = absurd is
-failure_overruns Overrun head_drive key old is = absurd is
-failure_overruns NoCount head_drive key old is = absurd is
-failure_overruns Protected head_drive key old is = absurd is
-failure_overruns Late head_drive key old is = absurd is
+failure_overruns _ head_drive key old is = absurd is
 
 over_overruns : (good counted deleted empty : Bool) (head_drive steps : ℕ) (reading : Reading) (old : Fdc) → is_overrun (over_or_on (Some (ending_over good counted deleted)) empty head_drive steps reading old).phase ≡ false
 over_overruns true true deleted true head_drive steps reading old = refl
@@ -69,10 +31,8 @@ over_overruns false counted deleted true head_drive steps reading old = refl
 over_overruns good counted deleted false head_drive steps reading old = refl
 
 at_overruns : (stage : ReadStage) (counted empty : Bool) (head_drive steps : ℕ) (reading : Reading) (old : Fdc) → is_overrun (over_or_on (ending_at stage counted) empty head_drive steps reading old).phase ≡ false
-at_overruns (stages.Search search) counted empty head_drive steps reading old = refl
-at_overruns (stages.Wait separator) counted empty head_drive steps reading old = refl
-at_overruns (stages.Content separator deleted) counted empty head_drive steps reading old = refl
 at_overruns (stages.Over deleted good) counted empty head_drive steps reading old = over_overruns good counted deleted empty head_drive steps reading old
+at_overruns _ counted empty head_drive steps reading old = refl
 
 on_overruns : (head_drive steps : ℕ) (reading : Reading) (old : Fdc) → is_overrun (gone_on_reading head_drive steps reading old).phase ≡ false
 on_overruns head_drive steps reading old = at_overruns reading.stage reading.counted (length old.fifo.bytes == 0) head_drive steps reading old
@@ -95,18 +55,16 @@ heard_overruns index word head_drive steps reading old (given.Byte stage value) 
 heard_overruns index word head_drive steps reading old (given.Ended ending) hears up = clash _ (failure_overruns ending head_drive reading.wanted.key old hears.1) up
 
 pub hears_overruns : (index : Bool) (word head_drive steps : ℕ) (task : Task) (old new : Fdc) → Hears head_drive steps task index word old new → OverrunsTask task index word old new
-hears_overruns index word head_drive steps (Write writing) old new hears = tt
-hears_overruns index word head_drive steps (Format formatting) old new hears = tt
 hears_overruns index word head_drive steps (ReadId search) old new (after, hears, is) =
     subst (λ fdc. is_overrun fdc.phase ≡ false) (sym is) (searched_overruns head_drive steps old after hears.1)
 hears_overruns index word head_drive steps (Read reading) old new (after, hears, is) =
     subst (λ fdc. is_overrun fdc.phase ≡ true → FindsFull reading index word old) (sym is) (heard_overruns index word head_drive steps reading old after hears)
+hears_overruns index word head_drive steps _ old new hears = tt
 
 late_overruns : (index : Bool) (word : ℕ) (task : Task) (old new : Fdc) → is_overrun new.phase ≡ false → OverrunsTask task index word old new
 late_overruns index word (ReadId search) old new is = is
 late_overruns index word (Read reading) old new is = λ up. clash _ is up
-late_overruns index word (Write writing) old new is = tt
-late_overruns index word (Format formatting) old new is = tt
+late_overruns index word _ old new is = tt
 
 -- ---- in execution
 
@@ -164,14 +122,12 @@ executes_hears_none old new execution is steps =
 -- ---- outside execution
 
 rests_executes : (phase : Phase) → ((execution : Execution) → phase ≡ Execute execution → ⊥) → (index : Bool) (polls new : Fdc) → ExecutesIn phase index 0 polls new
-rests_executes Command other index polls new = tt
-rests_executes (Result answer) other index polls new = tt
 rests_executes (Execute execution) other index polls new = absurd (other execution refl)
+rests_executes _ other index polls new = tt
 
 rests_overruns : (phase : Phase) → ((execution : Execution) → phase ≡ Execute execution → ⊥) → (index : Bool) (polls new : Fdc) → OverrunsIn phase index 0 polls new
-rests_overruns Command other index polls new = tt
-rests_overruns (Result answer) other index polls new = tt
 rests_overruns (Execute execution) other index polls new = absurd (other execution refl)
+rests_overruns _ other index polls new = tt
 
 pub rests_follows : (track0 index : Bool) (old new : Fdc) → new ≡ seek_stepped track0 old → ((execution : Execution) → old.phase ≡ Execute execution → ⊥) → Follows old.phase old index 0 old new
 rests_follows track0 index old new is other = subst (λ fdc. Follows old.phase old index 0 old fdc) (sym is) (record {

@@ -1,39 +1,20 @@
 -- A word of a layout, written in place.
 use Rattle.std.proofs.Common.{◌≡◌, ◌<◌, ◌≤◌, ◌+◌, ◌-◌, ℕ, Bool, true, false, List, Option, None, Some, refl, sym, ap, subst, ◌∙◌, arith}
-use Rattle.std.proofs.lemmas.Bool.{false≢true}
-use Rattle.drive_model.specs.Drive.{DriveState, Writes, InRange, at_index}
-use Rattle.fdc_registers.specs.Fifo.{Fifo}
-use Rattle.fdc_stages.specs.History.{Past, wrote}
-use Rattle.fdc_stages.specs.Formats.{Numbers, is_laying, is_first, is_next, is_open, is_due, opens, Takes, IsFormatting, IsNextLaid, HasNext, EndsWell, format_next}
-use Rattle.fdc_stages.specs.Leads.{HasLead, LeadsOn}
-use Rattle.fdc_stages.specs.Writings.{handed_with}
+use Rattle.fdc_core.proofs.Common.{false≢true, DriveState, Writes, InRange, at_index, Fifo, Past, wrote, Numbers, is_laying, is_first, is_next, Takes, IsFormatting, IsNextLaid, EndsWell, format_next, HasLead, LeadsOn, handed_with, FormatPart, Due, Lay, FormatStage, StageLaysWord, head_of, format_at, Execute, Format, Formatting, after_laid, format_followed, LaysByte, IsFormatStep, Opens, Closes, byte_taken, without_byte, fifo_without, Fdc}
+use Rattle.fdc_stages.specs.Formats.{is_open, is_due, opens, HasNext}
 use Rattle.fdc_stages.specs.declared.formatting.FormatEnd.{FormatEnd}
-use Rattle.fdc_stages.specs.declared.formatting.FormatPart.{FormatPart}
-use Rattle.fdc_stages.specs.declared.formatting.FormatPart.TheVariants.{Await, Due, Lay, Barred}
-use Rattle.fdc_stages.specs.declared.formatting.FormatStage.{FormatStage}
 use Rattle.fdc_stages.specs.declared.formatting.FormatWord.{FormatWord}
-use Rattle.fdc_phases.specs.Formatting.{StageLaysWord, is_ended}
-use Rattle.fdc_phases.specs.Phases.{head_of, format_at}
-use Rattle.fdc_phases.specs.declared.phases.Phase.TheVariants.{Execute}
-use Rattle.fdc_phases.specs.declared.phases.Task.TheVariants.{Format}
-use Rattle.fdc_phases.specs.declared.transfers.Formatting.{Formatting}
-use Rattle.fdc_core.specs.Formatting.{after_laid, format_followed, is_over, LaysByte, IsFormatStep}
-use Rattle.fdc_core.specs.Times.{Opens, Closes}
-use Rattle.fdc_core.specs.Writing.{byte_taken, without_byte, fifo_without}
-use Rattle.fdc_core.specs.declared.controller.Fdc.{Fdc}
+use Rattle.fdc_phases.specs.Formatting.{is_ended}
+use Rattle.fdc_core.specs.Formatting.{is_over}
 use Rattle.fdc_core.proofs.Words.{laid_time}
 
 laying_due : (part : FormatPart) → is_laying part ≡ true → is_next part ≡ true
-laying_due Await is = absurd (false≢true is)
-laying_due Due is = absurd (false≢true is)
 laying_due Lay is = refl
-laying_due Barred is = absurd (false≢true is)
+laying_due _ is = absurd (false≢true is)
 
 laying_opened : (part : FormatPart) → is_laying part ≡ true → is_first part ≡ false
-laying_opened Await is = refl
 laying_opened Due is = absurd (false≢true is)
-laying_opened Lay is = refl
-laying_opened Barred is = refl
+laying_opened _ is = refl
 
 -- the stage gave this word, and is another one after it
 pub record LaysOne (old : FormatStage) (byte word : ℕ) (new : FormatStage) : Type 0 where

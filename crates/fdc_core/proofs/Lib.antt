@@ -1,3 +1,4 @@
+mod Common
 pub mod MayRead
 pub mod MayReadId
 pub mod Ending

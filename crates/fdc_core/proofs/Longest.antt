@@ -1,37 +1,9 @@
 -- How many device steps are told at least, in which neither line changes.
-use Rattle.std.proofs.Common.{◌≡◌, ◌≤◌, ◌<◌, ◌+◌, ◌-◌, ◌*◌, ℕ, Bool, true, false, List, [], ◌∷◌, ◌++◌, length, min, take, drop, replicate, None, Some, refl, sym, ap, subst, ◌∙◌, inl, inr, arith, length-append, length-take-le}
-use Rattle.std.proofs.lemmas.Bool.{cases_lt, false≢true}
-use Rattle.std.proofs.lemmas.List.{append_assoc, length-replicate, take-append-drop}
-use Rattle.drive_model.specs.Ahead.{AreAhead, words_left}
-use Rattle.drive_model.specs.Drive.{DriveState, passed}
-use Rattle.flop_base.specs.declared.key.Chrn.{Chrn}
-use Rattle.track_model.specs.Fields.{content_size}
-use Rattle.track_separator.specs.declared.state.Separator.{Separator}
-use Rattle.track_separator.proofs.Lawful.{reads_mark, reads_within}
-use Rattle.fdc_registers.specs.Fifo.{Fifo, wants}
-use Rattle.fdc_stages.specs.History.{Past}
-use Rattle.fdc_stages.specs.Readings.{IsContent, IsReading, mark_at}
-use Rattle.fdc_stages.specs.Writings.{IsWriting}
-use Rattle.fdc_stages.specs.declared.reading.ReadStage.{ReadStage}
+use Rattle.std.proofs.Common.{◌≡◌, ◌≤◌, ◌<◌, ◌+◌, ◌-◌, ℕ, Bool, true, false, List, [], ◌∷◌, ◌++◌, length, min, take, drop, replicate, None, Some, refl, sym, ap, subst, ◌∙◌, inl, inr, arith, length-take-le}
+use Rattle.fdc_core.proofs.Common.{cases_lt, false≢true, append_assoc, length-replicate, take-append-drop, words_left, DriveState, passed, Chrn, content_size, reads_mark, reads_within, Fifo, wants, Past, IsContent, IsReading, mark_at, IsWriting, ReadStage, Search, WriteStage, told_taken, Sent, MayReadIdIn, MayReadIdTask, MayReadIn, MayReadTask, MayWriteIn, MayWriteTask, head_of, mark_of_phase, Execution, Phase, Execute, Task, ReadId, Read, Write, Format, Formatting, Reading, Writing, HasRoom, with_bytes, GoesOnFor, HasMostLeft, HasNoneWanted, HasWords, IsLongest, IsUndisturbed, IsUnmarked, MarksBy, MayBeMarked, MeetsBy, PassNext, ReadsContent, asks_in, asks_soon, steps_left, Fdc}
+use Rattle.drive_model.specs.Ahead.{AreAhead}
 use Rattle.fdc_stages.specs.declared.reading.ReadStage.TheVariants as stages
-use Rattle.fdc_stages.specs.declared.searching.Search.{Search}
-use Rattle.fdc_stages.specs.declared.writing.WriteStage.{WriteStage}
 use Rattle.fdc_stages.specs.declared.writing.WriteStage.TheVariants as writes
-use Rattle.fdc_stages.proofs.Lawful.{told_taken}
-use Rattle.fdc_phases.specs.Heard.{Sent, MayReadIdIn, MayReadIdTask, MayReadIn, MayReadTask}
-use Rattle.fdc_phases.specs.Written.{MayWriteIn, MayWriteTask}
-use Rattle.fdc_phases.specs.Phases.{head_of, mark_of_phase}
-use Rattle.fdc_phases.specs.declared.phases.Execution.{Execution}
-use Rattle.fdc_phases.specs.declared.phases.Phase.{Phase}
-use Rattle.fdc_phases.specs.declared.phases.Phase.TheVariants.{Execute, Command, Result}
-use Rattle.fdc_phases.specs.declared.phases.Task.{Task}
-use Rattle.fdc_phases.specs.declared.phases.Task.TheVariants.{ReadId, Read, Write, Format}
-use Rattle.fdc_phases.specs.declared.transfers.Formatting.{Formatting}
-use Rattle.fdc_phases.specs.declared.transfers.Reading.{Reading}
-use Rattle.fdc_phases.specs.declared.transfers.Writing.{Writing}
-use Rattle.fdc_core.specs.Contents.{HasRoom, with_bytes}
-use Rattle.fdc_core.specs.Quiet.{GoesOnFor, HasMostLeft, HasNoneWanted, HasWords, IsLongest, IsUndisturbed, IsUnmarked, MarksBy, MayBeMarked, MeetsBy, PassNext, ReadsContent, ReadsIn, asks_in, asks_soon, steps_left}
-use Rattle.fdc_core.specs.declared.controller.Fdc.{Fdc}
 use Rattle.fdc_core.proofs.Foreseen.{told_nothing}
 use Rattle.fdc_core.proofs.Foreseeing.{HoldsOfFirst, some_words}
 use Rattle.fdc_core.proofs.Quieting.{first_none, first_unmarked, some_none}
@@ -90,8 +62,7 @@ disturbed most count old before never = record {
 
 no_steps : (phase : Phase) → ((execution : Execution) → phase ≡ Execute execution → ⊥) → steps_left phase ≡ 0
 no_steps (Execute execution) idle = absurd (idle execution refl)
-no_steps Command idle = refl
-no_steps (Result answer) idle = refl
+no_steps _ idle = refl
 
 -- no data command is executed
 pub idle_longest : (most count : ℕ) (old : Fdc) (before : DriveState) → ((execution : Execution) → old.phase ≡ Execute execution → ⊥) → IsLongest most count old before
@@ -189,8 +160,7 @@ module _ (old : Fdc) (execution : Execution) (most count : ℕ) (before : DriveS
     -- a write that has met its address field
     has_met : (past : Past) (deleted : Bool) (handed : List ℕ) (stage : WriteStage) → ((search : Search) → stage ≡ writes.Search search → ⊥) → IsWriting past key deleted handed stage → HasNoneWanted (Some key) past.seen → ⊥
     has_met past deleted handed (writes.Search search) other was none = other search refl
-    has_met past deleted handed (writes.Gap left) other was none = none was.1.0.0 key refl was.1.0.1.address
-    has_met past deleted handed (writes.Window now) other was none = none was.1.0.0 key refl was.1.0.1.address
+    has_met past deleted handed _ other was none = none was.1.0.0 key refl was.1.0.1.address
 
     pub met_longest : ((search : Search) → writing.stage ≡ writes.Search search → ⊥) → IsLongest most count old before
     met_longest other = by_search (λ past sent deleted words was later next none.
@@ -252,10 +222,8 @@ module _ (old : Fdc) (execution : Execution) (most count : ℕ) (before : DriveS
 
     -- a content has a mark
     content_marked : (stage : ReadStage) → IsContent stage → mark_at stage ≡ None → ⊥
-    content_marked (stages.Search search) content none = content
-    content_marked (stages.Wait separator) content none = content
-    content_marked (stages.Over deleted good) content none = content
     content_marked (stages.Content separator deleted) content none = some_none none
+    content_marked _ content none = content
 
     pub over_longest : (deleted good : Bool) → reading.stage ≡ stages.Over deleted good → IsLongest most count old before
     over_longest deleted good over = by_stage
@@ -264,15 +232,13 @@ module _ (old : Fdc) (execution : Execution) (most count : ℕ) (before : DriveS
 
     -- so many bytes of the content that goes on have not come
     still_left : (past : Past) (told : List ℕ) (n : ℕ) (stage : ReadStage) → IsContent stage → IsReading past sector told stage → GoesOnFor n sector past.seen → length told + n + 1 ≤ content_size sector.n
-    still_left past told n (stages.Search search) content reads goes = absurd content
-    still_left past told n (stages.Wait separator) content reads goes = absurd content
-    still_left past told n (stages.Over deleted good) content reads goes = absurd content
     still_left past told n (stages.Content separator deleted) content (p, q, taken, at_content) goes =
         let size : ℕ = content_size sector.n in
         let long = told_taken past sector told separator deleted p q taken at_content in
         let within = reads_within separator past.seen p q deleted size taken at_content.reads in
         let on = goes p q deleted at_content.address (reads_mark separator past.seen p q deleted size taken at_content.reads) in
         omega (arith, long, within, on)
+    still_left past told n _ content reads goes = absurd content
 
     module _ (limit : ℕ) (some ahead : List ℕ) (first : some ≡ take (length some) ahead) (all : length some ≡ min (length ahead) (min limit (65535 - execution.steps)))
         (are : AreAhead (head_of head_drive) ahead before) (whole : before.left ≡ Some 0 → length ahead ≡ words_left (head_of head_drive) before) where

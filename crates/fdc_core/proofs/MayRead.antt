@@ -1,40 +1,8 @@
 -- What a device step, a transfer and the terminal count leave of a READ DATA.
-use Rattle.std.proofs.Common.{rules, ◌≡◌, ◌⊎◌, ℕ, ◌+◌, Bool, true, false, not, ◌&&◌, if◌then◌else◌, ◌==◌, List, [], ◌∷◌, ◌++◌, length, min, drop, get_or, nat_le, Option, Some, None, IfSome, refl, sym, ap, subst, ◌∙◌, arith, inl, inr, append_assoc}
-use Rattle.std.proofs.lemmas.Bool.{false≢true}
-use Rattle.std.proofs.lemmas.Bool.Decides.{nat_tests}
-use Rattle.flop_base.specs.declared.key.Chrn.{Chrn}
-use Rattle.track_model.specs.Fields.{content_size}
-use Rattle.track_separator.proofs.Lawful.{reads_mark, reads_within}
-use Rattle.fdc_stages.specs.History.{Past, heard, words_heard}
-use Rattle.fdc_stages.specs.Readings.{IsStart, IsReading, HasRead, HasHeard, FailsWell, IsFailure, IsOver, IsToldOf}
-use Rattle.fdc_stages.specs.declared.ending.Ending.{Ending}
-use Rattle.fdc_stages.specs.declared.ending.Ending.TheVariants.{Done, NoMark, NoSector, NoField, BadCheck, Overrun, NoCount, Protected, Late}
-use Rattle.fdc_stages.specs.Readings.{ReadOutcome}
+use Rattle.std.proofs.Common.{rules, ◌≡◌, ℕ, ◌+◌, Bool, true, false, not, ◌&&◌, if◌then◌else◌, ◌==◌, List, [], ◌∷◌, ◌++◌, length, min, drop, get_or, Option, Some, IfSome, refl, sym, ap, subst, ◌∙◌, arith, inl, inr, append_assoc}
+use Rattle.fdc_core.proofs.Common.{false≢true, nat_tests, Chrn, content_size, reads_mark, reads_within, Past, heard, words_heard, IsStart, IsReading, HasRead, HasHeard, FailsWell, IsFailure, IsToldOf, Ending, NoMark, NoSector, NoField, Overrun, NoCount, Late, ReadOutcome, ReadStage, Wait, Content, Over, over_told, told_stays, heard_count, DriveState, MayRead, Sent, sent_of, IsUnderway, HasEndedAs, IsSpent, MayReadIn, MayReadTask, told_in, stepped, gave, SeesWord, is_executing, after_step, Hears, StageHears, finished, Fifo, key_after, results_of, fifo_told, asking_told, phase_asks, task_asks, phase_told, task_told, ending_at, ending_over, ending_of, is_read, is_reading, moves_bytes, is_moving, key_as_sent, over_or_on, gone_on_reading, after_heard, at_stage, pushed, is_full, Fdc, Reading, Execution, Phase, Command, Execute, Result, Task, ReadId, Read, Write, Format, DataRate}
+use Rattle.fdc_stages.specs.Readings.{IsOver}
 use Rattle.fdc_stages.specs.Readings as given
-use Rattle.fdc_stages.specs.declared.reading.ReadStage.{ReadStage}
-use Rattle.fdc_stages.specs.declared.reading.ReadStage.TheVariants.{Search, Wait, Content, Over}
-use Rattle.fdc_stages.proofs.Lawful.{over_told, told_stays, heard_count}
-use Rattle.drive_model.specs.Drive.{DriveState}
-use Rattle.fdc_core.specs.Heard.{MayRead}
-use Rattle.fdc_phases.specs.Heard.{Sent, sent_of, IsUnderway, HasEndedAs, IsSpent, MayReadIn, MayReadTask, MayReadIdIn, told_in, stepped, gave}
-use Rattle.fdc_core.specs.Listening.{SeesWord, is_executing, after_step, Hears, StageHears}
-use Rattle.fdc_core.specs.State.{finished}
-use Rattle.fdc_registers.specs.Fifo.{Fifo}
-use Rattle.fdc_phases.specs.Answers.{key_after, results_of}
-use Rattle.fdc_core.specs.Dma.{fifo_told, asking_told}
-use Rattle.fdc_phases.specs.Dma.{phase_asks, task_asks, phase_told, task_told}
-use Rattle.fdc_phases.specs.Phases.{ending_at, ending_over, ending_of, is_read, is_reading, moves_bytes, is_moving, key_as_sent}
-use Rattle.fdc_core.specs.Ports.{phase_after}
-use Rattle.fdc_core.specs.Reading.{over_or_on, gone_on_reading, after_heard, at_stage, pushed, is_full}
-use Rattle.fdc_core.specs.declared.controller.Fdc.{Fdc}
-use Rattle.fdc_phases.specs.declared.transfers.Reading.{Reading}
-use Rattle.fdc_phases.specs.declared.phases.Execution.{Execution}
-use Rattle.fdc_phases.specs.declared.phases.Phase.{Phase}
-use Rattle.fdc_phases.specs.declared.phases.Phase.TheVariants.{Command, Execute, Result}
-use Rattle.fdc_phases.specs.declared.answers.Answer.TheVariants.{Short, Long}
-use Rattle.fdc_phases.specs.declared.phases.Task.{Task}
-use Rattle.fdc_phases.specs.declared.phases.Task.TheVariants.{ReadId, Read, Write, Format}
-use Rattle.fdc_phases.specs.declared.rates.DataRate.{DataRate}
 
 -- ---- the stage, apart from what else passed
 
@@ -43,17 +11,14 @@ abbrev pub moved : List ℕ → ℕ → Bool → Past → Past
 moved given steps counted past = record past { given = given; steps = steps; counted = counted }
 
 pub same_stage : (bytes : List ℕ) (steps : ℕ) (counted : Bool) (past : Past) (key : Chrn) (told : List ℕ) (stage : ReadStage) → IsReading past key told stage → IsReading (moved bytes steps counted past) key told stage
-same_stage bytes steps counted past key told (Search searching) was = was
 same_stage bytes steps counted past key told (Wait separator) ((p, at), none) =
     ((p, record { address = at.address; waits = at.waits; few = at.few }), none)
 same_stage bytes steps counted past key told (Content separator deleted) (p, q, taken, at) =
     (p, q, taken, record { address = at.address; reads = at.reads; bytes = at.bytes; few = at.few })
-same_stage bytes steps counted past key told (Over deleted good) was = was
+same_stage bytes steps counted past key told _ was = was
 
 -- what a stage gave is of a field of the key
 pub told_of : (past : Past) (key : Chrn) (told : List ℕ) (stage : ReadStage) → IsReading past key told stage → IsToldOf past key told
-told_of past key told (Search searching) was = inl was.1
-told_of past key told (Wait separator) was = inl was.1
 told_of past key told (Content separator deleted) (p, q, taken, was) =
     let within = reads_within separator past.seen p q deleted (content_size key.n) taken was.reads in
     inr (
@@ -74,6 +39,7 @@ told_of past key told (Content separator deleted) (p, q, taken, was) =
       ),
     )
 told_of past key told (Over deleted good) was = over_told past key told deleted good was
+told_of past key told _ was = inl was.1
 
 -- ---- the bytes
 
@@ -130,10 +96,8 @@ ended_over past key told deleted true false over is = record { bytes = over_told
 ended_over past key told deleted false counted over is = record { bytes = over_told past key told deleted false over; cause = (deleted, over) }
 
 ended_at : (past : Past) (key : Chrn) (told : List ℕ) (stage : ReadStage) (counted : Bool) → IsReading past key told stage → past.counted ≡ counted → IfSome (ending_at stage counted) (λ ending. HasRead past key told ending)
-ended_at past key told (Search searching) counted was is = tt
-ended_at past key told (Wait separator) counted was is = tt
-ended_at past key told (Content separator deleted) counted was is = tt
 ended_at past key told (Over deleted good) counted was is = ended_over past key told deleted good counted was is
+ended_at past key told _ counted was is = tt
 
 -- ---- what follows a word
 
@@ -146,20 +110,14 @@ failure_key : (ending : Ending) (key : Chrn) (last_sector : ℕ) → IsFailure e
 failure_key NoMark key last_sector is = refl
 failure_key NoSector key last_sector is = refl
 failure_key NoField key last_sector is = refl
-failure_key (Done deleted) key last_sector is = absurd is
-failure_key BadCheck key last_sector is = absurd is
-failure_key Overrun key last_sector is = absurd is
-failure_key NoCount key last_sector is = absurd is
-failure_key Protected key last_sector is = absurd is
-failure_key Late key last_sector is = absurd is
+failure_key _ key last_sector is = absurd is
 
 module _ (past : Past) (head_drive steps : ℕ) (old : Fdc) where
   over_on : (ending : Option Ending) (empty : Bool) (reading : Reading) (told : List ℕ) → (length old.fifo.bytes == 0) ≡ empty → IfSome ending (λ e. HasRead past reading.wanted.key told e) → IsUnderway past (sent_of head_drive reading) head_drive reading steps (past.given ++ old.fifo.bytes) told → MayRead past (sent_of head_drive reading) (over_or_on ending empty head_drive steps reading old)
-  over_on None empty reading told none ends is = (asks_bytes (length old.fifo.bytes == 0) _, (told, is))
   over_on (Some ending) true reading told none ends is =
       let all = all_given past reading.wanted.key old.fifo.bytes told ending reading.counted is.counted_is ends is.bytes_are none in
       (refl, (told, record { read = ends; rest = all.rest; bytes_are = all.bytes_are; spent = all.spent }))
-  over_on (Some ending) false reading told none ends is = (asks_bytes (length old.fifo.bytes == 0) _, (told, is))
+  over_on _ _ reading told none ends is = (asks_bytes (length old.fifo.bytes == 0) _, (told, is))
 
   on_reads : (reading : Reading) (told : List ℕ) → IsUnderway past (sent_of head_drive reading) head_drive reading steps (past.given ++ old.fifo.bytes) told → MayRead past (sent_of head_drive reading) (gone_on_reading head_drive steps reading old)
   on_reads reading told is =
@@ -227,11 +185,9 @@ hear_reads index word head_drive steps reading after old new hears is past sent 
 
 pub hears_reads : (index : Bool) (word head_drive steps : ℕ) (task : Task) (old new : Fdc) → Hears head_drive (steps + 1) task index word old new
     → (past : Past) (sent : Sent) → MayReadTask past sent head_drive steps task old.asking old.fifo.bytes → MayRead (heard index word (stepped past)) sent new
-hears_reads index word head_drive steps (ReadId search) old new hears past sent was = absurd was
-hears_reads index word head_drive steps (Write writing) old new hears past sent was = absurd was
-hears_reads index word head_drive steps (Format formatting) old new hears past sent was = absurd was
 hears_reads index word head_drive steps (Read reading) old new (after, hears, is) past sent (asks, (told, was)) =
     hear_reads index word head_drive steps reading after old new hears is past sent told was
+hears_reads index word head_drive steps _ old new hears past sent was = absurd was
 
 -- the last step ends it
 late_underway : (index : Bool) (word : ℕ) (past : Past) (sent : Sent) (head_drive : ℕ) (reading : Reading) (fifo told : List ℕ) → IsUnderway past sent head_drive reading 65535 (past.given ++ fifo) told → HasEndedAs (heard index word (stepped past)) reading.wanted.key Late told
@@ -246,12 +202,10 @@ late_underway index word past sent head_drive reading fifo told was =
     }
 
 late_task : (index : Bool) (word : ℕ) (past : Past) (sent : Sent) (head_drive steps : ℕ) (task : Task) (old : Fdc) → steps ≡ 65535 → MayReadTask past sent head_drive steps task old.asking old.fifo.bytes → MayRead (heard index word (stepped past)) sent (finished Late head_drive (key_as_sent task) old)
-late_task index word past sent head_drive steps (ReadId search) old is was = absurd was
-late_task index word past sent head_drive steps (Write writing) old is was = absurd was
-late_task index word past sent head_drive steps (Format formatting) old is was = absurd was
 late_task index word past sent head_drive steps (Read reading) old is (asks, (told, was)) =
     subst (λ s. MayRead (heard index word (stepped past)) s (finished Late head_drive reading.wanted.key old)) was.sent_is
     (refl, (told, late_underway index word past sent head_drive reading old.fifo.bytes told (subst (λ n. IsUnderway past sent head_drive reading n (past.given ++ old.fifo.bytes) told) is was)))
+late_task index word past sent head_drive steps _ old is was = absurd was
 
 -- the last step ends the command
 pub late_reads : (index : Bool) (word head_drive steps : ℕ) (task : Task) (old new : Fdc) → steps ≡ 65535 → new ≡ finished Late head_drive (key_as_sent task) old
@@ -261,14 +215,12 @@ late_reads index word head_drive steps task old new last is past sent was =
 
 -- outside execution nothing passes
 pub rests_sees : (phase : Phase) → ((execution : Execution) → phase ≡ Execute execution → ⊥) → (rate : DataRate) (before after : DriveState) → SeesWord phase rate before 0 after
-rests_sees Command other rate before after = tt
-rests_sees (Result answer) other rate before after = tt
 rests_sees (Execute execution) other rate before after = absurd (other execution refl)
+rests_sees _ other rate before after = tt
 
 pub rests_reads : (phase : Phase) → ((execution : Execution) → phase ≡ Execute execution → ⊥) → (index asking : Bool) (fifo : List ℕ) (past : Past) (sent : Sent) → MayReadIn past sent phase asking fifo → MayReadIn (after_step (is_executing phase) index 0 past) sent phase asking fifo
-rests_reads Command other index asking fifo past sent was = was
-rests_reads (Result answer) other index asking fifo past sent was = was
 rests_reads (Execute execution) other index asking fifo past sent was = absurd (other execution refl)
+rests_reads _ other index asking fifo past sent was = was
 
 -- ---- a byte goes to memory
 
@@ -303,9 +255,6 @@ out_reads past sent (Execute execution) asking fifo up is was = out_task past se
 
 told_task : (past : Past) (sent : Sent) (head_drive steps : ℕ) (task : Task) (asking : Bool) (fifo : Fifo) → MayReadTask past sent head_drive steps task asking fifo.bytes
     → MayReadTask (told_in true past) sent head_drive steps (task_told task) (asking_told (moves_bytes task) asking) (fifo_told (is_read task) fifo).bytes
-told_task past sent head_drive steps (ReadId search) asking fifo was = absurd was
-told_task past sent head_drive steps (Write writing) asking fifo was = absurd was
-told_task past sent head_drive steps (Format formatting) asking fifo was = absurd was
 told_task past sent head_drive steps (Read reading) asking fifo (asks, (told, was)) =
     let (rest, all) = starts_given past.given fifo.bytes told (starts reading.counted (past.given ++ fifo.bytes) told was.bytes_are) in (
       λ up. absurd (false≢true up),
@@ -321,6 +270,7 @@ told_task past sent head_drive steps (Read reading) asking fifo (asks, (told, wa
         },
       ),
     )
+told_task past sent head_drive steps _ asking fifo was = absurd was
 
 pub told_reads : (past : Past) (sent : Sent) (phase : Phase) (asking : Bool) (fifo : Fifo) → MayReadIn past sent phase asking fifo.bytes
     → MayReadIn (told_in (is_executing phase) past) sent (phase_told phase) (asking_told (is_moving phase) asking) (fifo_told (is_reading phase) fifo).bytes
@@ -329,26 +279,6 @@ told_reads past sent (Result answer) asking fifo was = was
 told_reads past sent (Execute execution) asking fifo was = told_task past sent execution.head_drive execution.steps execution.task asking fifo was
 
 -- ---- a result byte is read
-
-pub given_reads : (past : Past) (sent : Sent) (phase : Phase) (asking : Bool) (fifo : List ℕ) → MayReadIn past sent phase asking fifo → MayReadIn past sent (phase_after phase) asking fifo ⊎ (phase_after phase ≡ Command)
-given_reads past sent Command asking fifo was = absurd was
-given_reads past sent (Execute execution) asking fifo was = inl was
-given_reads past sent (Result (Short next last)) asking fifo was = absurd was
-given_reads past sent (Result (Long ending results taken)) asking fifo was = behind (nat_le 6 taken)
-  where
-    behind : (b : Bool) → MayReadIn past sent (if b then Command else Result (Long ending results (taken + 1))) asking fifo ⊎ ((if b then Command else Result (Long ending results (taken + 1))) ≡ Command)
-    behind true = inr refl
-    behind false = inl was
-
-pub given_identifies : (past : Past) (sent : ℕ) (phase : Phase) → MayReadIdIn past sent phase → MayReadIdIn past sent (phase_after phase) ⊎ (phase_after phase ≡ Command)
-given_identifies past sent Command was = absurd was
-given_identifies past sent (Execute execution) was = inl was
-given_identifies past sent (Result (Short next last)) was = absurd was
-given_identifies past sent (Result (Long ending results taken)) was = behind (nat_le 6 taken)
-  where
-    behind : (b : Bool) → MayReadIdIn past sent (if b then Command else Result (Long ending results (taken + 1))) ⊎ ((if b then Command else Result (Long ending results (taken + 1))) ≡ Command)
-    behind true = inr refl
-    behind false = inl was
 
 pub second_true : (a b : Bool) → (a && b) ≡ true → b ≡ true
 second_true true b is = is

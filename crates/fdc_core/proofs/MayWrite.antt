@@ -1,45 +1,12 @@
 -- What a device step, a transfer and the terminal count leave of a write and of a FORMAT.
-use Rattle.std.proofs.Common.{◌≡◌, ℕ, zero, suc, ◌+◌, Bool, true, false, if◌then◌else◌, ◌==◌, List, [], ◌∷◌, ◌++◌, length, replicate, drop, Option, Some, None, refl, sym, ap, subst, ◌∙◌, arith, inl, inr, append_assoc, append-nil}
-use Rattle.std.proofs.lemmas.Bool.{false≢true}
-use Rattle.std.proofs.lemmas.List.{replicate_more}
-use Rattle.flop_base.specs.declared.key.Chrn.{Chrn}
-use Rattle.drive_model.specs.Drive.{DriveState, is_protected}
-use Rattle.fdc_registers.specs.Fifo.{Fifo, room_of}
-use Rattle.fdc_stages.specs.History.{Past, heard, kept_out, wrote}
-use Rattle.fdc_stages.specs.declared.ending.Ending.{Ending}
-use Rattle.fdc_stages.specs.declared.ending.Ending.TheVariants.{Done, NoMark, NoSector, NoField, BadCheck, Overrun, NoCount, Protected, Late}
+use Rattle.std.proofs.Common.{◌≡◌, ℕ, zero, ◌+◌, Bool, true, false, if◌then◌else◌, ◌==◌, List, [], ◌∷◌, ◌++◌, length, replicate, drop, Option, Some, None, refl, sym, ap, subst, ◌∙◌, arith, inl, inr, append_assoc, append-nil}
+use Rattle.fdc_core.proofs.Common.{false≢true, replicate_more, Chrn, DriveState, is_protected, Fifo, room_of, Past, heard, kept_out, wrote, Ending, Done, Overrun, Protected, Late, Numbers, IsFormatting, is_open, opens, is_due, needs_byte, handed_with, heard_where, IsWriting, HasNext, IsStopped, FormatNext, FormatPart, Due, Lay, WriteNext, WriteStage, stopped_written, stopped_formatted, key_after, results_of, no_key, asking_told, fifo_told, with_byte, task_asks, task_told, phase_asks, phase_told, FormatDoes, after_laid, Sent, stepped, told_in, is_executing, is_read, is_reading, moves_bytes, is_moving, WordTime, Saw, KeptOut, Wrote, Stopped, after_time, WriteDoes, Stops, after_next, oldest_of, byte_taken, without_byte, MayWrite, MayFormat, took, IsHanded, write_sent, MayWriteIn, MayWriteTask, MayFormatIn, MayFormatTask, Long, Fdc, Phase, Command, Execute, Result, Task, ReadId, Read, Write, Format, Formatting, Writing}
 use Rattle.fdc_stages.specs.Formats as formats
-use Rattle.fdc_stages.specs.Formats.{Numbers, IsFormatting}
-use Rattle.fdc_stages.specs.Writings.{is_open, opens, is_due, needs_byte, handed_with, heard_where, IsWriting, HasNext, IsStopped}
-use Rattle.fdc_stages.specs.declared.formatting.FormatNext.{FormatNext}
 use Rattle.fdc_stages.specs.declared.formatting.FormatNext.TheVariants as format_next
-use Rattle.fdc_stages.specs.declared.formatting.FormatPart.{FormatPart}
-use Rattle.fdc_stages.specs.declared.formatting.FormatPart.TheVariants.{Await, Due, Lay, Barred}
-use Rattle.fdc_stages.specs.declared.writing.WriteNext.{WriteNext}
 use Rattle.fdc_stages.specs.declared.writing.WriteNext.TheVariants as write_next
-use Rattle.fdc_stages.specs.declared.writing.WriteStage.{WriteStage}
 use Rattle.fdc_stages.specs.declared.writing.WriteStage.TheVariants as stages
-use Rattle.fdc_stages.proofs.Ended.{stopped_written, stopped_formatted}
 use Rattle.fdc_phases.proofs.AtFirst.{rule_room}
-use Rattle.fdc_phases.specs.Answers.{key_after, results_of, no_key}
-use Rattle.fdc_core.specs.Dma.{asking_told, fifo_told, with_byte}
-use Rattle.fdc_phases.specs.Dma.{task_asks, task_told, phase_asks, phase_told}
-use Rattle.fdc_core.specs.Formatting.{FormatDoes, after_laid}
-use Rattle.fdc_phases.specs.Heard.{Sent, stepped, told_in}
-use Rattle.fdc_core.specs.Listening.{is_executing}
-use Rattle.fdc_phases.specs.Phases.{is_read, is_reading, moves_bytes, is_moving}
-use Rattle.fdc_core.specs.Times.{WordTime, Saw, KeptOut, Wrote, Stopped, after_time}
-use Rattle.fdc_core.specs.Writing.{WriteDoes, Stops, after_next, oldest_of, byte_taken, without_byte}
-use Rattle.fdc_core.specs.Written.{MayWrite, MayFormat}
-use Rattle.fdc_phases.specs.Written.{took, IsHanded, IsContent, write_sent, MayWriteIn, MayWriteTask, MayFormatIn, MayFormatTask}
-use Rattle.fdc_phases.specs.declared.answers.Answer.TheVariants.{Short, Long}
-use Rattle.fdc_core.specs.declared.controller.Fdc.{Fdc}
-use Rattle.fdc_phases.specs.declared.phases.Phase.{Phase}
-use Rattle.fdc_phases.specs.declared.phases.Phase.TheVariants.{Command, Execute, Result}
-use Rattle.fdc_phases.specs.declared.phases.Task.{Task}
-use Rattle.fdc_phases.specs.declared.phases.Task.TheVariants.{ReadId, Read, Write, Format}
-use Rattle.fdc_phases.specs.declared.transfers.Formatting.{Formatting}
-use Rattle.fdc_phases.specs.declared.transfers.Writing.{Writing}
+use Rattle.fdc_phases.specs.Written.{IsContent}
 
 -- ---- bytes from memory
 
@@ -91,15 +58,13 @@ missing true true (first ∷ rest) is = absurd (cc is)
 -- ---- a write
 
 not_due : (stage : WriteStage) → is_due stage ≡ false → (is_open stage ≡ false) × (opens stage ≡ false)
-not_due (stages.Search search) is = (refl, refl)
 not_due (stages.Gap zero) is = absurd (false≢true (sym is))
-not_due (stages.Gap (suc left)) is = (refl, refl)
 not_due (stages.Window now) is = absurd (false≢true (sym is))
+not_due _ is = (refl, refl)
 
 not_open : (stage : WriteStage) → opens stage ≡ true → is_open stage ≡ false
-not_open (stages.Search search) is = refl
-not_open (stages.Gap left) is = refl
 not_open (stages.Window now) is = absurd (false≢true is)
+not_open _ is = refl
 
 module _ (past : Past) (head_drive steps : ℕ) (writing : Writing) (old : Fdc) (handed : List ℕ) (counted_is : past.counted ≡ writing.counted) (steps_are : past.steps ≡ steps + 1) (handed_is : IsHanded writing.counted past.taken handed old.fifo.bytes) where
   follow_write : (next : WriteNext) → HasNext past writing.wanted.key writing.deleted handed next → MayWrite past (write_sent head_drive writing) writing.deleted (after_next head_drive (steps + 1) writing next old)
@@ -126,23 +91,13 @@ stop_key : (ending : Ending) (steps : ℕ) (protects : Bool) (byte : Option ℕ)
 stop_key Late steps protects byte key last_sector is = refl
 stop_key Protected steps protects byte key last_sector is = refl
 stop_key Overrun steps protects byte key last_sector is = refl
-stop_key (Done deleted) steps protects byte key last_sector is = absurd is
-stop_key NoMark steps protects byte key last_sector is = absurd is
-stop_key NoSector steps protects byte key last_sector is = absurd is
-stop_key NoField steps protects byte key last_sector is = absurd is
-stop_key BadCheck steps protects byte key last_sector is = absurd is
-stop_key NoCount steps protects byte key last_sector is = absurd is
+stop_key _ steps protects byte key last_sector is = absurd is
 
 stop_is : (ending : Ending) (past : Past) (steps : ℕ) (protects needs counted : Bool) (bytes : List ℕ) → Stops steps protects (if needs then oldest_of counted bytes else Some 0) ending → past.counted ≡ counted → past.steps ≡ steps → (steps ≡ 0 → past.words ≡ []) → IsStopped (stepped past) ending
 stop_is Late past steps protects needs counted bytes is counted_is steps_are fresh = omega arith
 stop_is Protected past steps protects needs counted bytes is counted_is steps_are fresh = fresh is.0
 stop_is Overrun past steps protects needs counted bytes is counted_is steps_are fresh = counted_is ∙ missing needs counted bytes is.1
-stop_is (Done deleted) past steps protects needs counted bytes is counted_is steps_are fresh = is
-stop_is NoMark past steps protects needs counted bytes is counted_is steps_are fresh = is
-stop_is NoSector past steps protects needs counted bytes is counted_is steps_are fresh = is
-stop_is NoField past steps protects needs counted bytes is counted_is steps_are fresh = is
-stop_is BadCheck past steps protects needs counted bytes is counted_is steps_are fresh = is
-stop_is NoCount past steps protects needs counted bytes is counted_is steps_are fresh = is
+stop_is _ past steps protects needs counted bytes is counted_is steps_are fresh = is
 
 same_writing : (past : Past) (key : Chrn) (deleted : Bool) (handed : List ℕ) (stage : WriteStage) → IsWriting past key deleted handed stage → IsWriting (stepped past) key deleted handed stage
 same_writing past key deleted handed (stages.Search search) was = was
@@ -192,16 +147,13 @@ writes_on time head_drive steps writing old before new does past sent deleted (a
 -- ---- a FORMAT
 
 laid_due : (part : FormatPart) → formats.is_next part ≡ false → (formats.is_laying part ≡ false) × (formats.is_first part ≡ false)
-laid_due Await is = (refl, refl)
 laid_due Due is = absurd (false≢true (sym is))
 laid_due Lay is = absurd (false≢true (sym is))
-laid_due Barred is = (refl, refl)
+laid_due _ is = (refl, refl)
 
 laid_open : (part : FormatPart) → formats.is_first part ≡ true → formats.is_laying part ≡ false
-laid_open Await is = refl
-laid_open Due is = refl
 laid_open Lay is = absurd (false≢true is)
-laid_open Barred is = refl
+laid_open _ is = refl
 
 module _ (past : Past) (head_drive steps : ℕ) (formatting : Formatting) (numbers : Numbers) (old : Fdc) (handed : List ℕ) (counted_is : past.counted ≡ formatting.counted) (steps_are : past.steps ≡ steps + 1) (handed_is : IsHanded formatting.counted past.taken handed old.fifo.bytes) where
   follow_format : (next : FormatNext) → formats.HasNext past numbers handed next → MayFormat past head_drive numbers (after_laid head_drive (steps + 1) formatting next old)
@@ -223,15 +175,8 @@ module _ (past : Past) (head_drive steps : ℕ) (formatting : Formatting) (numbe
       (refl, refl, (handed, record { formatted = is.0; result = is.1; content = subst (λ counted. IsContent counted past.taken handed) (sym counted_is) (content_of formatting.counted past.taken handed old.fifo.bytes handed_is) }))
 
 stop_result : (ending : Ending) (steps : ℕ) (protects : Bool) (byte : Option ℕ) (numbers : Numbers) (handed : List ℕ) → Stops steps protects byte ending → formats.IsResultKey numbers handed ending no_key
-stop_result Late steps protects byte numbers handed is = refl
-stop_result Protected steps protects byte numbers handed is = refl
-stop_result Overrun steps protects byte numbers handed is = refl
 stop_result (Done deleted) steps protects byte numbers handed is = absurd is
-stop_result NoMark steps protects byte numbers handed is = refl
-stop_result NoSector steps protects byte numbers handed is = refl
-stop_result NoField steps protects byte numbers handed is = refl
-stop_result BadCheck steps protects byte numbers handed is = refl
-stop_result NoCount steps protects byte numbers handed is = refl
+stop_result _ steps protects byte numbers handed is = refl
 
 module _ (head_drive steps : ℕ) (formatting : Formatting) (numbers : Numbers) (old : Fdc) (before : DriveState) (new : Fdc) (past : Past) (handed : List ℕ) (counted_is : past.counted ≡ formatting.counted) (steps_are : past.steps ≡ steps) (fresh : steps ≡ 0 → past.words ≡ []) (was : IsFormatting past numbers handed formatting.stage) (handed_is : IsHanded formatting.counted past.taken handed old.fifo.bytes) where
   format_does : (time : WordTime) → FormatDoes time head_drive steps formatting old before new → MayFormat (after_time time past) head_drive numbers new
@@ -277,9 +222,6 @@ formats_on time head_drive steps formatting old before new does past sent number
 
 in_write : (past : Past) (sent : Sent) (deleted : Bool) (head_drive steps : ℕ) (task : Task) (asking : Bool) (fifo : Fifo) (byte : ℕ) → asking ≡ true → MayWriteTask past sent deleted head_drive steps task asking fifo
     → MayWriteTask (took byte past) sent deleted head_drive steps task (task_asks task asking (with_byte byte fifo)) (with_byte byte fifo)
-in_write past sent deleted head_drive steps (ReadId search) asking fifo byte up was = absurd was
-in_write past sent deleted head_drive steps (Read reading) asking fifo byte up was = absurd was
-in_write past sent deleted head_drive steps (Format formatting) asking fifo byte up was = absurd was
 in_write past sent deleted head_drive steps (Write writing) asking fifo byte up (asks, (handed, was)) =
     let (none, room) = asks up in (
       rule_room writing.counted asking (with_byte byte fifo),
@@ -296,12 +238,10 @@ in_write past sent deleted head_drive steps (Write writing) asking fifo byte up 
         },
       ),
     )
+in_write past sent deleted head_drive steps _ asking fifo byte up was = absurd was
 
 in_format : (past : Past) (sent : ℕ) (numbers : Numbers) (head_drive steps : ℕ) (task : Task) (asking : Bool) (fifo : Fifo) (byte : ℕ) → asking ≡ true → MayFormatTask past sent numbers head_drive steps task asking fifo
     → MayFormatTask (took byte past) sent numbers head_drive steps task (task_asks task asking (with_byte byte fifo)) (with_byte byte fifo)
-in_format past sent numbers head_drive steps (ReadId search) asking fifo byte up was = absurd was
-in_format past sent numbers head_drive steps (Read reading) asking fifo byte up was = absurd was
-in_format past sent numbers head_drive steps (Write writing) asking fifo byte up was = absurd was
 in_format past sent numbers head_drive steps (Format formatting) asking fifo byte up (asks, (handed, was)) =
     let (none, room) = asks up in (
       rule_room formatting.counted asking (with_byte byte fifo),
@@ -317,20 +257,19 @@ in_format past sent numbers head_drive steps (Format formatting) asking fifo byt
         },
       ),
     )
+in_format past sent numbers head_drive steps _ asking fifo byte up was = absurd was
 
 pub in_writes : (past : Past) (sent : Sent) (deleted : Bool) (phase : Phase) (asking : Bool) (fifo : Fifo) (byte : ℕ) → asking ≡ true → MayWriteIn past sent deleted phase asking fifo
     → MayWriteIn (took byte past) sent deleted phase (phase_asks phase asking (with_byte byte fifo)) (with_byte byte fifo)
-in_writes past sent deleted Command asking fifo byte up was = absurd was
-in_writes past sent deleted (Result (Short next last)) asking fifo byte up was = absurd was
 in_writes past sent deleted (Result (Long ending results read)) asking fifo byte up (down, are, was) = absurd (false≢true (sym down ∙ up))
 in_writes past sent deleted (Execute execution) asking fifo byte up was = in_write past sent deleted execution.head_drive execution.steps execution.task asking fifo byte up was
+in_writes past sent deleted _ asking fifo byte up was = absurd was
 
 pub in_formats : (past : Past) (sent : ℕ) (numbers : Numbers) (phase : Phase) (asking : Bool) (fifo : Fifo) (byte : ℕ) → asking ≡ true → MayFormatIn past sent numbers phase asking fifo
     → MayFormatIn (took byte past) sent numbers phase (phase_asks phase asking (with_byte byte fifo)) (with_byte byte fifo)
-in_formats past sent numbers Command asking fifo byte up was = absurd was
-in_formats past sent numbers (Result (Short next last)) asking fifo byte up was = absurd was
 in_formats past sent numbers (Result (Long ending results read)) asking fifo byte up (down, are, was) = absurd (false≢true (sym down ∙ up))
 in_formats past sent numbers (Execute execution) asking fifo byte up was = in_format past sent numbers execution.head_drive execution.steps execution.task asking fifo byte up was
+in_formats past sent numbers _ asking fifo byte up was = absurd was
 
 -- ---- the terminal count
 

@@ -1,28 +1,9 @@
 -- What follows from what is known of a command.
 use Rattle.std.proofs.Common.{◌≡◌, ℕ, Bool, true, false, not, List, ◌++◌, length, refl, sym, ◌∙◌, ap, subst, None, Some}
-use Rattle.std.proofs.lemmas.Bool.{false≢true}
-use Rattle.std.proofs.lemmas.List.{append-nil}
-use Rattle.flop_base.specs.declared.key.Chrn.{Chrn}
-use Rattle.track_model.specs.Fields.{IsSizeCode}
-use Rattle.fdc_stages.specs.History.{Past, HasFewTurns}
-use Rattle.fdc_stages.specs.Findings.{HasIdentified}
-use Rattle.fdc_stages.specs.Readings.{IsStart, IsReading, IsToldOf}
-use Rattle.fdc_stages.specs.declared.ending.Ending.{Ending}
-use Rattle.fdc_stages.specs.declared.ending.Ending.TheVariants.{Done, NoMark, NoSector, NoField, BadCheck, Overrun, NoCount, Protected, Late}
-use Rattle.fdc_stages.specs.declared.reading.ReadStage.{ReadStage}
+use Rattle.fdc_core.proofs.Common.{false≢true, append-nil, Chrn, IsSizeCode, Past, HasFewTurns, HasIdentified, IsStart, IsReading, IsToldOf, Ending, Done, NoMark, NoSector, NoField, BadCheck, NoCount, ReadStage, over_told, over_full, reading_told, searching_few, MayRead, MayReadId, Sent, MayReadIn, MayReadTask, MayReadIdIn, MayReadIdTask, HasEndedAs, is_over, Long, Fdc, Phase, Execute, Result, Task, ReadId, Read}
 use Rattle.fdc_stages.specs.declared.reading.ReadStage.TheVariants as stages
 use Rattle.fdc_stages.proofs.Causes.{found_of, bad_check_of, no_field_of, no_mark_of, no_sector_of}
-use Rattle.fdc_stages.proofs.Lawful.{over_told, over_full, reading_told, searching_few}
-use Rattle.fdc_core.specs.Heard.{MayRead, MayReadId}
-use Rattle.fdc_phases.specs.Heard.{Sent, MayReadIn, MayReadTask, MayReadIdIn, MayReadIdTask, HasEndedAs}
 use Rattle.fdc_core.specs.Meaning.{ReadMeans, ReadMeansIn, FindsUncounted, ReadGives, AreOfField, bytes_held, IdMeans, IdMeansIn, PacedIn, IsPaced, is_hearing}
-use Rattle.fdc_phases.specs.Phases.{is_over}
-use Rattle.fdc_phases.specs.declared.answers.Answer.TheVariants.{Short, Long}
-use Rattle.fdc_core.specs.declared.controller.Fdc.{Fdc}
-use Rattle.fdc_phases.specs.declared.phases.Phase.{Phase}
-use Rattle.fdc_phases.specs.declared.phases.Phase.TheVariants.{Command, Execute, Result}
-use Rattle.fdc_phases.specs.declared.phases.Task.{Task}
-use Rattle.fdc_phases.specs.declared.phases.Task.TheVariants.{ReadId, Read, Write, Format}
 use Rattle.fdc_core.proofs.MayRead.{starts}
 
 -- ---- READ DATA
@@ -47,35 +28,28 @@ read_means past sent NoMark told sized ended = no_mark_of past (Some sent.key) e
 read_means past sent NoSector told sized ended = no_sector_of past (Some sent.key) ended.read.cause
 read_means past sent NoField told sized ended = no_field_of past sent.key ended.read.cause
 read_means past sent BadCheck told sized ended = bad_check_of past sent.key told sized ended.read
-read_means past sent Overrun told sized ended = ended.read.cause
 read_means past sent NoCount told sized ended = uncounted past sent.key told sized ended
-read_means past sent Late told sized ended = ended.read.cause
-read_means past sent Protected told sized ended = ended.read.cause
+read_means past sent _ told sized ended = ended.read.cause
 
 read_means_in : (past : Past) (sent : Sent) (phase : Phase) (asking : Bool) (fifo : List ℕ) → IsSizeCode sent.key.n → MayReadIn past sent phase asking fifo → ReadMeansIn past sent phase
-read_means_in past sent Command asking fifo sized was = tt
-read_means_in past sent (Execute execution) asking fifo sized was = tt
-read_means_in past sent (Result (Short next last)) asking fifo sized was = tt
 read_means_in past sent (Result (Long ending results read)) asking fifo sized (are, (told, ended)) =
     (are, read_means past sent ending told sized ended)
+read_means_in past sent _ asking fifo sized was = tt
 
 pub read_tells : (past : Past) (sent : Sent) (fdc : Fdc) → IsSizeCode sent.key.n → MayRead past sent fdc → ReadMeansIn past sent fdc.phase
 read_tells past sent fdc sized was = read_means_in past sent fdc.phase fdc.asking fdc.fifo.bytes sized was
 
 gives_task : (past : Past) (sent : Sent) (head_drive steps : ℕ) (task : Task) (asking : Bool) (fifo : List ℕ) → MayReadTask past sent head_drive steps task asking fifo → AreOfField past sent.key (past.given ++ fifo)
-gives_task past sent head_drive steps (ReadId search) asking fifo was = absurd was
-gives_task past sent head_drive steps (Write writing) asking fifo was = absurd was
-gives_task past sent head_drive steps (Format formatting) asking fifo was = absurd was
 gives_task past sent head_drive steps (Read reading) asking fifo (asks, (told, was)) =
     let told_of : IsToldOf past reading.wanted.key told = reading_told past reading.wanted.key told reading.stage was.reads in
     (told, subst (λ s. IsToldOf past s.key told) was.sent_is told_of, starts reading.counted (past.given ++ fifo) told was.bytes_are)
+gives_task past sent head_drive steps _ asking fifo was = absurd was
 
 gives_in : (past : Past) (sent : Sent) (phase : Phase) (asking : Bool) (fifo : List ℕ) → MayReadIn past sent phase asking fifo → AreOfField past sent.key (bytes_held phase past fifo)
-gives_in past sent Command asking fifo was = absurd was
 gives_in past sent (Execute execution) asking fifo was = gives_task past sent execution.head_drive execution.steps execution.task asking fifo was
-gives_in past sent (Result (Short next last)) asking fifo was = absurd was
 gives_in past sent (Result (Long ending results read)) asking fifo (are, (told, ended)) =
     (told, ended.read.bytes, (ended.rest, ended.bytes_are))
+gives_in past sent _ asking fifo was = absurd was
 
 pub read_gives : (past : Past) (sent : Sent) (fdc : Fdc) → MayRead past sent fdc → ReadGives past sent fdc
 read_gives past sent fdc was = gives_in past sent fdc.phase fdc.asking fdc.fifo.bytes was
@@ -83,21 +57,13 @@ read_gives past sent fdc was = gives_in past sent fdc.phase fdc.asking fdc.fifo.
 -- ---- READ ID
 
 id_means : (past : Past) (key : Chrn) (ending : Ending) → HasIdentified past key ending → IdMeans past key ending
-id_means past key (Done deleted) is = is
 id_means past key NoMark is = no_mark_of past None is
 id_means past key NoSector is = no_sector_of past None is
-id_means past key NoField is = is
-id_means past key BadCheck is = is
-id_means past key Overrun is = is
-id_means past key NoCount is = is
-id_means past key Protected is = is
-id_means past key Late is = is
+id_means past key _ is = is
 
 id_means_in : (past : Past) (sent : ℕ) (phase : Phase) → MayReadIdIn past sent phase → IdMeansIn past sent phase
-id_means_in past sent Command was = tt
-id_means_in past sent (Execute execution) was = tt
-id_means_in past sent (Result (Short next last)) was = tt
 id_means_in past sent (Result (Long ending results read)) was = (was.0, id_means past results.key ending was.1)
+id_means_in past sent _ was = tt
 
 pub id_tells : (past : Past) (sent : ℕ) (fdc : Fdc) → MayReadId past sent fdc → IdMeansIn past sent fdc.phase
 id_tells past sent fdc was = id_means_in past sent fdc.phase was
@@ -111,31 +77,25 @@ few_at past key told (stages.Content separator deleted) (p, q, taken, at) hears 
 few_at past key told (stages.Over deleted good) was hears = absurd (false≢true hears)
 
 paced_task : (past : Past) (sent : Sent) (head_drive steps : ℕ) (task : Task) (asking : Bool) (fifo : List ℕ) → MayReadTask past sent head_drive steps task asking fifo → IsPaced past steps (is_hearing task)
-paced_task past sent head_drive steps (ReadId search) asking fifo was = absurd was
-paced_task past sent head_drive steps (Write writing) asking fifo was = absurd was
-paced_task past sent head_drive steps (Format formatting) asking fifo was = absurd was
 paced_task past sent head_drive steps (Read reading) asking fifo (asks, (told, was)) =
     record { steps_are = was.steps_are; heard_are = was.heard_are; few = few_at past reading.wanted.key told reading.stage was.reads }
+paced_task past sent head_drive steps _ asking fifo was = absurd was
 
 paced_in : (past : Past) (sent : Sent) (phase : Phase) (asking : Bool) (fifo : List ℕ) → MayReadIn past sent phase asking fifo → PacedIn past phase
-paced_in past sent Command asking fifo was = tt
-paced_in past sent (Result answer) asking fifo was = tt
 paced_in past sent (Execute execution) asking fifo was = paced_task past sent execution.head_drive execution.steps execution.task asking fifo was
+paced_in past sent _ asking fifo was = tt
 
 pub paced : (past : Past) (sent : Sent) (fdc : Fdc) → MayRead past sent fdc → PacedIn past fdc.phase
 paced past sent fdc was = paced_in past sent fdc.phase fdc.asking fdc.fifo.bytes was
 
 paced_id_task : (past : Past) (sent head_drive steps : ℕ) (task : Task) → MayReadIdTask past sent head_drive steps task → IsPaced past steps (is_hearing task)
-paced_id_task past sent head_drive steps (Read reading) was = absurd was
-paced_id_task past sent head_drive steps (Write writing) was = absurd was
-paced_id_task past sent head_drive steps (Format formatting) was = absurd was
 paced_id_task past sent head_drive steps (ReadId search) was =
     record { steps_are = was.steps_are; heard_are = was.heard_are; few = λ _. searching_few past None search was.searches }
+paced_id_task past sent head_drive steps _ was = absurd was
 
 paced_id_in : (past : Past) (sent : ℕ) (phase : Phase) → MayReadIdIn past sent phase → PacedIn past phase
-paced_id_in past sent Command was = tt
-paced_id_in past sent (Result answer) was = tt
 paced_id_in past sent (Execute execution) was = paced_id_task past sent execution.head_drive execution.steps execution.task was
+paced_id_in past sent _ was = tt
 
 pub paced_id : (past : Past) (sent : ℕ) (fdc : Fdc) → MayReadId past sent fdc → PacedIn past fdc.phase
 paced_id past sent fdc was = paced_id_in past sent fdc.phase was

@@ -1,18 +1,7 @@
 -- A word that passes by a search, in place.
 use Rattle.std.proofs.Common.{◌≡◌, ◌<◌, ℕ, ◌+◌, Bool, false, sym, ap, subst, ◌∙◌, inr}
-use Rattle.drive_model.specs.Drive.{DriveState}
-use Rattle.fdc_phases.specs.declared.phases.Phase.{Phase}
-use Rattle.fdc_phases.specs.declared.phases.Phase.TheVariants.{Execute}
-use Rattle.fdc_phases.specs.declared.phases.Task.TheVariants.{Read}
-use Rattle.fdc_phases.specs.declared.transfers.Reading.{Reading}
-use Rattle.fdc_stages.specs.History.{heard}
-use Rattle.fdc_stages.specs.Readings.{IsReading, PassesBy}
+use Rattle.fdc_core.proofs.Common.{DriveState, Phase, Execute, Read, Reading, heard, IsReading, PassesBy, ReadStage, HearsIn, StepsOn, at_stage, gone_on_reading, ExecutionSteps, Fdc}
 use Rattle.fdc_stages.specs.Readings as given
-use Rattle.fdc_stages.specs.declared.reading.ReadStage.{ReadStage}
-use Rattle.fdc_core.specs.Listening.{HearsIn, StepsOn}
-use Rattle.fdc_core.specs.Reading.{at_stage, gone_on_reading}
-use Rattle.fdc_core.specs.Tasks.{ExecutionSteps}
-use Rattle.fdc_core.specs.declared.controller.Fdc.{Fdc}
 use Rattle.fdc_core.proofs.Following.{at_reading}
 
 -- the word passed by

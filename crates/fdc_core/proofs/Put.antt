@@ -1,38 +1,19 @@
 -- A word of a window, written in place.
-use Rattle.std.proofs.Common.{◌≡◌, ◌<◌, ◌≤◌, ◌+◌, ℕ, zero, suc, Bool, true, false, List, Option, None, Some, IfSome, refl, sym, ap, subst, ◌∙◌, arith}
-use Rattle.std.proofs.lemmas.Bool.{false≢true}
-use Rattle.drive_model.specs.Drive.{DriveState}
-use Rattle.flop_base.specs.declared.key.Chrn.{Chrn}
-use Rattle.fdc_registers.specs.Fifo.{Fifo}
-use Rattle.fdc_stages.specs.History.{Past}
-use Rattle.fdc_stages.specs.Windows.{lead_behind}
-use Rattle.fdc_stages.specs.Writings.{is_open, is_due, opens, needs_byte, is_last, lead_of, rest_behind, handed_with, IsWriting, IsNextWord}
-use Rattle.fdc_stages.specs.declared.writing.WriteStage.{WriteStage}
+use Rattle.std.proofs.Common.{◌≡◌, ◌<◌, ◌≤◌, ◌+◌, ℕ, zero, Bool, true, false, List, Option, None, Some, IfSome, refl, sym, ap, subst, ◌∙◌, arith}
+use Rattle.fdc_core.proofs.Common.{false≢true, DriveState, Chrn, Fifo, Past, lead_behind, is_open, is_due, opens, needs_byte, is_last, lead_of, rest_behind, handed_with, IsWriting, IsNextWord, WriteStage, head_of, write_at, StageWritesWord, EndsWord, is_ended, write_over, write_end, Execute, Write, Writing, finished, Opens, Closes, after_next, gone_or_over, is_end, byte_taken, without_byte, fifo_without, PutsByte, IsWriteStep, Fdc}
 use Rattle.fdc_stages.specs.declared.writing.WriteStage.TheVariants as stages
 use Rattle.fdc_stages.specs.declared.writing.WriteWord.{WriteWord}
-use Rattle.fdc_phases.specs.Phases.{head_of, write_at}
-use Rattle.fdc_phases.specs.Writing.{StageWritesWord, EndsWord, is_ended, write_over, write_end}
 use Rattle.fdc_phases.specs.declared.phases.End.{End}
-use Rattle.fdc_phases.specs.declared.phases.Phase.TheVariants.{Execute}
-use Rattle.fdc_phases.specs.declared.phases.Task.TheVariants.{Write}
-use Rattle.fdc_phases.specs.declared.transfers.Writing.{Writing}
-use Rattle.fdc_core.specs.State.{finished}
-use Rattle.fdc_core.specs.Times.{Opens, Closes}
-use Rattle.fdc_core.specs.Writing.{after_next, gone_or_over, is_end, byte_taken, without_byte, fifo_without, PutsByte, IsWriteStep}
-use Rattle.fdc_core.specs.declared.controller.Fdc.{Fdc}
 use Rattle.fdc_core.proofs.Laid.{WritesOne}
 use Rattle.fdc_core.proofs.Words.{wrote_time}
 
 open_due : (stage : WriteStage) → is_open stage ≡ true → is_due stage ≡ true
-open_due (stages.Search searching) is = absurd (false≢true is)
-open_due (stages.Gap left) is = absurd (false≢true is)
 open_due (stages.Window now) is = refl
+open_due _ is = absurd (false≢true is)
 
 open_opened : (stage : WriteStage) → is_open stage ≡ true → opens stage ≡ false
-open_opened (stages.Search searching) is = refl
 open_opened (stages.Gap zero) is = absurd (false≢true is)
-open_opened (stages.Gap (suc left)) is = refl
-open_opened (stages.Window now) is = refl
+open_opened _ is = refl
 
 -- the stage gave this word, and is another one after it
 pub record PutsOne (old : WriteStage) (byte word : ℕ) (last : Bool) (new : WriteStage) : Type 0 where

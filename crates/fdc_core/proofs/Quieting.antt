@@ -1,35 +1,11 @@
 -- A search hears the words ahead, in which it meets nothing.
 use Rattle.std.proofs.Common.{◌≡◌, ◌≤◌, ◌<◌, ◌+◌, ◌*◌, ℕ, Bool, true, false, List, [], ◌∷◌, ◌++◌, length, take, get_or, Option, None, Some, is_some, refl, sym, ap, subst, ◌∙◌, inl, inr, arith, length-append}
-use Rattle.std.proofs.lemmas.List.{append-nil, append_assoc, get_or_append_left, take_more}
+use Rattle.fdc_core.proofs.Common.{append-nil, append_assoc, get_or_append_left, take_more, false≢true, Spends, last_count, Chrn, AreAhead, DriveState, Becomes, passed, rate_of, word_under, ahead_same, IsDataMark, content_size, IsPlain, IsPart, with_word, address_stays, data_mark_stays, length-with_word, reads_mark, waits_early, waits_mark, Past, heard, HasNoClear, HasSearched, IsMiss, IsMissed, IsSearching, IsSearchingIn, SearchOutcome, HasHeard, HasRead, HearsByte, IsFailure, IsReading, ReadOutcome, mark_at, read_outcome, Ending, Done, NoMark, NoSector, NoField, BadCheck, Overrun, NoCount, Protected, Late, ReadHeard, ReadStage, Search, over_full, reading_told, told_most, rate_fits, seen_of, DataRate, SearchHears, SeesUnder, StageHears, HasBytesLeft, HasNoneWanted, HasSingle, IsUnmarked, MayBeMarked, MeetsNothing, past_with, let_pass}
 use Rattle.std.proofs.lemmas.Nat.{pow_pos}
-use Rattle.std.proofs.lemmas.Bool.{false≢true}
-use Rattle.flop_base.specs.Counts.{Spends, last_count}
-use Rattle.flop_base.specs.declared.key.Chrn.{Chrn}
-use Rattle.drive_model.specs.Ahead.{AreAhead}
-use Rattle.drive_model.specs.Drive.{DriveState, Becomes, passed, rate_of, word_under}
-use Rattle.drive_model.proofs.Passing.{ahead_same}
-use Rattle.track_model.specs.Fields.{IsAddressAt, IsDataMark, content_size}
-use Rattle.track_model.specs.Sectors.{IsPlain}
-use Rattle.track_separator.specs.Parts.{IsPart, with_word}
-use Rattle.track_separator.proofs.Lawful.{address_stays, data_mark_stays, length-with_word, reads_mark, waits_early, waits_mark}
-use Rattle.fdc_stages.specs.History.{Past, heard}
-use Rattle.fdc_stages.specs.Searches.{HasNoClear, HasSearched, IsMiss, IsMissed, IsSearching, IsSearchingIn, SearchOutcome, Wants}
 use Rattle.fdc_stages.specs.Searches as searched
-use Rattle.fdc_stages.specs.Readings.{HasHeard, HasRead, HearsByte, IsFailure, IsReading, ReadOutcome, mark_at, read_outcome}
 use Rattle.fdc_stages.specs.Readings as given
-use Rattle.fdc_stages.specs.declared.ending.Ending.{Ending}
-use Rattle.fdc_stages.specs.declared.ending.Ending.TheVariants.{Done, NoMark, NoSector, NoField, BadCheck, Overrun, NoCount, Protected, Late}
-use Rattle.fdc_stages.specs.declared.reading.ReadHeard.{ReadHeard}
 use Rattle.fdc_stages.specs.declared.reading.ReadHeard.TheVariants as answers
-use Rattle.fdc_stages.specs.declared.reading.ReadStage.{ReadStage}
 use Rattle.fdc_stages.specs.declared.reading.ReadStage.TheVariants as stages
-use Rattle.fdc_stages.specs.declared.searching.Search.{Search}
-use Rattle.fdc_stages.proofs.Lawful.{over_full, reading_told, told_most}
-use Rattle.fdc_phases.specs.Rates.{rate_fits, seen_of}
-use Rattle.fdc_phases.specs.declared.rates.DataRate.{DataRate}
-use Rattle.fdc_core.specs.Listening.{SearchHears, SeesUnder, StageHears}
-use Rattle.fdc_core.specs.Quiet.{HasBytesLeft, HasMostLeft, HasNoneWanted, HasSingle, IsUnmarked, MarksBy, MayBeMarked, MeetsBy, MeetsNothing, past_with}
-use Rattle.fdc_core.specs.Steps.{let_pass}
 use Rattle.fdc_core.proofs.AddressHeard.{same_words}
 
 -- ---- the words
@@ -126,13 +102,7 @@ bytes_left count stage next was past key told at =
 pub missing : (past : Past) (wanted : Option Chrn) (ending : Ending) → IsMiss ending → IsMissed past wanted ending → past.seen ≡ []
 missing past wanted NoMark well is = is.0.is.nothing
 missing past wanted NoSector well is = is.0.is.nothing
-missing past wanted NoField well is = absurd well
-missing past wanted (Done deleted) well is = absurd well
-missing past wanted BadCheck well is = absurd well
-missing past wanted Overrun well is = absurd well
-missing past wanted NoCount well is = absurd well
-missing past wanted Protected well is = absurd well
-missing past wanted Late well is = absurd well
+missing past wanted _ well is = absurd well
 
 -- a word that a READ ID hears, in which nothing is met
 module _ (past : Past) (word : ℕ) (search : Search) (none : HasNoneWanted None (with_word past.seen word)) (was : IsSearching past None search) where
@@ -166,8 +136,7 @@ plain_unmarked past key (stages.Wait separator) was plain single p address =
     let same : q ≡ p = single q p waiting.address address in
     subst (λ p. (16 * length past.seen ≤ p + 160 + 1022) × ((k : ℕ) (deleted : Bool) → IsDataMark past.seen p k deleted → ⊥)) same
     (waits_early separator past.seen q (content_size key.n) waiting.waits, waits_mark separator past.seen q (content_size key.n) waiting.waits)
-plain_unmarked past key (stages.Content separator deleted) was plain single p address = absurd (some_none was.1)
-plain_unmarked past key (stages.Over deleted good) was plain single p address = absurd (some_none was.1)
+plain_unmarked past key _ was plain single p address = absurd (some_none was.1)
 
 -- a word that a READ DATA hears before its data mark has come
 module _ (past : Past) (key : Chrn) (word : ℕ) (stage : ReadStage) (unmarked : MayBeMarked key (with_word past.seen word)) (was : IsUnmarked past key stage) where
@@ -175,23 +144,21 @@ module _ (past : Past) (key : Chrn) (word : ℕ) (stage : ReadStage) (unmarked :
   later = heard false word past
 
   goes_on : (next : ReadStage) → IsReading later key [] next → mark_at next ≡ None
-  goes_on (stages.Search next) reads = refl
-  goes_on (stages.Wait separator) reads = refl
   goes_on (stages.Content separator deleted) (p, q, taken, at) =
       absurd ((unmarked p at.address).1 q deleted (reads_mark separator later.seen p q deleted (content_size key.n) taken at.reads).mark)
   goes_on (stages.Over deleted good) reads =
       let full : 0 ≡ content_size key.n = over_full later key [] deleted good reads in
       let some = pow_pos key.n in
       absurd (omega (arith, full, some))
+  goes_on _ reads = refl
 
   gives_none : (value : ℕ) (next : ReadStage) → IsReading later key (value ∷ []) next → ⊥
-  gives_none value (stages.Search next) reads = one_none value reads.1
-  gives_none value (stages.Wait separator) reads = one_none value reads.1
   gives_none value (stages.Content separator deleted) (p, q, taken, at) =
       (unmarked p at.address).1 q deleted (reads_mark separator later.seen p q deleted (content_size key.n) taken at.reads).mark
   gives_none value (stages.Over deleted good) reads =
       let full : 1 ≡ content_size key.n = over_full later key (value ∷ []) deleted good reads in
       omega (arith, full)
+  gives_none value _ reads = one_none value reads.1
 
   fails_none : (ending : Ending) → HasRead later key [] ending → IsFailure ending → ⊥
   fails_none NoMark read fails = some_seen past.seen word read.cause.0.is.nothing
@@ -226,9 +193,6 @@ pub record HasNoFaults (drive : DriveState) : Type 0 where
 pub record PassesFaultless (before after : DriveState) : Type 0 where
   pub calm : HasNoFaults after
   pub same : after.faults ≡ before.faults
-
-some_zero : (rest : ℕ) → rest ≡ 0 → Some rest ≡ Some 0
-some_zero rest is = ap Some is
 
 module _ (before after : DriveState) (passes : Becomes (let_pass before) before after) (calm : HasNoFaults before) where
   pub passes_calm : PassesFaultless before after

@@ -1,43 +1,11 @@
 -- What a device step leaves as it was, and DRQ in execution.
-use Rattle.std.proofs.Common.{◌≡◌, ℕ, Bool, true, false, not, ◌&&◌, if◌then◌else◌, ◌==◌, [], ◌∷◌, length, Option, None, Some, refl, sym, subst, arith, length-append, length-drop, inl, inr, ◌+◌}
-use Rattle.fdc_commands.specs.Seeking.{with_polls}
-use Rattle.fdc_stages.specs.declared.ending.Ending.{Ending}
-use Rattle.fdc_stages.specs.declared.ending.Ending.TheVariants.{Done, Overrun, Late}
-use Rattle.fdc_stages.specs.Readings.{ReadOutcome}
+use Rattle.std.proofs.Common.{◌≡◌, ℕ, Bool, true, false, not, ◌&&◌, if◌then◌else◌, ◌==◌, [], ◌∷◌, length, Option, Some, refl, sym, subst, arith, length-append, length-drop, inl, inr, ◌+◌}
+use Rattle.fdc_core.proofs.Common.{with_polls, Ending, Done, Overrun, Late, ReadOutcome, SearchOutcome, Chrn, key_after, no_key, gone_on, phase_asks, ending_of, is_listening, key_as_sent, write_at, format_at, after_searched, after_heard, over_or_on, gone_on_reading, at_stage, pushed, is_full, finished, is_held, DriveState, at_index, FormatDoes, after_laid, Hears, StepsOn, Stays, Flows, FlowsIn, MovesTask, MovesIn, MovesDrive, polled, TaskSteps, TaskStepsNowhere, WordTime, Saw, KeptOut, Wrote, Stopped, WriteDoes, after_next, without_byte, Execution, Phase, Execute, Formatting, Writing, needs_byte, FormatNext, WriteNext, Feeds, false≢true, Fdc, Reading, Task, ReadId, Read, Write, Format}
 use Rattle.fdc_stages.specs.Readings as heard
-use Rattle.fdc_stages.specs.Searches.{SearchOutcome}
 use Rattle.fdc_stages.specs.Searches as searched
-use Rattle.flop_base.specs.declared.key.Chrn.{Chrn}
-use Rattle.fdc_phases.specs.Answers.{key_after, no_key}
-use Rattle.fdc_core.specs.Dma.{gone_on}
-use Rattle.fdc_phases.specs.Dma.{phase_asks}
-use Rattle.fdc_phases.specs.Phases.{ending_of, is_listening, key_as_sent, write_at, format_at}
-use Rattle.fdc_core.specs.Reading.{after_searched, after_heard, over_or_on, gone_on_reading, at_stage, pushed, is_full}
-use Rattle.fdc_core.specs.State.{finished, is_held}
-use Rattle.drive_model.specs.Drive.{DriveState, at_index}
-use Rattle.fdc_core.specs.Formatting.{FormatDoes, after_laid}
-use Rattle.fdc_core.specs.Listening.{Hears, StepsOn}
-use Rattle.fdc_core.specs.Steps.{Stays, Flows, FlowsIn, MovesTask, MovesIn, MovesDrive, polled}
-use Rattle.fdc_core.specs.Tasks.{TaskSteps, TaskStepsNowhere}
-use Rattle.fdc_core.specs.Times.{WordTime, Saw, KeptOut, Wrote, Stopped}
-use Rattle.fdc_core.specs.Writing.{WriteDoes, after_next, without_byte}
-use Rattle.fdc_phases.specs.declared.phases.Execution.{Execution}
-use Rattle.fdc_phases.specs.declared.phases.Phase.{Phase}
-use Rattle.fdc_phases.specs.declared.phases.Phase.TheVariants.{Execute}
-use Rattle.fdc_phases.specs.declared.transfers.Formatting.{Formatting}
-use Rattle.fdc_phases.specs.declared.transfers.Writing.{Writing}
-use Rattle.fdc_stages.specs.Writings.{needs_byte}
-use Rattle.fdc_stages.specs.declared.formatting.FormatNext.{FormatNext}
 use Rattle.fdc_stages.specs.declared.formatting.FormatNext.TheVariants as format_next
-use Rattle.fdc_stages.specs.declared.writing.WriteNext.{WriteNext}
 use Rattle.fdc_stages.specs.declared.writing.WriteNext.TheVariants as write_next
-use Rattle.fdc_core.specs.Waiting.{Feeds}
 use Rattle.fdc_core.proofs.Feeding.{step_feeds}
-use Rattle.std.proofs.lemmas.Bool.{false≢true}
-use Rattle.fdc_core.specs.declared.controller.Fdc.{Fdc}
-use Rattle.fdc_phases.specs.declared.transfers.Reading.{Reading}
-use Rattle.fdc_phases.specs.declared.phases.Task.{Task}
-use Rattle.fdc_phases.specs.declared.phases.Task.TheVariants.{ReadId, Read, Write, Format}
 
 -- both: what stays, and DRQ by the FIFO's rule
 pub record Keeps (old new : Fdc) : Type 0 where
@@ -68,9 +36,8 @@ searched_keeps head_drive steps old (searched.Met key separator) = finishes (Don
 searched_keeps head_drive steps old (searched.Missed ending) = finishes ending head_drive no_key old old (same_stays old)
 
 over_keeps : (ending : Option Ending) (empty : Bool) (head_drive steps : ℕ) (reading : Reading) (old mid : Fdc) → mid.asking ≡ old.asking → Stays old mid → Keeps old (over_or_on ending empty head_drive steps reading mid)
-over_keeps None empty head_drive steps reading old mid same was = goes head_drive steps (Read reading) old mid same was
 over_keeps (Some ending) true head_drive steps reading old mid same was = finishes ending head_drive (key_after ending reading.wanted.key reading.last_sector) old mid was
-over_keeps (Some ending) false head_drive steps reading old mid same was = goes head_drive steps (Read reading) old mid same was
+over_keeps _ _ head_drive steps reading old mid same was = goes head_drive steps (Read reading) old mid same was
 
 on_keeps : (head_drive steps : ℕ) (reading : Reading) (old mid : Fdc) → mid.asking ≡ old.asking → Stays old mid → Keeps old (gone_on_reading head_drive steps reading mid)
 on_keeps head_drive steps reading old mid same was = over_keeps (ending_of reading) (length mid.fifo.bytes == 0) head_drive steps reading old mid same was
@@ -90,8 +57,7 @@ heard_keeps head_drive steps reading old (heard.Ended ending) = finishes ending 
 hears_keeps : (index : Bool) (word head_drive steps : ℕ) (task : Task) (old new : Fdc) → is_listening task ≡ true → Hears head_drive steps task index word old new → Keeps old new
 hears_keeps index word head_drive steps (ReadId search) old new listens (after, hears, is) = subst (λ fdc. Keeps old fdc) (sym is) (searched_keeps head_drive steps old after)
 hears_keeps index word head_drive steps (Read reading) old new listens (after, hears, is) = subst (λ fdc. Keeps old fdc) (sym is) (heard_keeps head_drive steps reading old after)
-hears_keeps index word head_drive steps (Write writing) old new listens hears = absurd (false≢true listens)
-hears_keeps index word head_drive steps (Format formatting) old new listens hears = absurd (false≢true listens)
+hears_keeps index word head_drive steps _ old new listens hears = absurd (false≢true listens)
 
 stop_keeps : (ending : Ending) (head_drive : ℕ) (key : Chrn) (old new : Fdc) → new ≡ finished ending head_drive key old → Keeps old new
 stop_keeps ending head_drive key old new is = subst (λ fdc. Keeps old fdc) (sym is) (finishes ending head_drive key old old (same_stays old))
@@ -126,11 +92,10 @@ write_keeps (Wrote opened closed index word) head_drive steps writing old before
 write_keeps Stopped head_drive steps writing old before new is = stop_keeps is.ending head_drive writing.wanted.key old new is.after_is
 
 format_keeps : (time : WordTime) (head_drive steps : ℕ) (formatting : Formatting) (old : Fdc) (before : DriveState) (new : Fdc) → FormatDoes time head_drive steps formatting old before new → Keeps old new
-format_keeps (Saw index word) head_drive steps formatting old before new (due, is) = laid_keeps head_drive (steps + 1) formatting is.next old old new refl (same_stays old) is.after_is
-format_keeps (KeptOut index word) head_drive steps formatting old before new (due, is) = laid_keeps head_drive (steps + 1) formatting is.next old old new refl (same_stays old) is.after_is
 format_keeps (Wrote opened closed index word) head_drive steps formatting old before new is =
     laid_keeps head_drive (steps + 1) formatting is.next old (without_byte is.needs old) new (without_asking is.needs old) (without_stays is.needs old) is.after_is
 format_keeps Stopped head_drive steps formatting old before new is = stop_keeps is.ending head_drive no_key old new is.after_is
+format_keeps _ head_drive steps formatting old before new (due, is) = laid_keeps head_drive (steps + 1) formatting is.next old old new refl (same_stays old) is.after_is
 
 task_keeps : (task : Task) (head_drive steps : ℕ) (old : Fdc) (before after : DriveState) (new : Fdc) → TaskSteps task head_drive steps old before after new → Keeps old new
 task_keeps (ReadId search) head_drive steps old before after new is = listen_keeps (at_index before) is.word head_drive steps (ReadId search) old new refl is.does
@@ -147,10 +112,9 @@ nowhere_keeps (Format formatting) head_drive steps old new (inl (last, is)) = st
 nowhere_keeps (Format formatting) head_drive steps old new (inr (few, (next, hears, is))) = laid_keeps head_drive (steps + 1) formatting next old old new refl (same_stays old) is
 
 task_moves : (task : Task) (head_drive steps : ℕ) (old : Fdc) (before after : DriveState) (new : Fdc) → TaskSteps task head_drive steps old before after new → MovesTask (is_listening task) before after
-task_moves (ReadId search) head_drive steps old before after new is = is.passes
-task_moves (Read reading) head_drive steps old before after new is = is.passes
 task_moves (Write writing) head_drive steps old before after new is = tt
 task_moves (Format formatting) head_drive steps old before after new is = tt
+task_moves _ head_drive steps old before after new is = is.passes
 
 flows_in : (phase : Phase) (execution : Execution) (old new : Fdc) → phase ≡ Execute execution → Keeps old new → FlowsIn phase old.asking new
 flows_in phase execution old new is keeps = subst (λ p. FlowsIn p old.asking new) (sym is) keeps.flows

@@ -1,22 +1,12 @@
 -- What the word makes of a search or of a reading at which counting stops.
-use Rattle.std.proofs.Common.{◌≡◌, ◌≤◌, ◌<◌, ◌+◌, ℕ, Bool, true, false, List, [], ◌∷◌, ◌++◌, length, take, get_or, Option, None, Some, refl, sym, ap, subst, ◌∙◌, arith}
-use Rattle.std.proofs.lemmas.Bool.{false≢true}
-use Rattle.std.proofs.lemmas.List.{append_assoc, take_more}
-use Rattle.flop_base.specs.declared.key.Chrn.{Chrn}
-use Rattle.track_model.specs.Fields.{content_size}
-use Rattle.track_separator.specs.Parts.{with_word}
-use Rattle.fdc_stages.specs.History.{Past, heard}
-use Rattle.fdc_stages.specs.Searches.{HasSearched, IsSearching, MissesWell, search_outcome}
-use Rattle.fdc_stages.specs.Readings.{FailsWell, HasHeard, HearsByte, IsContent, IsReading, IsWhole, KeepsMark, ReadOutcome, mark_at, read_outcome}
+use Rattle.std.proofs.Common.{◌≡◌, ◌<◌, ◌+◌, ℕ, Bool, true, false, List, [], ◌∷◌, ◌++◌, length, take, get_or, Option, None, refl, sym, ap, subst, ◌∙◌, arith}
+use Rattle.fdc_core.proofs.Common.{false≢true, append_assoc, take_more, Chrn, with_word, Past, heard, HasSearched, IsSearching, MissesWell, search_outcome, FailsWell, HasHeard, IsReading, KeepsMark, ReadOutcome, mark_at, read_outcome, ReadHeard, ReadStage, Search, HasMostLeft, HasNoneWanted, MarksBy, MayBeMarked, MeetsBy, past_with}
+use Rattle.fdc_stages.specs.Readings.{IsWhole}
 use Rattle.fdc_stages.specs.Readings as given
-use Rattle.fdc_stages.specs.declared.reading.ReadHeard.{ReadHeard}
 use Rattle.fdc_stages.specs.declared.reading.ReadHeard.TheVariants as answers
-use Rattle.fdc_stages.specs.declared.reading.ReadStage.{ReadStage}
-use Rattle.fdc_stages.specs.declared.searching.Search.{Search}
 use Rattle.fdc_stages.specs.declared.searching.Searched.{Searched}
 use Rattle.fdc_stages.specs.declared.searching.Searched.TheVariants as searched
-use Rattle.fdc_core.specs.Quiet.{HasMostLeft, HasNoneWanted, IsUnmarked, MarksBy, MayBeMarked, MeetsBy, past_with}
-use Rattle.fdc_core.proofs.Quieting.{HasGivenBytes, HasHeardWords, HasReadWords, missing, reads_on, some_none, some_seen}
+use Rattle.fdc_core.proofs.Quieting.{HasGivenBytes, HasHeardWords, HasReadWords, missing, reads_on, some_seen}
 
 with_next : (seen words : List ℕ) (i word : ℕ) → i < length words → word ≡ get_or words i 0 → with_word (seen ++ take i words) word ≡ seen ++ take (i + 1) words
 with_next seen words i word below is =
@@ -42,18 +32,15 @@ meets_by wanted words i word search mid next answer below is was hears well othe
 
 abbrev goes_on : ReadOutcome → Bool
 goes_on (given.On stage) = true
-goes_on (given.Byte stage value) = false
-goes_on (given.Ended ending) = false
+goes_on _ = false
 
 abbrev mark_behind : ReadOutcome → Option Bool
 mark_behind (given.On stage) = mark_at stage
-mark_behind (given.Byte stage value) = None
-mark_behind (given.Ended ending) = None
+mark_behind _ = None
 
 unmarked_on : (next after : ReadStage) (answer : ReadHeard) → read_outcome next answer ≡ given.On after → mark_at after ≡ None → (answer ≡ answers.On → mark_at next ≡ None → ⊥) → ⊥
 unmarked_on next after answers.On on none other = other refl (ap mark_behind on ∙ none)
-unmarked_on next after (answers.Byte value) on none other = false≢true (ap goes_on on)
-unmarked_on next after (answers.Ended ending) on none other = false≢true (ap goes_on on)
+unmarked_on next after _ on none other = false≢true (ap goes_on on)
 
 -- where one stops, its data mark has come, or can't come any more
 pub marks_by : (key : Chrn) (words : List ℕ) (i word : ℕ) (stage mid next : ReadStage) (answer : ReadHeard) → i < length words → word ≡ get_or words i 0 → HasReadWords key (take i words) stage mid

@@ -1,29 +1,12 @@
 -- The bytes of a content in many device steps at once.
 use Rattle.std.proofs.Common.{◌≡◌, ◌≤◌, ◌<◌, ◌+◌, ℕ, suc, Bool, true, false, if◌then◌else◌, ◌==◌, List, [], ◌∷◌, ◌++◌, append_assoc, length, length-append, length-take-le, take, get_or, refl, sym, subst, ap, ◌∙◌, inl, inr, arith}
-use Rattle.std.proofs.lemmas.Bool.{false≢true, ne_eqb}
-use Rattle.std.proofs.lemmas.List.{append-nil, take_more}
-use Rattle.drive_model.specs.Drive.{DriveState, Becomes, at_index, rate_of, word_under}
+use Rattle.fdc_core.proofs.Common.{false≢true, ne_eqb, append-nil, take_more, DriveState, Becomes, at_index, rate_of, word_under, Fifo, room_of, wants, Overrun, ReadStage, IsContent, HearsByte, Execute, Read, Reading, head_of, DataRate, rate_fits, seen_of, with_bytes, TakesByte, TakesBytes, HasSpace, HasRoom, TakesMany, IsQuiet, Works, StepsOn, at_stage, gone_on_reading, pushed, is_full, finished, let_pass, Fdc}
 use Rattle.drive_model.specs.Ahead.{LetsPass, AreAhead}
-use Rattle.fdc_registers.specs.Fifo.{Fifo, room_of, wants}
-use Rattle.fdc_stages.specs.declared.ending.Ending.TheVariants.{Overrun}
-use Rattle.fdc_stages.specs.declared.reading.ReadStage.{ReadStage}
 use Rattle.fdc_stages.specs.declared.reading.ReadStage.TheVariants as stages
-use Rattle.fdc_stages.specs.Readings.{IsContent, HearsByte, HearsBytes}
+use Rattle.fdc_stages.specs.Readings.{HearsBytes}
 use Rattle.fdc_stages.specs.Readings as given
 use Rattle.fdc_stages.proofs.Bytes.{hears_none, hears_more}
-use Rattle.fdc_phases.specs.declared.phases.Phase.TheVariants.{Execute}
-use Rattle.fdc_phases.specs.declared.phases.Task.TheVariants.{Read}
-use Rattle.fdc_phases.specs.declared.transfers.Reading.{Reading}
-use Rattle.fdc_phases.specs.Phases.{head_of}
-use Rattle.fdc_phases.specs.declared.rates.DataRate.{DataRate}
-use Rattle.fdc_phases.specs.Rates.{rate_fits, seen_of}
-use Rattle.fdc_core.specs.Contents.{with_bytes, TakesByte, TakesBytes, HasSpace, HasRoom, TakesMany}
-use Rattle.fdc_core.specs.Courses.{IsQuiet, Works, Courses}
-use Rattle.fdc_core.specs.Listening.{StepsOn}
-use Rattle.fdc_core.specs.Reading.{at_stage, gone_on_reading, pushed, is_full}
-use Rattle.fdc_core.specs.State.{finished}
-use Rattle.fdc_core.specs.Steps.{let_pass}
-use Rattle.fdc_core.specs.declared.controller.Fdc.{Fdc}
+use Rattle.fdc_core.specs.Courses.{Courses}
 use Rattle.fdc_core.proofs.Following.{at_reading}
 use Rattle.fdc_core.proofs.Coursing.{works_on, ahead_first, ahead_behind, passes_calmly}
 
@@ -90,13 +73,11 @@ content_at head_drive reading old steps stage fifo = at_reading head_drive steps
 
 -- a step that gives no byte to the FIFO
 pub content_goes_on : (head_drive steps : ℕ) (reading : Reading) (next : ReadStage) (old : Fdc) → IsContent next → old.asking ≡ false → wants true false false old.fifo ≡ false → at_reading head_drive steps (at_stage reading next) old ≡ gone_on_reading head_drive steps (at_stage reading next) old
-content_goes_on head_drive steps reading (stages.Search search) old is down low = absurd is
-content_goes_on head_drive steps reading (stages.Wait separator) old is down low = absurd is
-content_goes_on head_drive steps reading (stages.Over deleted good) old is down low = absurd is
 content_goes_on head_drive steps reading (stages.Content separator deleted) old is down low =
     let new : Fdc = at_reading head_drive steps (at_stage reading (stages.Content separator deleted)) old in
     let keeps : old.asking ≡ wants true old.asking false old.fifo = down ∙ sym low ∙ ap (λ asking. wants true asking false old.fifo) (sym down) in
     ap (λ asking. record new { asking = asking }) keeps
+content_goes_on head_drive steps reading _ old is down low = absurd is
 
 -- by whether TC came and whether the FIFO is full
 pub by_space : (counted full : Bool) (head_drive steps value : ℕ) (reading : Reading) (next : ReadStage) (old : Fdc) → (counted ≡ false → full ≡ false) → IsContent next → old.asking ≡ false → wants true false false (with_bytes counted (value ∷ []) old.fifo) ≡ false

@@ -1,40 +1,16 @@
 -- What follows from what is known of a write and of a FORMAT.
 use Rattle.std.proofs.Common.{ℕ, Bool, List, refl, sym, subst}
-use Rattle.flop_base.specs.declared.key.Chrn.{Chrn}
-use Rattle.fdc_registers.specs.Fifo.{Fifo}
-use Rattle.fdc_stages.specs.History.{Past}
-use Rattle.fdc_stages.specs.declared.ending.Ending.{Ending}
-use Rattle.fdc_stages.specs.declared.ending.Ending.TheVariants.{Done, NoMark, NoSector, NoField, BadCheck, Overrun, NoCount, Protected, Late}
-use Rattle.fdc_stages.specs.Formats.{Numbers, HasFormatted, IsFormatting, LaysFirst}
-use Rattle.fdc_stages.specs.Writings.{IsWriting, HasWritten, WritesFirst}
-use Rattle.fdc_stages.specs.declared.writing.WriteStage.{WriteStage}
+use Rattle.fdc_core.proofs.Common.{Chrn, Fifo, Past, Ending, Done, Late, Numbers, HasFormatted, IsFormatting, LaysFirst, IsWriting, HasWritten, WritesFirst, WriteStage, FormatStage, stopped_written, stopped_formatted, first_written, whole_written, whole_laid, Sent, MayWrite, MayFormat, write_sent, MayWriteIn, MayWriteTask, MayFormatIn, MayFormatTask, Short, Long, Fdc, Phase, Command, Execute, Result, Task, Write, Format}
 use Rattle.fdc_stages.specs.declared.writing.WriteStage.TheVariants as stages
-use Rattle.fdc_stages.specs.declared.formatting.FormatStage.{FormatStage}
-use Rattle.fdc_stages.proofs.Ended.{stopped_written, stopped_formatted, first_written, whole_written, whole_laid}
-use Rattle.fdc_phases.specs.Heard.{Sent}
 use Rattle.fdc_core.specs.Tellings.{WritesWindow, WholeIfDone, WriteMeansIn, LaysTrack, LaidIfDone, FormatMeansIn}
-use Rattle.fdc_core.specs.Written.{MayWrite, MayFormat}
-use Rattle.fdc_phases.specs.Written.{write_sent, IsContent, MayWriteIn, MayWriteTask, MayFormatIn, MayFormatTask}
-use Rattle.fdc_phases.specs.declared.answers.Answer.TheVariants.{Short, Long}
-use Rattle.fdc_core.specs.declared.controller.Fdc.{Fdc}
-use Rattle.fdc_phases.specs.declared.phases.Phase.{Phase}
-use Rattle.fdc_phases.specs.declared.phases.Phase.TheVariants.{Command, Execute, Result}
-use Rattle.fdc_phases.specs.declared.phases.Task.{Task}
-use Rattle.fdc_phases.specs.declared.phases.Task.TheVariants.{ReadId, Read, Write, Format}
+use Rattle.fdc_phases.specs.Written.{IsContent}
 use Rattle.fdc_core.proofs.MayWrite.{content_of}
 
 -- ---- WRITE DATA and WRITE DELETED
 
 whole_if : (past : Past) (key : Chrn) (deleted : Bool) (handed : List ℕ) (ending : Ending) → HasWritten past key deleted handed ending → WholeIfDone past key deleted handed ending
 whole_if past key deleted handed (Done marked) is = whole_written past key deleted handed marked is
-whole_if past key deleted handed NoMark is = tt
-whole_if past key deleted handed NoSector is = tt
-whole_if past key deleted handed NoField is = tt
-whole_if past key deleted handed BadCheck is = tt
-whole_if past key deleted handed Overrun is = tt
-whole_if past key deleted handed NoCount is = tt
-whole_if past key deleted handed Protected is = tt
-whole_if past key deleted handed Late is = tt
+whole_if past key deleted handed _ is = tt
 
 means_in : (past : Past) (sent : Sent) (deleted : Bool) (phase : Phase) (asking : Bool) (fifo : Fifo) → MayWriteIn past sent deleted phase asking fifo → WriteMeansIn past sent deleted phase
 means_in past sent deleted Command asking fifo was = tt
@@ -63,19 +39,16 @@ first_at past key deleted handed stage was =
     first_written past key deleted handed (stopped_written Late stage (record past { steps = 65536 }) key deleted handed (same_writing past key deleted handed stage was) refl).begun
 
 window_task : (past : Past) (sent : Sent) (deleted : Bool) (head_drive steps : ℕ) (task : Task) (asking : Bool) (fifo : Fifo) → MayWriteTask past sent deleted head_drive steps task asking fifo → WritesWindow past sent deleted
-window_task past sent deleted head_drive steps (ReadId search) asking fifo was = absurd was
-window_task past sent deleted head_drive steps (Read reading) asking fifo was = absurd was
-window_task past sent deleted head_drive steps (Format formatting) asking fifo was = absurd was
 window_task past sent deleted head_drive steps (Write writing) asking fifo (asks, (handed, was)) =
     subst (λ s. WritesWindow past s deleted) was.sent_is (subst (λ d. WritesWindow past (write_sent head_drive writing) d) was.deleted_is
     (handed, subst (λ counted. IsContent counted past.taken handed) (sym was.counted_is) (content_of writing.counted past.taken handed fifo.bytes was.handed_is), first_at past writing.wanted.key writing.deleted handed writing.stage was.writes))
+window_task past sent deleted head_drive steps _ asking fifo was = absurd was
 
 window_in : (past : Past) (sent : Sent) (deleted : Bool) (phase : Phase) (asking : Bool) (fifo : Fifo) → MayWriteIn past sent deleted phase asking fifo → WritesWindow past sent deleted
-window_in past sent deleted Command asking fifo was = absurd was
 window_in past sent deleted (Execute execution) asking fifo was = window_task past sent deleted execution.head_drive execution.steps execution.task asking fifo was
-window_in past sent deleted (Result (Short next last)) asking fifo was = absurd was
 window_in past sent deleted (Result (Long ending results read)) asking fifo (down, are, (handed, was)) =
     (handed, was.content, first_written past sent.key deleted handed was.written.begun)
+window_in past sent deleted _ asking fifo was = absurd was
 
 pub writes_window : (past : Past) (sent : Sent) (deleted : Bool) (fdc : Fdc) → MayWrite past sent deleted fdc → WritesWindow past sent deleted
 writes_window past sent deleted fdc was = window_in past sent deleted fdc.phase fdc.asking fdc.fifo was
@@ -84,14 +57,7 @@ writes_window past sent deleted fdc was = window_in past sent deleted fdc.phase 
 
 laid_if : (past : Past) (numbers : Numbers) (handed : List ℕ) (ending : Ending) → HasFormatted past numbers handed ending → LaidIfDone past numbers handed ending
 laid_if past numbers handed (Done marked) is = whole_laid past numbers handed marked is
-laid_if past numbers handed NoMark is = tt
-laid_if past numbers handed NoSector is = tt
-laid_if past numbers handed NoField is = tt
-laid_if past numbers handed BadCheck is = tt
-laid_if past numbers handed Overrun is = tt
-laid_if past numbers handed NoCount is = tt
-laid_if past numbers handed Protected is = tt
-laid_if past numbers handed Late is = tt
+laid_if past numbers handed _ is = tt
 
 format_means_in : (past : Past) (sent : ℕ) (numbers : Numbers) (phase : Phase) (asking : Bool) (fifo : Fifo) → MayFormatIn past sent numbers phase asking fifo → FormatMeansIn past sent numbers phase
 format_means_in past sent numbers Command asking fifo was = tt
@@ -114,18 +80,15 @@ laid_at : (past : Past) (numbers : Numbers) (handed : List ℕ) (stage : FormatS
 laid_at past numbers handed stage was = (stopped_formatted Late stage (record past { steps = 65536 }) numbers handed was refl).begun.first
 
 track_task : (past : Past) (sent : ℕ) (numbers : Numbers) (head_drive steps : ℕ) (task : Task) (asking : Bool) (fifo : Fifo) → MayFormatTask past sent numbers head_drive steps task asking fifo → LaysTrack past numbers
-track_task past sent numbers head_drive steps (ReadId search) asking fifo was = absurd was
-track_task past sent numbers head_drive steps (Read reading) asking fifo was = absurd was
-track_task past sent numbers head_drive steps (Write writing) asking fifo was = absurd was
 track_task past sent numbers head_drive steps (Format formatting) asking fifo (asks, (handed, was)) =
     (handed, subst (λ counted. IsContent counted past.taken handed) (sym was.counted_is) (content_of formatting.counted past.taken handed fifo.bytes was.handed_is), laid_at past numbers handed formatting.stage was.formats)
+track_task past sent numbers head_drive steps _ asking fifo was = absurd was
 
 track_in : (past : Past) (sent : ℕ) (numbers : Numbers) (phase : Phase) (asking : Bool) (fifo : Fifo) → MayFormatIn past sent numbers phase asking fifo → LaysTrack past numbers
-track_in past sent numbers Command asking fifo was = absurd was
 track_in past sent numbers (Execute execution) asking fifo was = track_task past sent numbers execution.head_drive execution.steps execution.task asking fifo was
-track_in past sent numbers (Result (Short next last)) asking fifo was = absurd was
 track_in past sent numbers (Result (Long ending results read)) asking fifo (down, are, (handed, was)) =
     (handed, was.content, was.formatted.begun.first)
+track_in past sent numbers _ asking fifo was = absurd was
 
 pub lays_track : (past : Past) (sent : ℕ) (numbers : Numbers) (fdc : Fdc) → MayFormat past sent numbers fdc → LaysTrack past numbers
 lays_track past sent numbers fdc was = track_in past sent numbers fdc.phase fdc.asking fdc.fifo was

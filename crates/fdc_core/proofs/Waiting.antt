@@ -1,51 +1,16 @@
 -- No byte finds the FIFO full or is missing while the controller can wait.
-use Rattle.std.proofs.Common.{◌≡◌, ◌≤◌, ℕ, ◌+◌, ◌-◌, Bool, true, false, not, ◌&&◌, if◌then◌else◌, ◌==◌, List, [], ◌∷◌, length, Option, Some, None, refl, sym, ap, subst, ◌∙◌, arith, inl, inr, length-append, length-drop}
-use Rattle.std.proofs.lemmas.Bool.{false≢true, eqb-true}
-use Rattle.drive_model.specs.Drive.{DriveState, at_index, is_protected}
-use Rattle.fdc_registers.specs.Fifo.{room_of}
-use Rattle.fdc_commands.specs.Seeking.{with_polls}
-use Rattle.fdc_stages.specs.declared.ending.Ending.{Ending}
-use Rattle.fdc_stages.specs.declared.ending.Ending.TheVariants.{Done, NoMark, NoSector, NoField, BadCheck, Overrun, NoCount, Protected, Late}
-use Rattle.fdc_stages.specs.Readings.{ReadOutcome}
+use Rattle.std.proofs.Common.{◌≡◌, ◌≤◌, ℕ, ◌+◌, ◌-◌, Bool, true, false, not, ◌&&◌, if◌then◌else◌, ◌==◌, List, [], ◌∷◌, length, Option, Some, refl, sym, ap, subst, ◌∙◌, arith, inl, inr, length-append, length-drop}
+use Rattle.fdc_core.proofs.Common.{false≢true, eqb-true, DriveState, at_index, is_protected, room_of, with_polls, Ending, Done, Overrun, Late, ReadOutcome, Search, SearchOutcome, is_content, lead_from, lead_of, needs_byte, FormatNext, WriteNext, WriteStage, Chrn, key_after, no_key, FormatDoes, after_laid, StepsOn, FindsFull, ending_of, is_overrun, overran, after_searched, after_heard, over_or_on, gone_on_reading, at_stage, pushed, is_full, finished, is_held, polled, TaskSteps, WordTime, Saw, KeptOut, Wrote, Stopped, CanWait, Lasts, LastsIn, LastsOn, task_counted, phase_counted, TaskWaits, WriteDoes, Stops, after_next, oldest_of, without_byte, Fdc, Execution, Phase, Command, Execute, Result, Reading, Task, ReadId, Read, Write, Format, Formatting, Writing}
 use Rattle.fdc_stages.specs.Readings as heard
-use Rattle.fdc_stages.specs.declared.searching.Search.{Search}
-use Rattle.fdc_stages.specs.Searches.{SearchOutcome}
 use Rattle.fdc_stages.specs.Searches as searched
 use Rattle.fdc_stages.specs.declared.window.Part.{Part}
 use Rattle.fdc_stages.specs.declared.window.Part.TheVariants as parts
-use Rattle.fdc_stages.specs.Windows.{is_content, lead_from}
 use Rattle.fdc_stages.specs.Leads as format_leads
 use Rattle.fdc_stages.specs.Writings as writings
-use Rattle.fdc_stages.specs.Writings.{lead_of, needs_byte}
 use Rattle.fdc_stages.specs.Formats as formats
-use Rattle.fdc_stages.specs.declared.formatting.FormatNext.{FormatNext}
 use Rattle.fdc_stages.specs.declared.formatting.FormatNext.TheVariants as format_next
-use Rattle.fdc_stages.specs.declared.writing.WriteNext.{WriteNext}
 use Rattle.fdc_stages.specs.declared.writing.WriteNext.TheVariants as write_next
-use Rattle.fdc_stages.specs.declared.writing.WriteStage.{WriteStage}
 use Rattle.fdc_stages.specs.declared.writing.WriteStage.TheVariants as stages
-use Rattle.flop_base.specs.declared.key.Chrn.{Chrn}
-use Rattle.fdc_phases.specs.Answers.{key_after, no_key}
-use Rattle.fdc_core.specs.Formatting.{FormatDoes, after_laid}
-use Rattle.fdc_core.specs.Listening.{StepsOn, FindsFull}
-use Rattle.fdc_phases.specs.Phases.{ending_of, is_overrun, overran}
-use Rattle.fdc_core.specs.Reading.{after_searched, after_heard, over_or_on, gone_on_reading, at_stage, pushed, is_full}
-use Rattle.fdc_core.specs.State.{finished, is_held}
-use Rattle.fdc_core.specs.Steps.{polled}
-use Rattle.fdc_core.specs.Tasks.{TaskSteps}
-use Rattle.fdc_core.specs.Times.{WordTime, Saw, KeptOut, Wrote, Stopped}
-use Rattle.fdc_core.specs.Waiting.{CanWait, Lasts, LastsIn, LastsOn}
-use Rattle.fdc_phases.specs.Waiting.{task_counted, phase_counted, TaskWaits}
-use Rattle.fdc_core.specs.Writing.{WriteDoes, Stops, after_next, oldest_of, without_byte}
-use Rattle.fdc_core.specs.declared.controller.Fdc.{Fdc}
-use Rattle.fdc_phases.specs.declared.phases.Execution.{Execution}
-use Rattle.fdc_phases.specs.declared.phases.Phase.{Phase}
-use Rattle.fdc_phases.specs.declared.phases.Phase.TheVariants.{Command, Execute, Result}
-use Rattle.fdc_phases.specs.declared.transfers.Reading.{Reading}
-use Rattle.fdc_phases.specs.declared.phases.Task.{Task}
-use Rattle.fdc_phases.specs.declared.phases.Task.TheVariants.{ReadId, Read, Write, Format}
-use Rattle.fdc_phases.specs.declared.transfers.Formatting.{Formatting}
-use Rattle.fdc_phases.specs.declared.transfers.Writing.{Writing}
 use Rattle.fdc_core.proofs.Hearing.{hears_overruns}
 
 -- what a step leaves: a controller that can wait, and to which the terminal count has come if it had come before
@@ -59,9 +24,8 @@ over slack counted ending head_drive key old = record { waits = tt; uncounted = 
 -- ---- reads
 
 on_waits : (slack head_drive steps : ℕ) (ending : Option Ending) (empty : Bool) (reading : Reading) (old : Fdc) → (reading.counted ≡ false → slack + length old.fifo.bytes ≤ room_of old.fifo.on) → Leaves slack reading.counted (over_or_on ending empty head_drive steps reading old)
-on_waits slack head_drive steps None empty reading old waits = record { waits = waits; uncounted = λ is. is }
 on_waits slack head_drive steps (Some ending) true reading old waits = over slack reading.counted ending head_drive (key_after ending reading.wanted.key reading.last_sector) old
-on_waits slack head_drive steps (Some ending) false reading old waits = record { waits = waits; uncounted = λ is. is }
+on_waits slack head_drive steps _ _ reading old waits = record { waits = waits; uncounted = λ is. is }
 
 byte_waits : (slack head_drive steps value : ℕ) (counted full : Bool) (reading : Reading) (old : Fdc) → reading.counted ≡ counted → (counted ≡ false → slack + 1 + length old.fifo.bytes ≤ room_of old.fifo.on)
     → Leaves slack reading.counted (if counted then gone_on_reading head_drive steps reading old else (if full then finished Overrun head_drive reading.wanted.key old else gone_on_reading head_drive steps reading (pushed value old)))
@@ -104,17 +68,12 @@ read_lasts slack head_drive steps reading index word old new (inr (few, hears)) 
 -- ---- writes
 
 needed_now : (part : Part) → is_content part ≡ true → lead_from part ≡ 0
-needed_now (parts.Sync more) is = absurd (false≢true is)
-needed_now (parts.Marks more) is = absurd (false≢true is)
-needed_now parts.Mark is = absurd (false≢true is)
 needed_now (parts.Content more) is = refl
-needed_now parts.High is = absurd (false≢true is)
-needed_now parts.Low is = absurd (false≢true is)
+needed_now _ is = absurd (false≢true is)
 
 needs_now : (stage : WriteStage) → needs_byte stage ≡ true → lead_of stage ≡ 0
-needs_now (stages.Search search) is = absurd (false≢true is)
-needs_now (stages.Gap left) is = absurd (false≢true is)
 needs_now (stages.Window now) is = needed_now now.part is
+needs_now _ is = absurd (false≢true is)
 
 -- the bytes in the FIFO after a word, and the words before a byte is needed
 without_few : (needs counted : Bool) (bytes : List ℕ) (byte : ℕ) → counted ≡ false → (if needs then oldest_of counted bytes else Some 0) ≡ Some byte → needs ≡ true → 1 ≤ length bytes
@@ -129,37 +88,16 @@ module _ (slack head_drive steps : ℕ) (writing : Writing) where
   next_waits (write_next.Ended ending) mid lead waits leads = over slack writing.counted ending head_drive (key_after ending writing.wanted.key writing.last_sector) mid
 
 fails_clear : (ending : Ending) → writings.IsFailure ending → overran ending ≡ false
-fails_clear NoMark is = refl
-fails_clear NoSector is = refl
-fails_clear NoField is = refl
-fails_clear (Done deleted) is = refl
-fails_clear BadCheck is = refl
 fails_clear Overrun is = absurd is
-fails_clear NoCount is = refl
-fails_clear Protected is = refl
-fails_clear Late is = refl
+fails_clear _ is = refl
 
 ends_clear : (ending : Ending) → writings.IsEnd ending → overran ending ≡ false
-ends_clear NoMark is = refl
-ends_clear NoSector is = refl
-ends_clear NoField is = refl
-ends_clear (Done deleted) is = refl
-ends_clear BadCheck is = refl
 ends_clear Overrun is = absurd is
-ends_clear NoCount is = refl
-ends_clear Protected is = refl
-ends_clear Late is = refl
+ends_clear _ is = refl
 
 laid_ends_clear : (ending : Ending) → formats.IsEnd ending → overran ending ≡ false
-laid_ends_clear NoMark is = refl
-laid_ends_clear NoSector is = refl
-laid_ends_clear NoField is = refl
-laid_ends_clear (Done deleted) is = refl
-laid_ends_clear BadCheck is = refl
 laid_ends_clear Overrun is = absurd is
-laid_ends_clear NoCount is = refl
-laid_ends_clear Protected is = refl
-laid_ends_clear Late is = refl
+laid_ends_clear _ is = refl
 
 hears_clear : (next : WriteNext) (head_drive steps : ℕ) (writing : Writing) (mid : Fdc) → writings.FailsWell next → is_overrun (after_next head_drive steps writing next mid).phase ≡ false
 hears_clear (write_next.On stage) head_drive steps writing mid well = refl
@@ -190,18 +128,11 @@ none_left : (slack : ℕ) → (lead : ℕ) × (true ≡ true → lead ≡ 0) × 
 none_left slack (lead, zero_lead, room) = let empty = zero_lead refl in omega arith
 
 stops_clear : (slack steps : ℕ) (protects needs counted : Bool) (bytes : List ℕ) (ending : Ending) → Stops steps protects (if needs then oldest_of counted bytes else Some 0) ending → (counted ≡ false → (lead : ℕ) × (needs ≡ true → lead ≡ 0) × (slack + 1 ≤ lead + length bytes)) → overran ending ≡ false
-stops_clear slack steps protects needs counted bytes Late is waits = refl
-stops_clear slack steps protects needs counted bytes Protected is waits = refl
 stops_clear slack steps protects true false [] Overrun is waits = absurd (none_left slack (waits refl))
 stops_clear slack steps protects true true [] Overrun is waits = let none = is.1 in absurd (cc none)
 stops_clear slack steps protects true counted (first ∷ rest) Overrun is waits = let none = is.1 in absurd (cc none)
 stops_clear slack steps protects false counted bytes Overrun is waits = let none = is.1 in absurd (cc none)
-stops_clear slack steps protects needs counted bytes (Done deleted) is waits = refl
-stops_clear slack steps protects needs counted bytes NoMark is waits = refl
-stops_clear slack steps protects needs counted bytes NoSector is waits = refl
-stops_clear slack steps protects needs counted bytes NoField is waits = refl
-stops_clear slack steps protects needs counted bytes BadCheck is waits = refl
-stops_clear slack steps protects needs counted bytes NoCount is waits = refl
+stops_clear slack steps protects needs counted bytes _ is waits = refl
 
 write_lasts : (slack head_drive steps : ℕ) (writing : Writing) (old : Fdc) (before : DriveState) (new : Fdc) (time : WordTime) → WriteDoes time head_drive steps writing old before new → (writing.counted ≡ false → slack + 1 ≤ lead_of writing.stage + length old.fifo.bytes) → Leaves slack writing.counted new × (is_overrun new.phase ≡ false)
 write_lasts slack head_drive steps writing old before new (Saw index word) (due, is) waits = (

@@ -1,39 +1,10 @@
 -- Word times, put together from the calls on the drive.
-use Rattle.std.proofs.Common.{◌≡◌, ◌<◌, ℕ, zero, suc, ◌+◌, Bool, true, false, None, Some, refl, sym, ap, subst, ◌∙◌, inl}
-use Rattle.std.proofs.lemmas.Bool.{false≢true}
-use Rattle.drive_model.specs.Drive.{DriveState, Becomes, Reads, at_index, word_under, rate_of}
-use Rattle.drive_model.proofs.Passing.{becomes_at}
-use Rattle.fdc_stages.specs.declared.ending.Ending.{Ending}
-use Rattle.fdc_stages.specs.declared.ending.Ending.TheVariants.{Overrun}
+use Rattle.std.proofs.Common.{◌≡◌, ◌<◌, ℕ, zero, ◌+◌, Bool, true, false, None, Some, refl, sym, ap, subst, ◌∙◌, inl}
+use Rattle.fdc_core.proofs.Common.{false≢true, DriveState, Reads, at_index, word_under, rate_of, becomes_at, Ending, Overrun, Chrn, FormatPart, Due, HasLead, opens, is_due, needs_byte, WriteStage, no_key, is_format_ended, IsFormatTime, AwaitsIndex, LaysByte, SeesUnder, StepsOn, head_of, rate_fits, seen_of, finished, let_pass, IsListenStep, TaskSteps, ExecutionSteps, Saw, KeptOut, Wrote, Stopped, Opens, after_next, IsWriteTime, HearsAWord, PutsByte, byte_taken, without_byte, is_ended, Fdc, Execution, Execute, Task, DataRate, Formatting, Writing}
 use Rattle.flop_base.specs.declared.answers.Rate.{Rate}
-use Rattle.flop_base.specs.declared.key.Chrn.{Chrn}
 use Rattle.fdc_stages.specs.Formats as formats_of
-use Rattle.fdc_stages.specs.declared.formatting.FormatPart.{FormatPart}
-use Rattle.fdc_stages.specs.declared.formatting.FormatPart.TheVariants.{Await, Due, Lay, Barred}
-use Rattle.fdc_stages.specs.Leads.{HasLead}
-use Rattle.fdc_stages.specs.Writings.{opens, is_due, needs_byte}
-use Rattle.fdc_stages.specs.declared.writing.WriteStage.{WriteStage}
 use Rattle.fdc_stages.specs.declared.writing.WriteStage.TheVariants as stages
-use Rattle.fdc_phases.specs.Answers.{no_key}
 use Rattle.fdc_core.specs.Formatting as formats
-use Rattle.fdc_phases.specs.Formatting.{is_ended as is_format_ended}
-use Rattle.fdc_core.specs.Formatting.{IsFormatTime, AwaitsIndex, LaysByte}
-use Rattle.fdc_core.specs.Listening.{SeesUnder, StepsOn}
-use Rattle.fdc_phases.specs.Phases.{head_of}
-use Rattle.fdc_phases.specs.Rates.{rate_fits, seen_of}
-use Rattle.fdc_core.specs.State.{finished}
-use Rattle.fdc_core.specs.Steps.{let_pass}
-use Rattle.fdc_core.specs.Tasks.{IsListenStep, TaskSteps, ExecutionSteps}
-use Rattle.fdc_core.specs.Times.{Saw, KeptOut, Wrote, Stopped, Opens}
-use Rattle.fdc_core.specs.Writing.{after_next, IsWriteTime, HearsAWord, PutsByte, byte_taken, without_byte}
-use Rattle.fdc_phases.specs.Writing.{is_ended}
-use Rattle.fdc_core.specs.declared.controller.Fdc.{Fdc}
-use Rattle.fdc_phases.specs.declared.phases.Execution.{Execution}
-use Rattle.fdc_phases.specs.declared.phases.Phase.TheVariants.{Execute}
-use Rattle.fdc_phases.specs.declared.phases.Task.{Task}
-use Rattle.fdc_phases.specs.declared.rates.DataRate.{DataRate}
-use Rattle.fdc_phases.specs.declared.transfers.Formatting.{Formatting}
-use Rattle.fdc_phases.specs.declared.transfers.Writing.{Writing}
 
 -- ---- the word that is seen
 
@@ -61,10 +32,8 @@ steps_are old new before after execution is steps = subst (λ phase. ExecutionSt
 -- ---- a write
 
 pub opens_due : (stage : WriteStage) → opens stage ≡ true → is_due stage ≡ true
-opens_due (stages.Search search) is = absurd (false≢true is)
 opens_due (stages.Gap zero) is = refl
-opens_due (stages.Gap (suc left)) is = absurd (false≢true is)
-opens_due (stages.Window now) is = absurd (false≢true is)
+opens_due _ is = absurd (false≢true is)
 
 pub heard_time : (head_drive steps : ℕ) (writing : Writing) (old : Fdc) (before after : DriveState) (new : Fdc) → is_due writing.stage ≡ false → HearsAWord head_drive steps writing old before after new → IsWriteTime head_drive steps writing old before after new
 heard_time head_drive steps writing old before after new due is =
@@ -113,10 +82,8 @@ opens_index false before from is = ap at_index is
 -- ---- a FORMAT
 
 pub opens_laid : (part : FormatPart) → formats_of.is_first part ≡ true → formats_of.is_next part ≡ true
-opens_laid Await is = absurd (false≢true is)
 opens_laid Due is = refl
-opens_laid Lay is = absurd (false≢true is)
-opens_laid Barred is = absurd (false≢true is)
+opens_laid _ is = absurd (false≢true is)
 
 pub heard_index : (head_drive steps : ℕ) (formatting : Formatting) (old : Fdc) (before after : DriveState) (new : Fdc) → formats_of.is_due formatting.stage ≡ false → AwaitsIndex head_drive steps formatting old before after new → IsFormatTime head_drive steps formatting old before after new
 heard_index head_drive steps formatting old before after new due is =

@@ -1,36 +1,22 @@
 -- A device step of a command that writes, put together.
 use Rattle.std.proofs.Common.{◌≡◌, ℕ, Bool, true, false, not, ◌&&◌, if◌then◌else◌, refl, sym, subst}
-use Rattle.drive_model.specs.Drive.{DriveState}
-use Rattle.fdc_registers.specs.Fifo.{Fifo}
-use Rattle.fdc_commands.specs.Seeking.{with_polls}
-use Rattle.fdc_core.specs.State.{is_held}
-use Rattle.fdc_core.specs.Steps.{polled, seek_stepped}
-use Rattle.fdc_core.specs.Tasks.{TaskSteps}
-use Rattle.fdc_core.specs.Writes.{WritesTask, WritesIn, WritesOn, RestsWritten}
-use Rattle.fdc_core.specs.declared.controller.Fdc.{Fdc}
-use Rattle.fdc_phases.specs.declared.phases.Execution.{Execution}
-use Rattle.fdc_phases.specs.declared.phases.Phase.{Phase}
-use Rattle.fdc_phases.specs.declared.phases.Phase.TheVariants.{Command, Execute, Result}
-use Rattle.fdc_phases.specs.declared.phases.Task.{Task}
-use Rattle.fdc_phases.specs.declared.phases.Task.TheVariants.{ReadId, Read, Write, Format}
+use Rattle.fdc_core.proofs.Common.{DriveState, Fifo, with_polls, is_held, polled, seek_stepped, TaskSteps, WritesTask, WritesIn, WritesOn, RestsWritten, Fdc, Execution, Phase, Execute, Task, Write, Format}
 use Rattle.fdc_core.proofs.MayWrite.{writes_on, formats_on}
 
 task_writes : (task : Task) (head_drive steps : ℕ) (old : Fdc) (before after : DriveState) (new : Fdc) → TaskSteps task head_drive steps old before after new → WritesTask task head_drive steps old.asking old.fifo old before after new
-task_writes (ReadId search) head_drive steps old before after new is = tt
-task_writes (Read reading) head_drive steps old before after new is = tt
 task_writes (Write writing) head_drive steps old before after new is =
     record { step = is; writes = writes_on is.does.time head_drive steps writing old before new is.does.does }
 task_writes (Format formatting) head_drive steps old before after new is =
     record { step = is; formats = formats_on is.does.time head_drive steps formatting old before new is.does.does }
+task_writes _ head_drive steps old before after new is = tt
 
 pub executes_writes : (old new : Fdc) (before after : DriveState) (execution : Execution) → old.phase ≡ Execute execution → TaskSteps execution.task execution.head_drive execution.steps old before after new → WritesOn old old before after new
 executes_writes old new before after execution is steps =
     subst (λ phase. WritesIn phase old.asking old.fifo old before after new) (sym is) (task_writes execution.task execution.head_drive execution.steps old before after new steps)
 
 rests_in : (phase : Phase) → ((execution : Execution) → phase ≡ Execute execution → ⊥) → (asking : Bool) (fifo : Fifo) (polls new : Fdc) (before after : DriveState) → RestsWritten phase asking fifo new → WritesIn phase asking fifo polls before after new
-rests_in Command other asking fifo polls new before after rests = rests
-rests_in (Result answer) other asking fifo polls new before after rests = rests
 rests_in (Execute execution) other asking fifo polls new before after rests = absurd (other execution refl)
+rests_in _ other asking fifo polls new before after rests = rests
 
 pub rests_writes : (track0 : Bool) (old new : Fdc) (before after : DriveState) → new ≡ seek_stepped track0 old → ((execution : Execution) → old.phase ≡ Execute execution → ⊥) → WritesOn old old before after new
 rests_writes track0 old new before after is other =

@@ -1,23 +1,12 @@
 -- What the commands do, once their last byte came.
 use Rattle.std.specs.Prelude.{◌≡◌, ℕ, ◌+◌, ◌%◌, min, Bool, true, false, not, ◌==◌, [], ◌∷◌, ◌++◌, Option, Some, None, if◌then◌else◌, bit_and, slice_index}
-use Rattle.std.specs.Int.RustNames.{bit_or}
-use Rattle.flop_base.specs.Counts.{last_count}
+use Rattle.fdc_core.specs.Common.{bit_or, last_count, answer, kept, Accepted, More, Ready, Invalid, emptied, with_motion, seek_bits, sensed, after_sense, Outward, Toward, Short, Execute, Result, Task, IsReadingId, IsReadingData, WaitsAtFirst, IsWritingData, IsFormattingTrack}
 use Rattle.fdc_registers.specs.St3.{always_one, track_0, protected}
-use Rattle.fdc_commands.specs.Table.{answer, kept}
-use Rattle.fdc_commands.specs.declared.bytes.Accepted.{Accepted}
-use Rattle.fdc_commands.specs.declared.bytes.Accepted.TheVariants.{More, Ready, Invalid}
 use Rattle.fdc_commands.specs.declared.command.Command.{Command}
 use Rattle.fdc_commands.specs.declared.command.Command.TheVariants as command
-use Rattle.fdc_registers.specs.Fifo.{emptied}
-use Rattle.fdc_commands.specs.Seeking.{with_motion, seek_bits, sensed, after_sense}
-use Rattle.fdc_commands.specs.declared.motion.Motion.TheVariants.{Outward, Toward}
-use Rattle.fdc_phases.specs.declared.answers.Answer.TheVariants.{Short}
 use Rattle.fdc_core.specs.declared.controller.Fdc.{Fdc}
 use Rattle.fdc_core.specs.declared.controller.Lines.{Lines}
-use Rattle.fdc_phases.specs.declared.phases.Phase.TheVariants.{Execute, Result}
-use Rattle.fdc_phases.specs.declared.phases.Task.{Task}
 use Rattle.fdc_core.specs.Dma.{asked}
-use Rattle.fdc_phases.specs.Commands.{IsReadingId, IsReadingData, WaitsAtFirst, IsWritingData, IsFormattingTrack}
 
 -- the result phase of a command without execution
 abbrev pub answered : ℕ → Option ℕ → Fdc → Fdc

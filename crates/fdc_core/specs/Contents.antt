@@ -1,10 +1,6 @@
 -- The bytes of a content in many device steps at once.
 use Rattle.std.specs.Prelude.{◌≡◌, ◌≤◌, ℕ, ◌+◌, Bool, true, false, List, [], ◌∷◌, ◌++◌, length}
-use Rattle.drive_model.specs.Ahead.{LetsPass, AreAhead}
-use Rattle.drive_model.specs.Drive.{DriveState}
-use Rattle.fdc_registers.specs.Fifo.{Fifo, room_of, wants}
-use Rattle.fdc_stages.specs.declared.reading.ReadStage.{ReadStage}
-use Rattle.fdc_stages.specs.Readings.{HearsByte, HearsBytes}
+use Rattle.fdc_core.specs.Common.{LetsPass, AreAhead, DriveState, Fifo, room_of, wants, ReadStage, HearsByte, HearsBytes}
 
 -- the FIFO with more bytes at its end. After the terminal count they are dropped
 abbrev pub with_bytes : Bool → List ℕ → Fifo → Fifo

@@ -1,13 +1,6 @@
 -- Device steps as a whole, and many of them in a row.
 use Rattle.std.specs.Prelude.{◌≡◌, ◌==◌, ◌&&◌, ℕ, zero, suc, ◌+◌, ◌≤◌, Bool, true, false, not, is_some, List, length, if◌then◌else◌}
-use Rattle.drive_model.specs.Drive.{DriveState, at_index}
-use Rattle.drive_model.specs.Ahead.{LetsPass, AreAhead}
-use Rattle.fdc_phases.specs.Phases.{ending_of_phase, mark_of_phase}
-use Rattle.fdc_phases.specs.declared.phases.Phase.{Phase}
-use Rattle.fdc_phases.specs.declared.phases.Phase.TheVariants.{Execute}
-use Rattle.fdc_commands.specs.Seeking.{first_pending, is_seeking}
-use Rattle.fdc_stages.specs.declared.searching.Search.{Search}
-use Rattle.fdc_stages.specs.Searches.{HearsNothingIn}
+use Rattle.fdc_core.specs.Common.{DriveState, at_index, LetsPass, AreAhead, ending_of_phase, mark_of_phase, Phase, Execute, first_pending, is_seeking, Search, HearsNothingIn}
 use Rattle.fdc_core.specs.Listening.{Listens, ListensToNone}
 use Rattle.fdc_core.specs.State.{asks, interrupts, is_held}
 use Rattle.fdc_core.specs.Steps.{polled, let_pass, Rests, MovesDrive, Ends, Stays, Flows}

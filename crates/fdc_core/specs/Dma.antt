@@ -1,11 +1,7 @@
 -- The controller's side of the DMA channel.
 use Rattle.std.specs.Prelude.{ℕ, Bool, true, false, ◌==◌, [], ◌∷◌, ◌++◌, length, drop, get_or, if◌then◌else◌}
-use Rattle.fdc_registers.specs.Fifo.{Fifo, emptied, room_of}
-use Rattle.fdc_phases.specs.Phases.{is_reading, is_moving}
+use Rattle.fdc_core.specs.Common.{Fifo, emptied, room_of, is_reading, is_moving, Execute, Task, task_asks, phase_asks, phase_told}
 use Rattle.fdc_core.specs.declared.controller.Fdc.{Fdc}
-use Rattle.fdc_phases.specs.declared.phases.Phase.TheVariants.{Execute}
-use Rattle.fdc_phases.specs.declared.phases.Task.{Task}
-use Rattle.fdc_phases.specs.Dma.{task_asks, phase_asks, phase_told}
 
 -- the bytes of the command go to memory
 abbrev pub to_memory_of : Fdc → Bool

@@ -1,13 +1,8 @@
 -- A READ DATA that begins where the address field of its sector has just passed.
 use Rattle.std.specs.Prelude.{◌≡◌, ℕ, false, List, [], ◌∷◌, ◌/◌, ◌%◌, length, slice_index}
-use Rattle.flop_base.specs.declared.key.Chrn.{Chrn}
+use Rattle.fdc_core.specs.Common.{Chrn, address_bytes, Past, new_past, Sent, MayReadTask, Execute, Task}
 use Rattle.track_model.specs.Bytes.{last_bit, legal}
 use Rattle.track_model.specs.Crc.{crc}
-use Rattle.track_model.specs.Fields.{address_bytes}
-use Rattle.fdc_stages.specs.History.{Past, begun as new_past}
-use Rattle.fdc_phases.specs.Heard.{Sent, MayReadTask}
-use Rattle.fdc_phases.specs.declared.phases.Phase.TheVariants.{Execute}
-use Rattle.fdc_phases.specs.declared.phases.Task.{Task}
 use Rattle.fdc_core.specs.Commands.{begun}
 use Rattle.fdc_core.specs.declared.controller.Fdc.{Fdc}
 

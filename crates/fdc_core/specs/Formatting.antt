@@ -1,24 +1,15 @@
 -- FORMAT TRACK, word by word.
 use Rattle.std.specs.Prelude.{◌≡◌, ◌<◌, ℕ, ◌+◌, Bool, true, false, Option, Some, None}
-use Rattle.drive_model.specs.Drive.{DriveState, is_protected, at_index, Writes, InRange}
-use Rattle.fdc_registers.specs.Fifo.{wants}
-use Rattle.fdc_stages.specs.declared.ending.Ending.{Ending}
-use Rattle.fdc_stages.specs.Formats.{opens, is_due, Takes}
+use Rattle.fdc_core.specs.Common.{DriveState, is_protected, at_index, Writes, InRange, wants, Ending, opens, is_due, Takes, FormatNext, no_key, head_of, format_at, Format, Formatting, is_ended, StageHearsIndex, StageLaysWord}
 use Rattle.fdc_stages.specs.Leads.{HasLead}
 use Rattle.fdc_stages.specs.declared.formatting.FormatEnd.{FormatEnd}
-use Rattle.fdc_stages.specs.declared.formatting.FormatNext.{FormatNext}
 use Rattle.fdc_stages.specs.declared.formatting.FormatNext.TheVariants.{On, Ended}
 use Rattle.fdc_stages.specs.declared.formatting.FormatWord.{FormatWord}
-use Rattle.fdc_phases.specs.Answers.{no_key}
 use Rattle.fdc_core.specs.Dma.{gone_on}
-use Rattle.fdc_phases.specs.Phases.{head_of, format_at}
 use Rattle.fdc_core.specs.State.{finished}
 use Rattle.fdc_core.specs.Times.{WordTime, Saw, KeptOut, Wrote, Stopped, IsTime, IsHeardTime, Opens, Closes}
 use Rattle.fdc_core.specs.Writing.{byte_taken, without_byte, Stops}
 use Rattle.fdc_core.specs.declared.controller.Fdc.{Fdc}
-use Rattle.fdc_phases.specs.declared.phases.Task.TheVariants.{Format}
-use Rattle.fdc_phases.specs.declared.transfers.Formatting.{Formatting}
-use Rattle.fdc_phases.specs.Formatting.{is_ended, StageHearsIndex, StageLaysWord}
 
 -- a FORMAT after what a word gave
 abbrev pub after_laid : ℕ → ℕ → Formatting → FormatNext → Fdc → Fdc

@@ -1,8 +1,7 @@
 -- READ DATA and READ ID: what is known of a controller that executes them, or gives their results.
 use Rattle.std.specs.Prelude.{ℕ}
-use Rattle.fdc_stages.specs.History.{Past}
+use Rattle.fdc_core.specs.Common.{Past, MayReadIn, MayReadIdIn}
 use Rattle.fdc_core.specs.declared.controller.Fdc.{Fdc}
-use Rattle.fdc_phases.specs.Heard.{MayReadIn, MayReadIdIn}
 pub use Rattle.fdc_phases.specs.Heard.{Sent, gave, told_in}
 
 -- the controller executes a READ DATA of what was sent, or gives its results, and this is what it heard and gave

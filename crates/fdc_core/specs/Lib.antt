@@ -1,3 +1,4 @@
+pub mod Common
 pub mod State
 pub mod Heard
 pub mod Commands

@@ -1,29 +1,11 @@
 -- Device steps: the word that passes, and what is then known of a command that listens.
 use Rattle.std.specs.Prelude.{◌≡◌, ◌⊎◌, ◌<◌, ℕ, ◌+◌, Bool, true, false, None, List}
-use Rattle.drive_model.specs.Drive.{DriveState, Reads, rate_of}
-use Rattle.flop_base.specs.declared.key.Chrn.{Chrn}
-use Rattle.fdc_stages.specs.History.{Past, heard}
-use Rattle.fdc_stages.specs.Searches.{IsSearching, HasSearched, MissesWell}
-use Rattle.fdc_stages.specs.Readings.{IsReading, HasHeard, FailsWell, KeepsMark}
-use Rattle.fdc_stages.specs.declared.ending.Ending.TheVariants.{Late}
-use Rattle.fdc_stages.specs.Readings.{ReadOutcome}
+use Rattle.fdc_core.specs.Common.{DriveState, Reads, rate_of, Chrn, Past, heard, IsSearching, HasSearched, MissesWell, IsReading, HasHeard, FailsWell, KeepsMark, Late, ReadOutcome, ReadStage, Search, SearchOutcome, Sent, MayReadIn, MayReadIdIn, stepped, head_of, is_overrun, is_listening, key_as_sent, rate_fits, seen_of, Phase, Execute, Reading, Task, ReadId, Read, DataRate}
 use Rattle.fdc_stages.specs.Readings as given
-use Rattle.fdc_stages.specs.declared.reading.ReadStage.{ReadStage}
-use Rattle.fdc_stages.specs.declared.searching.Search.{Search}
-use Rattle.fdc_stages.specs.Searches.{SearchOutcome}
 use Rattle.fdc_core.specs.Heard.{MayRead, MayReadId}
-use Rattle.fdc_phases.specs.Heard.{Sent, MayReadIn, MayReadIdIn, stepped}
-use Rattle.fdc_phases.specs.Phases.{head_of, is_overrun, is_listening, key_as_sent}
-use Rattle.fdc_phases.specs.Rates.{rate_fits, seen_of}
 use Rattle.fdc_core.specs.Reading.{after_searched, after_heard, is_full}
 use Rattle.fdc_core.specs.State.{finished}
 use Rattle.fdc_core.specs.declared.controller.Fdc.{Fdc}
-use Rattle.fdc_phases.specs.declared.phases.Phase.{Phase}
-use Rattle.fdc_phases.specs.declared.phases.Phase.TheVariants.{Execute}
-use Rattle.fdc_phases.specs.declared.transfers.Reading.{Reading}
-use Rattle.fdc_phases.specs.declared.phases.Task.{Task}
-use Rattle.fdc_phases.specs.declared.phases.Task.TheVariants.{ReadId, Read}
-use Rattle.fdc_phases.specs.declared.rates.DataRate.{DataRate}
 
 -- ---- the word
 

@@ -1,21 +1,8 @@
 -- What the results of READ DATA and READ ID say of the words heard.
 use Rattle.std.specs.Prelude.{◌≡◌, ℕ, Bool, true, false, not, List, ◌++◌, length, None, Some}
-use Rattle.track_model.specs.Fields.{content_size}
-use Rattle.fdc_stages.specs.History.{Past, words_heard, HasFewTurns}
+use Rattle.fdc_core.specs.Common.{content_size, Past, words_heard, HasFewTurns, IsToldOf, Ending, Done, NoMark, NoSector, NoField, BadCheck, Overrun, NoCount, Protected, Late, Chrn, results_of, Sent, results_sent, key_met, is_over, Long, Phase, Execute, Result, Task, ReadId, Read}
 use Rattle.fdc_stages.specs.Findings.{IsFoundAt, FindsSector, FindsBadCheck, FindsNoField, FindsNoMark, FindsNoSector, HasAddress}
-use Rattle.fdc_stages.specs.Readings.{IsToldOf}
-use Rattle.fdc_stages.specs.declared.ending.Ending.{Ending}
-use Rattle.fdc_stages.specs.declared.ending.Ending.TheVariants.{Done, NoMark, NoSector, NoField, BadCheck, Overrun, NoCount, Protected, Late}
-use Rattle.flop_base.specs.declared.key.Chrn.{Chrn}
-use Rattle.fdc_phases.specs.Answers.{results_of}
-use Rattle.fdc_phases.specs.Heard.{Sent, results_sent, key_met}
-use Rattle.fdc_phases.specs.Phases.{is_over}
-use Rattle.fdc_phases.specs.declared.answers.Answer.TheVariants.{Long}
 use Rattle.fdc_core.specs.declared.controller.Fdc.{Fdc}
-use Rattle.fdc_phases.specs.declared.phases.Phase.{Phase}
-use Rattle.fdc_phases.specs.declared.phases.Phase.TheVariants.{Execute, Result}
-use Rattle.fdc_phases.specs.declared.phases.Task.{Task}
-use Rattle.fdc_phases.specs.declared.phases.Task.TheVariants.{ReadId, Read}
 
 -- ---- READ DATA
 

@@ -1,23 +1,13 @@
 -- The controller's ports.
 use Rattle.std.specs.Prelude.{◌≡◌, ◌<◌, ◌≤◌, ◌+◌, get_or, ℕ, Bool, true, false, not, ◌==◌, if◌then◌else◌, bit_and}
-use Rattle.std.specs.Int.RustNames.{bit_or}
+use Rattle.fdc_core.specs.Common.{bit_or, not_reset, is_begun, seek_bits, next_byte, after_byte, is_fresh, rate_chosen, Results, Ending, Long, Phase, Command, Execute, Result}
 use Rattle.fdc_registers.specs.Dir.{changed}
-use Rattle.fdc_registers.specs.Dor.{not_reset}
 use Rattle.fdc_registers.specs.Msr.{rqm, dio, busy}
-use Rattle.fdc_commands.specs.Table.{is_begun}
-use Rattle.fdc_commands.specs.Seeking.{seek_bits}
-use Rattle.fdc_phases.specs.Answers.{next_byte, after_byte, is_fresh}
 use Rattle.fdc_core.specs.Commands.{Takes}
-use Rattle.fdc_phases.specs.Rates.{rate_chosen}
 use Rattle.fdc_core.specs.State.{is_held, reset}
 use Rattle.fdc_commands.specs.Results.{result_bytes}
-use Rattle.fdc_commands.specs.declared.results.Results.{Results}
-use Rattle.fdc_stages.specs.declared.ending.Ending.{Ending}
-use Rattle.fdc_phases.specs.declared.answers.Answer.TheVariants.{Long}
 use Rattle.fdc_core.specs.declared.controller.Fdc.{Fdc}
 use Rattle.fdc_core.specs.declared.controller.Lines.{Lines}
-use Rattle.fdc_phases.specs.declared.phases.Phase.{Phase}
-use Rattle.fdc_phases.specs.declared.phases.Phase.TheVariants.{Command, Execute, Result}
 
 -- the bits of MSR by the phase, and by whether a command has begun
 abbrev pub phase_bits : Bool → Phase → ℕ

@@ -1,26 +1,8 @@
 -- For how many device steps a READ ID, a READ DATA or a write surely leaves both lines as they are, and how large the
 -- number is at least.
 use Rattle.std.specs.Prelude.{◌≡◌, ◌≤◌, ◌+◌, ◌-◌, ◌*◌, ◌++◌, ℕ, zero, suc, Bool, true, false, Option, None, Some, List, [], length}
-use Rattle.drive_model.specs.Ahead.{AreAhead, words_left}
-use Rattle.drive_model.specs.Drive.{DriveState, rate_of}
-use Rattle.flop_base.specs.declared.key.Chrn.{Chrn}
-use Rattle.raw_image.specs.Disk.{IsDisk}
-use Rattle.track_model.specs.Fields.{IsAddressAt, IsDataMark, content_size}
+use Rattle.fdc_core.specs.Common.{AreAhead, words_left, DriveState, rate_of, Chrn, IsDisk, IsAddressAt, IsDataMark, content_size, IsPlain, Fifo, wants, Past, IsContent, IsReading, mark_at, HasNoClear, IsSearching, Wants, ReadStage, Search, Sent, head_of, mark_of_phase, rate_fits, Phase, Execute, Task, Read, Write}
 use Rattle.track_model.specs.Looks.{IsFirstDataMark}
-use Rattle.track_model.specs.Sectors.{IsPlain}
-use Rattle.fdc_registers.specs.Fifo.{Fifo, wants}
-use Rattle.fdc_stages.specs.History.{Past}
-use Rattle.fdc_stages.specs.Readings.{IsContent, IsReading, mark_at}
-use Rattle.fdc_stages.specs.Searches.{HasNoClear, IsSearching, Wants}
-use Rattle.fdc_stages.specs.declared.reading.ReadStage.{ReadStage}
-use Rattle.fdc_stages.specs.declared.searching.Search.{Search}
-use Rattle.fdc_phases.specs.Heard.{Sent}
-use Rattle.fdc_phases.specs.Phases.{head_of, mark_of_phase}
-use Rattle.fdc_phases.specs.Rates.{rate_fits}
-use Rattle.fdc_phases.specs.declared.phases.Phase.{Phase}
-use Rattle.fdc_phases.specs.declared.phases.Phase.TheVariants.{Execute}
-use Rattle.fdc_phases.specs.declared.phases.Task.{Task}
-use Rattle.fdc_phases.specs.declared.phases.Task.TheVariants.{Read, Write}
 use Rattle.fdc_core.specs.Contents.{HasRoom}
 use Rattle.fdc_core.specs.Courses.{Works, HoldsLines}
 use Rattle.fdc_core.specs.Heard.{MayRead, MayReadId}

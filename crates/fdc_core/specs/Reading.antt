@@ -1,29 +1,15 @@
 -- READ ID and READ DATA, word by word.
 use Rattle.std.specs.Prelude.{◌≡◌, ℕ, Bool, false, ◌==◌, [], ◌∷◌, ◌++◌, length, Option, Some, None, if◌then◌else◌}
-use Rattle.fdc_registers.specs.Fifo.{room_of}
-use Rattle.fdc_stages.specs.declared.ending.Ending.{Ending}
-use Rattle.fdc_stages.specs.declared.ending.Ending.TheVariants.{Done, Overrun}
-use Rattle.fdc_stages.specs.Readings.{ReadOutcome}
+use Rattle.fdc_core.specs.Common.{room_of, Ending, Done, Overrun, ReadOutcome, ReadStage, Chrn, SearchOutcome, key_after, no_key, ending_of, is_over, over_of, End, Reading, Phase, Execute, Task, ReadId, Read}
 use Rattle.fdc_stages.specs.Readings as heard
-use Rattle.fdc_stages.specs.declared.reading.ReadStage.{ReadStage}
 use Rattle.fdc_stages.specs.declared.reading.ReadHeard.{ReadHeard}
 use Rattle.fdc_stages.specs.declared.reading.ReadHeard.TheVariants as answer
 use Rattle.fdc_stages.specs.declared.searching.Searched.{Searched}
 use Rattle.fdc_stages.specs.declared.searching.Searched.TheVariants as found
-use Rattle.flop_base.specs.declared.key.Chrn.{Chrn}
-use Rattle.fdc_stages.specs.Searches.{SearchOutcome}
 use Rattle.fdc_stages.specs.Searches as searched
-use Rattle.fdc_phases.specs.Answers.{key_after, no_key}
 use Rattle.fdc_core.specs.Dma.{gone_on, asked}
-use Rattle.fdc_phases.specs.Phases.{ending_of, is_over, over_of}
-use Rattle.fdc_phases.specs.declared.phases.End.{End}
 use Rattle.fdc_core.specs.State.{finished}
 use Rattle.fdc_core.specs.declared.controller.Fdc.{Fdc}
-use Rattle.fdc_phases.specs.declared.transfers.Reading.{Reading}
-use Rattle.fdc_phases.specs.declared.phases.Phase.{Phase}
-use Rattle.fdc_phases.specs.declared.phases.Phase.TheVariants.{Execute}
-use Rattle.fdc_phases.specs.declared.phases.Task.{Task}
-use Rattle.fdc_phases.specs.declared.phases.Task.TheVariants.{ReadId, Read}
 
 -- the same command at a stage
 abbrev pub at_stage : Reading → ReadStage → Reading

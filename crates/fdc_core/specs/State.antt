@@ -1,15 +1,7 @@
 -- The controller's state: words for what it shows, and what resets and ends make of it.
 use Rattle.std.specs.Prelude.{ℕ, Bool, true, false, not, ◌&&◌, ◌==◌, [], bit_and}
-use Rattle.flop_base.specs.declared.key.Chrn.{Chrn}
-use Rattle.fdc_registers.specs.Dor.{not_reset, gate}
-use Rattle.fdc_registers.specs.Fifo.{emptied}
-use Rattle.fdc_commands.specs.Seeking.{at_rest}
-use Rattle.fdc_stages.specs.declared.ending.Ending.{Ending}
-use Rattle.fdc_phases.specs.Answers.{results_of}
-use Rattle.fdc_phases.specs.declared.answers.Answer.TheVariants.{Long}
+use Rattle.fdc_core.specs.Common.{Chrn, not_reset, gate, emptied, at_rest, Ending, results_of, Long, Command, Result, DataRate}
 use Rattle.fdc_core.specs.declared.controller.Fdc.{Fdc}
-use Rattle.fdc_phases.specs.declared.phases.Phase.TheVariants.{Command, Result}
-use Rattle.fdc_phases.specs.declared.rates.DataRate.{DataRate}
 use Rattle.fdc_phases.specs.declared.rates.DataRate.TheVariants.{Kbit250}
 
 -- held in reset, at 250 kbit/s, polling on, with no command and no seek

@@ -1,13 +1,9 @@
 -- Device steps.
 use Rattle.std.specs.Prelude.{◌≡◌, ◌<◌, ◌≤◌, length, ℕ, ◌+◌, ◌-◌, ◌==◌, Option, Some, None, Bool, true, false, not, ◌&&◌, ◌||◌, if◌then◌else◌}
-use Rattle.drive_model.specs.Drive.{DriveState, Becomes, Pulses, passed, with_gate}
+use Rattle.fdc_core.specs.Common.{DriveState, Becomes, Pulses, passed, with_gate, phase_asks, is_listening, Phase, Execute}
 use Rattle.fdc_commands.specs.Seeking.{with_polls, stepped, pulse_due, is_seeking}
-use Rattle.fdc_phases.specs.Dma.{phase_asks}
-use Rattle.fdc_phases.specs.Phases.{is_listening}
 use Rattle.fdc_core.specs.State.{is_held}
 use Rattle.fdc_core.specs.declared.controller.Fdc.{Fdc}
-use Rattle.fdc_phases.specs.declared.phases.Phase.{Phase}
-use Rattle.fdc_phases.specs.declared.phases.Phase.TheVariants.{Execute}
 
 -- the poll after a reset: INT rises, and each drive has a result. The poll waits while DOR holds the controller in
 -- reset

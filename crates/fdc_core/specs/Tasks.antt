@@ -1,25 +1,12 @@
 -- A device step of a data command, by its task.
-use Rattle.std.specs.Prelude.{◌≡◌, ◌⊎◌, ◌<◌, ℕ, ◌+◌, false, None}
-use Rattle.drive_model.specs.Drive.{DriveState, Becomes, at_index}
-use Rattle.fdc_stages.specs.declared.formatting.FormatNext.{FormatNext}
-use Rattle.fdc_stages.specs.declared.writing.WriteNext.{WriteNext}
-use Rattle.fdc_phases.specs.Answers.{no_key}
+use Rattle.std.specs.Prelude.{◌≡◌, ◌⊎◌, ◌<◌, ℕ, ◌+◌, false}
+use Rattle.fdc_core.specs.Common.{DriveState, Becomes, at_index, FormatNext, WriteNext, no_key, StageHearsIndex, head_of, StageHearsWord, Late, Phase, Execute, Task, ReadId, Read, Write, Format, Formatting, Writing}
 use Rattle.fdc_core.specs.Formatting.{IsFormatStep, after_laid}
-use Rattle.fdc_phases.specs.Formatting.{StageHearsIndex}
 use Rattle.fdc_core.specs.Listening.{SeesUnder, StepsOn}
-use Rattle.fdc_phases.specs.Phases.{head_of}
 use Rattle.fdc_core.specs.State.{finished}
 use Rattle.fdc_core.specs.Steps.{let_pass}
 use Rattle.fdc_core.specs.Writing.{IsWriteStep, after_next}
-use Rattle.fdc_phases.specs.Writing.{StageHearsWord}
-use Rattle.fdc_stages.specs.declared.ending.Ending.TheVariants.{Late}
 use Rattle.fdc_core.specs.declared.controller.Fdc.{Fdc}
-use Rattle.fdc_phases.specs.declared.phases.Phase.{Phase}
-use Rattle.fdc_phases.specs.declared.phases.Phase.TheVariants.{Execute}
-use Rattle.fdc_phases.specs.declared.phases.Task.{Task}
-use Rattle.fdc_phases.specs.declared.phases.Task.TheVariants.{ReadId, Read, Write, Format}
-use Rattle.fdc_phases.specs.declared.transfers.Formatting.{Formatting}
-use Rattle.fdc_phases.specs.declared.transfers.Writing.{Writing}
 
 -- READ ID and READ DATA: one word is seen and followed
 pub record IsListenStep (head_drive steps : ℕ) (task : Task) (old : Fdc) (before after : DriveState) (new : Fdc) : Type 0 where

@@ -1,20 +1,9 @@
 -- What is known of the words that a write or a FORMAT wrote, and what its results say.
 use Rattle.std.specs.Prelude.{◌≡◌, ℕ, Bool, List}
-use Rattle.fdc_commands.specs.declared.results.Results.{Results}
-use Rattle.flop_base.specs.declared.key.Chrn.{Chrn}
-use Rattle.fdc_stages.specs.History.{Past}
-use Rattle.fdc_stages.specs.declared.ending.Ending.{Ending}
-use Rattle.fdc_stages.specs.declared.ending.Ending.TheVariants.{Done}
+use Rattle.fdc_core.specs.Common.{Results, Chrn, Past, Ending, Done, Numbers, LaysFirst, LaysWhole, IsResultKey, WritesFirst, WritesWhole, HasCause, results_of, Sent, results_sent, Long, Phase, Result}
 use Rattle.fdc_stages.specs.Formats as formats
-use Rattle.fdc_stages.specs.Formats.{Numbers, LaysFirst, LaysWhole, IsResultKey}
-use Rattle.fdc_stages.specs.Writings.{WritesFirst, WritesWhole, HasCause}
-use Rattle.fdc_phases.specs.Answers.{results_of}
-use Rattle.fdc_phases.specs.Heard.{Sent, results_sent}
 use Rattle.fdc_phases.specs.Written.{IsContent}
-use Rattle.fdc_phases.specs.declared.answers.Answer.TheVariants.{Long}
 use Rattle.fdc_core.specs.declared.controller.Fdc.{Fdc}
-use Rattle.fdc_phases.specs.declared.phases.Phase.{Phase}
-use Rattle.fdc_phases.specs.declared.phases.Phase.TheVariants.{Result}
 
 -- ---- WRITE DATA and WRITE DELETED
 

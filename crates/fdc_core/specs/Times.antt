@@ -1,12 +1,8 @@
 -- What a word time of a command that writes is.
 use Rattle.std.specs.Prelude.{◌≡◌, ℕ, Bool, true, false}
-use Rattle.drive_model.specs.Drive.{DriveState, Becomes, Writes, InRange, at_index, rate_of, with_gate}
-use Rattle.fdc_stages.specs.History.{Past, heard, kept_out, wrote}
-use Rattle.fdc_phases.specs.Heard.{stepped}
+use Rattle.fdc_core.specs.Common.{DriveState, Becomes, Writes, InRange, at_index, rate_of, with_gate, Past, heard, kept_out, wrote, stepped, rate_fits, DataRate}
 use Rattle.fdc_core.specs.Listening.{SeesUnder}
-use Rattle.fdc_phases.specs.Rates.{rate_fits}
 use Rattle.fdc_core.specs.Steps.{let_pass}
-use Rattle.fdc_phases.specs.declared.rates.DataRate.{DataRate}
 
 -- a word time
 pub data WordTime : Type 0 where

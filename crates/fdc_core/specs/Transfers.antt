@@ -1,13 +1,6 @@
 -- What a word that is heard makes of a command that writes.
 use Rattle.std.specs.Prelude.{◌≡◌, ℕ, ◌+◌, Bool}
-use Rattle.fdc_stages.specs.declared.formatting.FormatNext.{FormatNext}
-use Rattle.fdc_stages.specs.declared.writing.WriteNext.{WriteNext}
-use Rattle.fdc_phases.specs.Formatting.{StageHearsIndex}
-use Rattle.fdc_phases.specs.Writing.{StageHearsWord}
-use Rattle.fdc_phases.specs.declared.phases.Phase.{Phase}
-use Rattle.fdc_phases.specs.declared.phases.Phase.TheVariants.{Execute}
-use Rattle.fdc_phases.specs.declared.phases.Task.{Task}
-use Rattle.fdc_phases.specs.declared.phases.Task.TheVariants.{ReadId, Read, Write, Format}
+use Rattle.fdc_core.specs.Common.{FormatNext, WriteNext, StageHearsIndex, StageHearsWord, Phase, Execute, Task, ReadId, Read, Write, Format}
 use Rattle.fdc_core.specs.Formatting.{after_laid}
 use Rattle.fdc_core.specs.Writing.{after_next}
 use Rattle.fdc_core.specs.declared.controller.Fdc.{Fdc}

@@ -1,11 +1,8 @@
 -- How long the controller can wait for DMA: in so many device steps, no byte finds the FIFO full or is missing.
 use Rattle.std.specs.Prelude.{◌≡◌, ℕ, ◌+◌, Bool, true, false}
-use Rattle.fdc_phases.specs.Dma.{phase_asks}
-use Rattle.fdc_phases.specs.Phases.{is_overrun}
+use Rattle.fdc_core.specs.Common.{phase_asks, is_overrun, Phase, Execute}
 use Rattle.fdc_core.specs.State.{is_gated}
 use Rattle.fdc_core.specs.declared.controller.Fdc.{Fdc}
-use Rattle.fdc_phases.specs.declared.phases.Phase.{Phase}
-use Rattle.fdc_phases.specs.declared.phases.Phase.TheVariants.{Execute}
 use Rattle.fdc_phases.specs.Waiting.{phase_counted, PhaseWaits}
 
 -- so many device steps can pass without a transfer

@@ -1,21 +1,11 @@
 -- Whole commands and their endings, for a layer in front of the controller that collects the bytes itself.
-use Rattle.std.specs.Prelude.{ℕ, ◌%◌, Bool, not, ◌&&◌, ◌==◌, Option, Some, None, false, [], ◌∷◌, ◌++◌, if◌then◌else◌}
-use Rattle.fdc_commands.specs.Table.{is_begun, whole}
-use Rattle.fdc_commands.specs.declared.bytes.Accepted.{Accepted}
-use Rattle.fdc_commands.specs.declared.bytes.Accepted.TheVariants.{Ready}
-use Rattle.fdc_commands.specs.declared.motion.Motion.TheVariants.{Outward}
-use Rattle.fdc_commands.specs.Seeking.{seek_bits, has_ended_seek, pulses_within, with_motion, without_ended}
-use Rattle.fdc_stages.specs.declared.ending.Ending.{Ending}
+use Rattle.std.specs.Prelude.{ℕ, ◌%◌, Bool, not, ◌&&◌, ◌==◌, Option, Some, None, false, [], if◌then◌else◌}
+use Rattle.fdc_core.specs.Common.{is_begun, whole, Accepted, Ready, Outward, seek_bits, has_ended_seek, pulses_within, with_motion, without_ended, Ending, Results, Long, Short, Phase, Taking, Waiting, ending_of_phase, mark_of_phase}
 use Rattle.fdc_core.specs.Commands.{TakesAs}
 use Rattle.fdc_core.specs.Ports.{is_taking}
 use Rattle.fdc_core.specs.declared.controller.Fdc.{Fdc}
 use Rattle.fdc_core.specs.declared.controller.Lines.{Lines}
-use Rattle.fdc_commands.specs.declared.results.Results.{Results}
 use Rattle.fdc_phases.specs.declared.answers.Answer.{Answer}
-use Rattle.fdc_phases.specs.declared.answers.Answer.TheVariants.{Long, Short}
-use Rattle.fdc_phases.specs.declared.phases.Phase.{Phase}
-use Rattle.fdc_phases.specs.declared.phases.Phase.TheVariants.{Command as Taking, Result as Waiting}
-use Rattle.fdc_phases.specs.Phases.{ending_of_phase, mark_of_phase}
 
 -- the data port takes a byte, and no byte of a command has come
 abbrev pub is_idle : Fdc → Bool

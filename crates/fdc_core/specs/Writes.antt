@@ -1,22 +1,11 @@
 -- Device steps of the commands that write: their word time, and what is then known of them.
 use Rattle.std.specs.Prelude.{ℕ, Bool}
-use Rattle.drive_model.specs.Drive.{DriveState}
-use Rattle.fdc_registers.specs.Fifo.{Fifo}
-use Rattle.fdc_stages.specs.History.{Past}
-use Rattle.fdc_stages.specs.Formats.{Numbers}
+use Rattle.fdc_core.specs.Common.{DriveState, Fifo, Past, Numbers, Sent, MayWriteIn, MayWriteTask, MayFormatIn, MayFormatTask, Phase, Execute, Task, ReadId, Read, Write, Format, Formatting, Writing}
 use Rattle.fdc_core.specs.Formatting.{IsFormatStep}
-use Rattle.fdc_phases.specs.Heard.{Sent}
 use Rattle.fdc_core.specs.Times.{after_time}
 use Rattle.fdc_core.specs.Writing.{IsWriteStep}
 use Rattle.fdc_core.specs.Written.{MayWrite, MayFormat}
-use Rattle.fdc_phases.specs.Written.{MayWriteIn, MayWriteTask, MayFormatIn, MayFormatTask}
 use Rattle.fdc_core.specs.declared.controller.Fdc.{Fdc}
-use Rattle.fdc_phases.specs.declared.phases.Phase.{Phase}
-use Rattle.fdc_phases.specs.declared.phases.Phase.TheVariants.{Execute}
-use Rattle.fdc_phases.specs.declared.phases.Task.{Task}
-use Rattle.fdc_phases.specs.declared.phases.Task.TheVariants.{ReadId, Read, Write, Format}
-use Rattle.fdc_phases.specs.declared.transfers.Formatting.{Formatting}
-use Rattle.fdc_phases.specs.declared.transfers.Writing.{Writing}
 
 -- a device step of a write, once the poll is done, and what is then known of it
 pub record StepWrites (head_drive steps : ℕ) (writing : Writing) (asking : Bool) (fifo : Fifo) (polls : Fdc) (before after : DriveState) (new : Fdc) : Type 0 where

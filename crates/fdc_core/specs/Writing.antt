@@ -1,22 +1,13 @@
 -- WRITE DATA and WRITE DELETED, word by word.
 use Rattle.std.specs.Prelude.{◌≡◌, ◌<◌, ℕ, ◌+◌, Bool, true, false, List, [], ◌∷◌, Option, Some, None, if◌then◌else◌, drop}
-use Rattle.drive_model.specs.Drive.{DriveState, is_protected, at_index, Writes, InRange}
-use Rattle.fdc_registers.specs.Fifo.{Fifo, wants}
-use Rattle.fdc_stages.specs.declared.ending.Ending.{Ending}
-use Rattle.fdc_stages.specs.declared.ending.Ending.TheVariants.{Protected, Overrun, Late}
+use Rattle.fdc_core.specs.Common.{DriveState, is_protected, at_index, Writes, InRange, Fifo, wants, Ending, Protected, Overrun, Late, WriteNext, key_after, head_of, write_at, End, Write, Writing}
 use Rattle.fdc_stages.specs.Writings.{opens, is_due, needs_byte}
-use Rattle.fdc_stages.specs.declared.writing.WriteNext.{WriteNext}
 use Rattle.fdc_stages.specs.declared.writing.WriteNext.TheVariants.{On, Ended}
 use Rattle.fdc_stages.specs.declared.writing.WriteWord.{WriteWord}
-use Rattle.fdc_phases.specs.Answers.{key_after}
 use Rattle.fdc_core.specs.Dma.{gone_on}
-use Rattle.fdc_phases.specs.Phases.{head_of, write_at}
 use Rattle.fdc_core.specs.State.{finished}
 use Rattle.fdc_core.specs.Times.{WordTime, Saw, KeptOut, Wrote, Stopped, IsTime, IsHeardTime, Opens, Closes}
 use Rattle.fdc_core.specs.declared.controller.Fdc.{Fdc}
-use Rattle.fdc_phases.specs.declared.phases.End.{End}
-use Rattle.fdc_phases.specs.declared.phases.Task.TheVariants.{Write}
-use Rattle.fdc_phases.specs.declared.transfers.Writing.{Writing}
 use Rattle.fdc_phases.specs.Writing.{is_ended, StageHearsWord, StageWritesWord}
 
 -- a write after what a word gave

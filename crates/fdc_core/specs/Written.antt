@@ -1,13 +1,9 @@
 -- WRITE DATA, WRITE DELETED and FORMAT TRACK: what is known of a controller that executes them, or gives their results;
 -- and what port accesses leave of what is known of a command.
 use Rattle.std.specs.Prelude.{◌≡◌, ◌⊎◌, ℕ, Bool}
-use Rattle.fdc_stages.specs.History.{Past}
-use Rattle.fdc_stages.specs.Formats.{Numbers}
+use Rattle.fdc_core.specs.Common.{Past, Numbers, Sent, Command, MayWriteIn, MayFormatIn}
 use Rattle.fdc_core.specs.Heard.{MayRead, MayReadId}
-use Rattle.fdc_phases.specs.Heard.{Sent}
 use Rattle.fdc_core.specs.declared.controller.Fdc.{Fdc}
-use Rattle.fdc_phases.specs.declared.phases.Phase.TheVariants.{Command}
-use Rattle.fdc_phases.specs.Written.{MayWriteIn, MayFormatIn}
 pub use Rattle.fdc_phases.specs.Written.{took}
 
 -- the controller executes a write of what was sent, with this mark, or gives its results, and this is what it heard,

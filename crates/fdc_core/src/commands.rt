@@ -1,10 +1,7 @@
 // The commands, once their last byte came.
 ghost use Rattle.std.specs.Prelude.{◌≡◌};
-ghost use Rattle.track_model.specs.Fields.{IsSizeCode};
-ghost use Rattle.fdc_commands.specs.Seeking.{seek_bits};
-ghost use Rattle.fdc_commands.specs.Table.{SizeInRange};
+ghost use Rattle.fdc_core.specs.Common.{IsSizeCode, seek_bits, SizeInRange, IsReadingId, IsReadingData, IsWritingData, IsFormattingTrack};
 ghost use Rattle.fdc_core.specs.Commands.{answered, status_of_lines, sensing, configured, begun, BeginsTask, BeginsAsking, Begins, ObeysAtRest, Obeys, Takes};
-ghost use Rattle.fdc_phases.specs.Commands.{IsReadingId, IsReadingData, IsWritingData, IsFormattingTrack};
 
 use crate::controller::{Fdc, Lines};
 use fdc_commands::{Accepted, Command};

@@ -1,8 +1,6 @@
 // The bytes of a content, in many device steps at once.
 ghost use Rattle.std.specs.Prelude.{◌≡◌, ◌≤◌, ◌+◌, ◌∷◌, ℕ, [], true, false, length, take};
-ghost use Rattle.drive_model.specs.Drive.{rate_of};
-ghost use Rattle.fdc_registers.specs.Fifo.{wants};
-ghost use Rattle.fdc_phases.specs.Rates.{rate_fits};
+ghost use Rattle.fdc_core.specs.Common.{rate_of, wants, rate_fits};
 ghost use Rattle.fdc_core.specs.Contents.{with_bytes, TakesByte, TakesBytes, HasSpace, HasRoom, TakesMany};
 ghost use Rattle.fdc_core.specs.Courses.{Courses, IsQuiet};
 

@@ -1,9 +1,6 @@
 // Device steps at once.
 ghost use Rattle.std.specs.Prelude.{◌≡◌, ◌≤◌, ◌+◌, ◌-◌, true, length, min, take};
-ghost use Rattle.drive_model.specs.Drive.{rate_of};
-ghost use Rattle.fdc_phases.specs.Phases.{head_of};
-ghost use Rattle.fdc_phases.specs.Rates.{rate_fits};
-ghost use Rattle.fdc_commands.specs.Seeking.{pulses_ahead};
+ghost use Rattle.fdc_core.specs.Common.{rate_of, head_of, rate_fits, pulses_ahead};
 ghost use Rattle.fdc_core.specs.Courses.{Courses, IsStill, IsQuiet, PassesMany, awaits_nothing, comes_poll, is_at_rest};
 
 use crate::controller::Fdc;

@@ -1,16 +1,12 @@
 // The controller's side of the DMA channel.
 ghost use Rattle.std.specs.Prelude.{◌≡◌, ℕ, Bool, IsTrue, IsFalse};
-ghost use Rattle.fdc_stages.specs.History.{Past};
+ghost use Rattle.fdc_core.specs.Common.{Past, Sent, gave, told_in, took, Numbers, task_asks};
 ghost use Rattle.fdc_core.specs.Heard.{MayRead};
-ghost use Rattle.fdc_phases.specs.Heard.{Sent, gave, told_in};
 ghost use Rattle.fdc_core.specs.Listening.{is_executing};
 ghost use Rattle.fdc_core.specs.State.{asks};
 ghost use Rattle.fdc_core.specs.Waiting.{CanWait, Feeds};
 ghost use Rattle.fdc_core.specs.Written.{MayWrite, MayFormat};
-ghost use Rattle.fdc_phases.specs.Written.{took};
-ghost use Rattle.fdc_stages.specs.Formats.{Numbers};
 ghost use Rattle.fdc_core.specs.Dma.{asked, byte_out, taken_out, taken_in, with_byte, told_count, told_to, to_memory_of};
-ghost use Rattle.fdc_phases.specs.Dma.{task_asks};
 
 use crate::controller::Fdc;
 use fdc_phases::{Execution, Phase, Task};

@@ -1,8 +1,7 @@
 // A READ DATA that begins where the address field of its sector has just passed, for a layer in front of the controller
 // that reads all sectors of a track one after the other.
 ghost use Rattle.std.specs.Prelude.{◌≡◌, ◌≤◌, ◌/◌, ◌%◌, ℕ, [], length};
-ghost use Rattle.track_model.specs.Fields.{IsSizeCode};
-ghost use Rattle.fdc_stages.specs.Readings.{IsReading};
+ghost use Rattle.fdc_core.specs.Common.{IsSizeCode, IsReading};
 ghost use Rattle.fdc_core.specs.Fields.{address_words, heard_words, word_behind, HasMetField, ReadsField};
 
 use crate::controller::Fdc;

@@ -1,11 +1,8 @@
 // FORMAT TRACK, word by word.
 ghost use Rattle.std.specs.Prelude.{◌≡◌, ◌<◌, ◌+◌, ℕ, Bool, true};
-ghost use Rattle.drive_model.specs.Drive.{rate_of};
-ghost use Rattle.fdc_stages.specs.Formats.{opens, is_due};
-ghost use Rattle.fdc_phases.specs.Rates.{rate_fits};
+ghost use Rattle.fdc_core.specs.Common.{rate_of, opens, is_due, rate_fits, IsFormattingAt};
 ghost use Rattle.fdc_core.specs.Formatting.{IsFormatStep, IsFormatTime, AwaitsIndex, LaysByte, after_laid};
 ghost use Rattle.fdc_core.specs.Listening.{HasStepsLeft};
-ghost use Rattle.fdc_phases.specs.Formatting.{IsFormattingAt};
 
 use crate::controller::Fdc;
 use crate::steps::listen;

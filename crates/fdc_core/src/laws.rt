@@ -1,16 +1,10 @@
 // What the results of the commands mean. The bodies are empty: the contracts say what follows from what is known of a
 // command.
 ghost use Rattle.std.specs.Prelude.{◌≡◌, ℕ, Bool, false, Some};
-ghost use Rattle.drive_model.specs.Drive.{DriveState};
-ghost use Rattle.flop_base.specs.declared.key.Chrn.{Chrn};
-ghost use Rattle.track_model.specs.Fields.{IsSizeCode};
-ghost use Rattle.track_model.specs.Sectors.{IsPlain};
-ghost use Rattle.fdc_stages.specs.History.{Past};
+ghost use Rattle.fdc_core.specs.Common.{DriveState, Chrn, IsSizeCode, IsPlain, Past, Sent, Numbers};
 ghost use Rattle.fdc_core.specs.Drives.Hearing.{Outset, track_heard};
 ghost use Rattle.fdc_core.specs.Heard.{MayRead, MayReadId};
-ghost use Rattle.fdc_phases.specs.Heard.{Sent};
 ghost use Rattle.fdc_core.specs.Meaning.{ReadTells, ReadGives, IdTells, Paced};
-ghost use Rattle.fdc_stages.specs.Formats.{Numbers};
 ghost use Rattle.fdc_core.specs.Ports.{Gives, value_read, after_read};
 ghost use Rattle.fdc_core.specs.declared.controller.Lines.{Lines};
 ghost use Rattle.fdc_core.specs.Quiet.{HasSingle, HearsWhole, IsCertain, IsCertainOf};

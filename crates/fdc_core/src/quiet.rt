@@ -1,9 +1,6 @@
 // How long a READ ID, a READ DATA or a write surely leaves both lines as they are.
 ghost use Rattle.std.specs.Prelude.{◌≡◌, ◌≤◌, ◌<◌, ◌+◌, true, false, None, Option, List, length, take};
-ghost use Rattle.flop_base.specs.declared.key.Chrn.{Chrn};
-ghost use Rattle.drive_model.specs.Drive.{InRange, rate_of};
-ghost use Rattle.fdc_stages.specs.Readings.{IsContent, mark_at};
-ghost use Rattle.fdc_phases.specs.Rates.{rate_fits};
+ghost use Rattle.fdc_core.specs.Common.{Chrn, InRange, rate_of, IsContent, mark_at, rate_fits};
 ghost use Rattle.fdc_phases.specs.declared.phases.Phase.TheVariants as phases;
 ghost use Rattle.fdc_phases.specs.declared.phases.Task.TheVariants as tasks;
 ghost use Rattle.fdc_core.specs.Courses.{IsQuiet};

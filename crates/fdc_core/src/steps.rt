@@ -1,9 +1,6 @@
 // Device steps: one word time each, with the selected drive or with none.
 ghost use Rattle.std.specs.Prelude.{◌≡◌, ◌==◌, false, true};
-ghost use Rattle.drive_model.specs.Drive.{Becomes, at_index};
-ghost use Rattle.fdc_commands.specs.Seeking.{pulse_due};
-ghost use Rattle.fdc_phases.specs.Rates.{rate_fits, seen_of};
-ghost use Rattle.fdc_stages.specs.Readings.{PassesBy};
+ghost use Rattle.fdc_core.specs.Common.{Becomes, at_index, pulse_due, rate_fits, seen_of, PassesBy};
 ghost use Rattle.fdc_core.specs.Listening.{Listens, ListensToNone, SeesUnder, HearsIn, HasStepsLeft};
 ghost use Rattle.fdc_core.specs.State.{finished};
 ghost use Rattle.fdc_core.specs.Steps.{polled, seek_stepped, let_pass, Rests, Moves, MovesDrive, Ends, Stays, Flows};

@@ -3,7 +3,7 @@ ghost use Rattle.std.specs.Prelude.{◌≡◌};
 ghost use Rattle.fdc_core.specs.Listening.{is_executing};
 ghost use Rattle.fdc_core.specs.Commands.{status_of_lines};
 ghost use Rattle.fdc_core.specs.Whole.{is_idle, TakesWhole, ending_told, results_waiting, given_up, mark_of, recalibrated_within, without_seek};
-ghost use Rattle.fdc_commands.specs.Seeking.{has_ended_seek};
+ghost use Rattle.fdc_core.specs.Common.{has_ended_seek};
 
 use crate::commands::{INVALID, drive_status};
 use crate::controller::{Fdc, Lines};

@@ -1,12 +1,10 @@
 // WRITE DATA and WRITE DELETED, word by word.
 ghost use Rattle.std.specs.Prelude.{◌≡◌, ◌<◌, ◌+◌, ℕ, true, false};
-ghost use Rattle.drive_model.specs.Drive.{rate_of};
+ghost use Rattle.fdc_core.specs.Common.{rate_of, rate_fits, IsWritingAt};
 ghost use Rattle.fdc_stages.specs.Writings.{opens, is_due};
-ghost use Rattle.fdc_phases.specs.Rates.{rate_fits};
 ghost use Rattle.fdc_core.specs.Times.{Opens, Closes};
 ghost use Rattle.fdc_core.specs.Listening.{HasStepsLeft};
 ghost use Rattle.fdc_core.specs.Writing.{IsWriteStep, IsWriteTime, HearsAWord, PutsByte, after_next, byte_taken, without_byte, fifo_without};
-ghost use Rattle.fdc_phases.specs.Writing.{IsWritingAt};
 
 use crate::controller::Fdc;
 use crate::steps::listen;

@@ -6,9 +6,8 @@ use Rattle.fdc_phases.specs.Written.{AsksWithRoom}
 
 -- by the FIFO's rule DRQ is up only where there is room
 asks_room : (counted full asking low : Bool) → (not (counted || full) && (asking || low)) ≡ true → (counted ≡ false) × (full ≡ false)
-asks_room true full asking low up = absurd (false≢true up)
-asks_room false true asking low up = absurd (false≢true up)
 asks_room false false asking low up = (refl, refl)
+asks_room _ _ asking low up = absurd (false≢true up)
 
 pub rule_room : (counted asking : Bool) (fifo : Fifo) → AsksWithRoom counted (wants false asking counted fifo) fifo
 rule_room counted asking fifo up = asks_room counted (length fifo.bytes == room_of fifo.on) asking (nat_le (length fifo.bytes) (low_level fifo)) up

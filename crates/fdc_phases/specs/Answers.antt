@@ -1,17 +1,14 @@
 -- The result bytes of commands.
 use Rattle.std.specs.Prelude.{ℕ, ◌+◌, ◌%◌, Bool, false, Some, None, if◌then◌else◌, nat_le, get_or, bit_and, ◌==◌}
 use Rattle.std.specs.Int.RustNames.{bit_or}
-use Rattle.flop_base.specs.declared.key.Chrn.{Chrn}
+use Rattle.fdc_phases.specs.Common.{Chrn, Results, Ending, Done, NoMark, NoSector, NoField, BadCheck, Overrun, NoCount, Protected, Late}
 use Rattle.fdc_registers.specs.declared.results.St0.{St0}
 use Rattle.fdc_registers.specs.declared.results.St1.{St1}
 use Rattle.fdc_registers.specs.declared.results.St2.{St2}
 use Rattle.fdc_registers.specs.St0 as st0
 use Rattle.fdc_registers.specs.St1 as st1
 use Rattle.fdc_registers.specs.St2 as st2
-use Rattle.fdc_commands.specs.declared.results.Results.{Results}
 use Rattle.fdc_commands.specs.Results.{result_bytes}
-use Rattle.fdc_stages.specs.declared.ending.Ending.{Ending}
-use Rattle.fdc_stages.specs.declared.ending.Ending.TheVariants.{Done, NoMark, NoSector, NoField, BadCheck, Overrun, NoCount, Protected, Late}
 use Rattle.fdc_phases.specs.declared.answers.Answer.{Answer}
 use Rattle.fdc_phases.specs.declared.answers.Answer.TheVariants.{Short, Long}
 use Rattle.fdc_phases.specs.declared.phases.Phase.{Phase}

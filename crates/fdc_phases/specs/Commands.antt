@@ -1,13 +1,11 @@
 -- The data commands as they begin.
 use Rattle.std.specs.Prelude.{◌≡◌, ℕ, Bool, true, false, []}
-use Rattle.fdc_registers.specs.Fifo.{Fifo}
-use Rattle.fdc_stages.specs.History.{begun as new_past}
+use Rattle.fdc_phases.specs.Common.{Fifo, new_past, Numbers}
 use Rattle.fdc_phases.specs.Heard.{Sent, MayReadTask, MayReadIdTask}
 use Rattle.fdc_phases.specs.declared.phases.Task.{Task}
 use Rattle.fdc_phases.specs.Dma.{task_asks}
 use Rattle.fdc_phases.specs.Waiting.{TaskWaits}
 use Rattle.fdc_phases.specs.Written.{MayWriteTask, MayFormatTask}
-use Rattle.fdc_stages.specs.Formats.{Numbers}
 
 -- the task is a READ ID that has heard nothing
 abbrev pub IsReadingId : ℕ → Task → Type 0

@@ -1,6 +1,6 @@
 -- What DMA makes of a data command: its request, and the terminal count.
 use Rattle.std.specs.Prelude.{Bool, true, false}
-use Rattle.fdc_registers.specs.Fifo.{Fifo, wants}
+use Rattle.fdc_phases.specs.Common.{Fifo, wants}
 use Rattle.fdc_phases.specs.Phases.{is_over, told, write_told, format_told}
 use Rattle.fdc_phases.specs.declared.phases.Phase.{Phase}
 use Rattle.fdc_phases.specs.declared.phases.Phase.TheVariants.{Execute}

@@ -1,9 +1,7 @@
 -- FORMAT TRACK: what a word makes of its stage.
 use Rattle.std.specs.Prelude.{◌≡◌, ℕ, ◌-◌, Bool, true, false, List}
-use Rattle.fdc_stages.specs.History.{Past, wrote}
+use Rattle.fdc_phases.specs.Common.{Past, wrote, HasLead, LeadsOn, handed_with, heard_where}
 use Rattle.fdc_stages.specs.Formats.{Numbers, is_open, opens, is_due, Takes, IsFormatting, IsNextLaid, HasNext, FailsWell, EndsWell}
-use Rattle.fdc_stages.specs.Leads.{HasLead, LeadsOn}
-use Rattle.fdc_stages.specs.Writings.{handed_with, heard_where}
 use Rattle.fdc_stages.specs.declared.formatting.FormatNext.{FormatNext}
 use Rattle.fdc_stages.specs.declared.formatting.FormatNext.TheVariants.{On, Ended}
 use Rattle.fdc_stages.specs.declared.formatting.FormatWord.{FormatWord}

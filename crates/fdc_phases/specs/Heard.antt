@@ -1,14 +1,9 @@
 -- READ DATA and READ ID: what they heard and what they gave since they began.
 use Rattle.std.specs.Prelude.{◌≡◌, ℕ, ◌+◌, Bool, true, false, ◌==◌, List, [], ◌∷◌, ◌++◌, length, None}
-use Rattle.flop_base.specs.declared.key.Chrn.{Chrn}
-use Rattle.fdc_stages.specs.History.{Past, words_heard}
+use Rattle.fdc_phases.specs.Common.{Chrn, Past, words_heard, IsStart, IsReading, HasRead, Ending, Done, NoCount, Results}
 use Rattle.fdc_stages.specs.Searches.{IsSearching}
 use Rattle.fdc_stages.specs.Findings.{HasIdentified}
-use Rattle.fdc_stages.specs.Readings.{IsStart, IsReading, HasRead}
-use Rattle.fdc_stages.specs.declared.ending.Ending.{Ending}
-use Rattle.fdc_stages.specs.declared.ending.Ending.TheVariants.{Done, NoCount}
 use Rattle.fdc_stages.specs.declared.searching.Search.{Search}
-use Rattle.fdc_commands.specs.declared.results.Results.{Results}
 use Rattle.fdc_phases.specs.Answers.{results_of, key_after, no_key}
 use Rattle.fdc_phases.specs.declared.answers.Answer.{Answer}
 use Rattle.fdc_phases.specs.declared.answers.Answer.TheVariants.{Short, Long}

@@ -1,3 +1,4 @@
+pub mod Common
 pub mod Rates
 pub mod Answers
 pub mod Phases

@@ -1,8 +1,6 @@
 -- What the controller is doing.
 use Rattle.std.specs.Prelude.{ℕ, ◌/◌, ◌%◌, Bool, true, false, Option, Some, None, if◌then◌else◌}
-use Rattle.flop_base.specs.declared.key.Chrn.{Chrn}
-use Rattle.fdc_stages.specs.declared.ending.Ending.{Ending}
-use Rattle.fdc_stages.specs.declared.ending.Ending.TheVariants.{Done, BadCheck, Overrun, NoCount}
+use Rattle.fdc_phases.specs.Common.{Chrn, Ending, Done, BadCheck, Overrun, NoCount, WriteStage, mark_at}
 use Rattle.fdc_stages.specs.declared.reading.ReadStage.{ReadStage}
 use Rattle.fdc_stages.specs.declared.reading.ReadStage.TheVariants.{Over}
 use Rattle.fdc_phases.specs.Answers.{no_key, key_after}
@@ -16,9 +14,7 @@ use Rattle.fdc_phases.specs.declared.phases.Task.TheVariants.{ReadId, Read, Writ
 use Rattle.fdc_phases.specs.declared.transfers.Reading.{Reading}
 use Rattle.fdc_phases.specs.declared.transfers.Writing.{Writing}
 use Rattle.fdc_phases.specs.declared.transfers.Formatting.{Formatting}
-use Rattle.fdc_stages.specs.declared.writing.WriteStage.{WriteStage}
 use Rattle.fdc_stages.specs.declared.formatting.FormatStage.{FormatStage}
-use Rattle.fdc_stages.specs.Readings.{mark_at}
 
 -- READ DATA is the task
 abbrev pub is_read : Task → Bool

@@ -1,8 +1,6 @@
 -- How many device steps a data command can wait for DMA, until a byte finds the FIFO full or is missing.
 use Rattle.std.specs.Prelude.{◌≡◌, ℕ, ◌+◌, ◌≤◌, Bool, true, false, length}
-use Rattle.fdc_registers.specs.Fifo.{Fifo, room_of}
-use Rattle.fdc_stages.specs.Leads.{HasLead}
-use Rattle.fdc_stages.specs.Writings.{lead_of}
+use Rattle.fdc_phases.specs.Common.{Fifo, room_of, HasLead, lead_of}
 use Rattle.fdc_phases.specs.declared.phases.Phase.{Phase}
 use Rattle.fdc_phases.specs.declared.phases.Phase.TheVariants.{Execute}
 use Rattle.fdc_phases.specs.declared.phases.Task.{Task}

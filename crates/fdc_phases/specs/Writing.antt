@@ -1,11 +1,8 @@
 -- WRITE DATA and WRITE DELETED: what a word makes of their stage.
 use Rattle.std.specs.Prelude.{◌≡◌, ◌≤◌, ◌+◌, ℕ, Bool, true, false, List, Option, Some, None}
-use Rattle.flop_base.specs.declared.key.Chrn.{Chrn}
-use Rattle.fdc_stages.specs.History.{Past, wrote}
-use Rattle.fdc_stages.specs.declared.ending.Ending.{Ending}
+use Rattle.fdc_phases.specs.Common.{Chrn, Past, wrote, Ending, WriteStage}
 use Rattle.fdc_stages.specs.Windows.{lead_behind}
 use Rattle.fdc_stages.specs.Writings.{is_open, opens, is_due, needs_byte, handed_with, heard_where, IsWriting, IsNextWord, HasNext, FailsWell, EndsWell, LeadsOn, lead_of, rest_behind}
-use Rattle.fdc_stages.specs.declared.writing.WriteStage.{WriteStage}
 use Rattle.fdc_stages.specs.declared.writing.WriteNext.{WriteNext}
 use Rattle.fdc_stages.specs.declared.writing.WriteNext.TheVariants.{On, Ended}
 use Rattle.fdc_stages.specs.declared.writing.WriteWord.{WriteWord}

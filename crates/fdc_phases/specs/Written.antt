@@ -1,11 +1,6 @@
 -- WRITE DATA, WRITE DELETED and FORMAT TRACK: what they heard, took and wrote since they began.
 use Rattle.std.specs.Prelude.{◌≡◌, ◌⊎◌, ℕ, Bool, true, false, ◌==◌, List, [], ◌∷◌, ◌++◌, length, replicate}
-use Rattle.flop_base.specs.declared.key.Chrn.{Chrn}
-use Rattle.fdc_registers.specs.Fifo.{Fifo, room_of}
-use Rattle.fdc_stages.specs.History.{Past}
-use Rattle.fdc_stages.specs.declared.ending.Ending.{Ending}
-use Rattle.fdc_stages.specs.Formats.{Numbers, IsFormatting, HasFormatted, IsResultKey}
-use Rattle.fdc_stages.specs.Writings.{IsWriting, HasWritten}
+use Rattle.fdc_phases.specs.Common.{Chrn, Fifo, room_of, Past, Ending, Numbers, IsFormatting, HasFormatted, IsResultKey, IsWriting, HasWritten}
 use Rattle.fdc_phases.specs.Answers.{results_of}
 use Rattle.fdc_phases.specs.Heard.{Sent, results_sent}
 use Rattle.fdc_phases.specs.declared.answers.Answer.{Answer}

@@ -1,6 +1,6 @@
 // The data commands as they begin.
 ghost use Rattle.std.specs.Prelude.{ℕ};
-ghost use Rattle.track_model.specs.Fields.{IsSizeCode};
+ghost use Rattle.fdc_phases.specs.Common.{IsSizeCode};
 ghost use Rattle.fdc_phases.specs.Commands.{WaitsAtFirst, IsReadingId, IsReadingData, IsWritingData, IsFormattingTrack};
 
 use crate::phases::Task;

@@ -1,6 +1,6 @@
 // A phase as bytes.
 ghost use Rattle.std.specs.Prelude.{◌≡◌};
-ghost use Rattle.track_model.specs.Fields.{IsSizeCode};
+ghost use Rattle.fdc_phases.specs.Common.{IsSizeCode};
 
 use crate::answers::Answer;
 use crate::phases::{Execution, Phase, Task};

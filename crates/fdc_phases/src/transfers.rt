@@ -1,9 +1,7 @@
 // What READ DATA, WRITE DATA, WRITE DELETED and FORMAT TRACK do.
 ghost use Rattle.std.specs.Prelude.{◌≡◌, ◌<◌, ◌≤◌, IfSome, true, false};
-ghost use Rattle.fdc_stages.specs.Readings.{mark_at};
-ghost use Rattle.fdc_stages.specs.Writings.{is_open, is_due};
+ghost use Rattle.fdc_phases.specs.Common.{mark_at, is_open, is_due, is_format_open, is_format_due, format_next};
 ghost use Rattle.fdc_phases.specs.Answers.{next_key, key_after};
-ghost use Rattle.fdc_stages.specs.Formats.{is_open as is_format_open, is_due as is_format_due, format_next};
 ghost use Rattle.fdc_phases.specs.Formatting.{StageHearsIndex, is_ended as is_format_ended};
 ghost use Rattle.fdc_phases.specs.Phases.{told, is_over, ending_of, write_at, write_told, format_at, format_told};
 ghost use Rattle.fdc_phases.specs.Writing.{StageHearsWord, EndsWord, write_over, write_end, is_ended};

@@ -1,11 +1,8 @@
 -- Device steps, one by one and many at once.
 use Rattle.std.proofs.Common.{◌≡◌, ℕ, zero, suc, ◌+◌, ◌%◌, Bool, refl, sym, ap, ◌∙◌, subst, add-suc, arith}
-use Rattle.drive_model.specs.Drive.{DriveState}
-use Rattle.fdc_sequencer.specs.Adapters.{AdapterState, HasLines, StepsAdapter, LeapsAdapter, RunsWith, selected_at}
-use Rattle.fdc_core.specs.State.{asks, interrupts}
-use Rattle.fdc_core.specs.declared.controller.Fdc.{Fdc}
+use Rattle.fdc_sequencer.proofs.Common.{DriveState, AdapterState, HasLines, StepsAdapter, selected_at, asks, interrupts, Fdc, dor_stays}
+use Rattle.fdc_sequencer.specs.Adapters.{LeapsAdapter, RunsWith}
 use Rattle.fdc_core.specs.Drives.WordTimes.{WordTimes}
-use Rattle.fdc_core.proofs.drives.PassedTimes.{dor_stays}
 
 pub runs_none : (int drq : Bool) (adapter : AdapterState) → RunsWith int drq 0 adapter adapter
 unfolding RunsWith

@@ -1,26 +1,13 @@
 -- Device steps of a controller that does nothing.
-use Rattle.std.proofs.Common.{◌≡◌, ℕ, zero, suc, ◌==◌, ◌&&◌, Bool, true, false, not, if◌then◌else◌, Option, Some, None, refl, sym, ap, ◌∙◌, subst, arith}
-use Rattle.std.proofs.lemmas.Bool.{true≢false}
-use Rattle.drive_model.specs.Drive.{DriveState}
-use Rattle.fdc_core.specs.Courses.{IsStill, Works, WorksAlone}
-use Rattle.fdc_core.specs.Listening.{is_executing}
-use Rattle.fdc_core.specs.State.{is_held}
-use Rattle.fdc_core.specs.Steps.{EndsIn, RestsIn, let_pass, polled}
-use Rattle.fdc_core.specs.declared.controller.Fdc.{Fdc}
-use Rattle.fdc_phases.specs.declared.phases.Phase.{Phase}
-use Rattle.fdc_phases.specs.declared.phases.Phase.TheVariants.{Command, Execute, Result}
-use Rattle.fdc_commands.specs.Seeking.{with_polls}
-use Rattle.fdc_core.specs.Drives.WordTimes.{PassesWordTime}
-use Rattle.fdc_sequencer.specs.Adapters.{AdapterState, StepsAdapter, selected_at}
-use Rattle.fdc_sequencer.specs.AdapterStill.{Stands}
+use Rattle.std.proofs.Common.{◌≡◌, ℕ, zero, suc, ◌==◌, ◌&&◌, Bool, true, false, not, if◌then◌else◌, refl, sym, ap, ◌∙◌, subst, arith}
+use Rattle.fdc_sequencer.proofs.Common.{true≢false, DriveState, IsStill, Works, WorksAlone, is_executing, is_held, EndsIn, RestsIn, polled, Fdc, Phase, Execute, with_polls, PassesWordTime, selected_at, Stands}
 
 -- ---- a word time in which nothing is executed
 
 -- a device step of a data command doesn't leave the command at the same step
 not_executing : (phase : Phase) → EndsIn phase phase → is_executing phase ≡ false
-not_executing Command ends = refl
-not_executing (Result answer) ends = refl
 not_executing (Execute execution) ends = let fewer = ends.0 in absurd (omega arith)
+not_executing _ ends = refl
 
 -- the poll doesn't change the phase
 polled_phase : (old : Fdc) → (polled old).phase ≡ old.phase
@@ -32,9 +19,8 @@ polled_phase old = by_poll (old.poll_due && not (is_held old))
 
 -- any two outcomes of one device step are the same
 one_outcome : (phase : Phase) (track0 : Bool) (polls one other : Fdc) → is_executing phase ≡ false → RestsIn phase track0 polls one → RestsIn phase track0 polls other → other ≡ one
-one_outcome Command track0 polls one other idle first second = second ∙ sym first
-one_outcome (Result answer) track0 polls one other idle first second = second ∙ sym first
 one_outcome (Execute execution) track0 polls one other idle first second = absurd (true≢false idle)
+one_outcome _ track0 polls one other idle first second = second ∙ sym first
 
 idle_polled : (old : Fdc) → EndsIn old.phase old.phase → is_executing (polled old).phase ≡ false
 idle_polled old ends = ap is_executing (polled_phase old) ∙ not_executing old.phase ends

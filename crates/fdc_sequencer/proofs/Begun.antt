@@ -1,8 +1,6 @@
 -- How the controller's own command for a sector begins.
 use Rattle.std.proofs.Common.{◌≡◌, Bool, true, false, refl}
-use Rattle.fdc_sequencer.specs.Adapters.{AdapterState}
-use Rattle.fdc_sequencer.specs.Fronts.{Front, begun_if}
-use Rattle.fdc_sequencer.specs.declared.transfer.Transfer.{Transfer}
+use Rattle.fdc_sequencer.proofs.Common.{AdapterState, Front, begun_if, Transfer}
 
 -- the adapter that the front had before doesn't matter
 pub begun_over : (executing : Bool) (transfer : Transfer) (counted passed_over : Bool) (between : AdapterState) (old : Front)

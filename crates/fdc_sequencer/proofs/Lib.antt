@@ -1,3 +1,4 @@
+mod Common
 pub mod AdapterRuns
 pub mod RateLemmas
 mod AdapterStanding

@@ -1,35 +1,15 @@
 -- Device steps of a command that is executed, in which neither line changes.
 use Rattle.std.proofs.Common.{◌≡◌, inl, inr, ℕ, zero, suc, ◌+◌, ◌-◌, ◌%◌, ◌≤◌, min, nat_lt, Bool, true, false, ◌&&◌, ◌||◌, ◌==◌, not, if◌then◌else◌, Option, Some, None, is_some, refl, sym, ap, subst, ◌∙◌, arith}
 use Rattle.std.specs.Option.{option_map_or}
-use Rattle.std.proofs.lemmas.Bool.{eqb-true, false≢true, true≢false}
+use Rattle.fdc_sequencer.proofs.Common.{eqb-true, false≢true, true≢false, DriveState, SeekState, ended, has_ended_seek, neighbour, pulse_due, pulse_of, pulses_ahead, pulses_from, recalibrated, sought, stepped, stepped_seek, with_motion, with_polls, ending_of_phase, Phase, Execute, Result, HoldsLines, Works, PassesWordTime, is_executing, is_held, Moves, MovesIn, RestsIn, Stays, polled, seek_stepped, ending_told, mark_of, results_of_phase, Fdc, nothing_foreseen, AdapterState, drive_at, selected_at, heads_at, steps_ahead, Front, asks_at, interrupts_at, results_at, FollowsStep, IsUnderWay, MovesOn, SeeksOn, StepsFront, is_unwanted, judged_if, passed_over_if, ForeseesAt, ForeseesBehind, GoesAlong, GoesAlongFor, IsInCommand, IsLongestAt, IsQuietAt, IsQuietBehind, drive_selected, executes_at, seeks_at, FrontStage, Through, Seeking, Transfer}
 use Rattle.std.proofs.lemmas.Bool.Decides.{nat_tests}
-use Rattle.drive_model.specs.Drive.{DriveState}
 use Rattle.fdc_registers.specs.declared.drive_lines.Dor.{Dor}
-use Rattle.fdc_commands.specs.Seeking.{Seeking as SeekState, ended, has_ended_seek, neighbour, pulse_due, pulse_of, pulses_ahead, pulses_from, recalibrated, sought, stepped, stepped_seek, with_motion, with_polls}
 use Rattle.fdc_commands.specs.declared.motion.Motion.{Motion}
 use Rattle.fdc_commands.specs.declared.motion.Motion.TheVariants.{Outward, Toward, Ended}
 use Rattle.fdc_commands.specs.declared.motion.Seek.{Seek as DriveSeek}
-use Rattle.fdc_phases.specs.Phases.{ending_of_phase}
-use Rattle.fdc_phases.specs.declared.answers.Answer.TheVariants.{Long, Short}
-use Rattle.fdc_phases.specs.declared.phases.Phase.{Phase}
-use Rattle.fdc_phases.specs.declared.phases.Phase.TheVariants.{Command, Execute, Result}
-use Rattle.fdc_core.specs.Courses.{HoldsLines, Works}
-use Rattle.fdc_core.specs.Drives.WordTimes.{PassesWordTime}
-use Rattle.fdc_core.specs.Listening.{is_executing}
+use Rattle.fdc_phases.specs.declared.answers.Answer.TheVariants.{Long}
 use Rattle.fdc_core.specs.Quiet.{Foresees, IsLongest, IsQuietBy, WorksBy}
-use Rattle.fdc_core.specs.State.{asks, is_held}
-use Rattle.fdc_core.specs.Steps.{Moves, MovesIn, RestsIn, Stays, let_pass, polled, seek_stepped}
-use Rattle.fdc_core.specs.Whole.{ending_told, mark_of, results_of_phase}
-use Rattle.fdc_core.specs.declared.controller.Fdc.{Fdc}
-use Rattle.fdc_core.proofs.Foreseeing.{nothing_foreseen}
-use Rattle.fdc_sequencer.specs.Adapters.{AdapterState, StepsAdapter, drive_at, selected_at}
-use Rattle.fdc_sequencer.specs.AdapterStill.{heads_at, steps_ahead}
-use Rattle.fdc_sequencer.specs.Fronts.{Front, asks_at, interrupts_at, results_at}
-use Rattle.fdc_sequencer.specs.Moves.{FollowsStep, IsUnderWay, MovesOn, SeeksOn, StepsFront, is_unwanted, judged_if, passed_over_if}
-use Rattle.fdc_sequencer.specs.Quiet.{ForeseesAt, ForeseesBehind, GoesAlong, GoesAlongFor, IsInCommand, IsLongestAt, IsQuietAt, IsQuietBehind, StepsFrontBy, drive_selected, executes_at, seeks_at}
-use Rattle.fdc_sequencer.specs.declared.stage.FrontStage.{FrontStage}
-use Rattle.fdc_sequencer.specs.declared.stage.FrontStage.TheVariants.{Through, Seeking, Moving, Telling}
-use Rattle.fdc_sequencer.specs.declared.transfer.Transfer.{Transfer}
+use Rattle.fdc_sequencer.specs.Quiet.{StepsFrontBy}
 use Rattle.fdc_sequencer.proofs.Runs.{executing_goes}
 
 -- ---- no device step
@@ -38,10 +18,8 @@ pub lasts_none : (front : Front) → GoesAlongFor 0 front
 lasts_none front n new some within steps = absurd (omega (arith, some, within))
 
 foresees_at : (stage : FrontStage) (count : ℕ) (adapter : AdapterState) → Foresees count adapter.controller (drive_selected adapter) → ForeseesAt stage count adapter
-foresees_at Through count adapter foresees = foresees
 foresees_at (Seeking transfer counted) count adapter foresees = tt
-foresees_at (Moving moving) count adapter foresees = foresees
-foresees_at (Telling results) count adapter foresees = foresees
+foresees_at _ count adapter foresees = foresees
 
 -- what is foreseen of the controller is foreseen of the front
 pub foresees_behind : (count : ℕ) (front : Front) → Foresees count front.adapter.controller (drive_selected front.adapter) → ForeseesBehind count front
@@ -50,29 +28,16 @@ foresees_behind count front foresees = foresees_at front.stage count front.adapt
 pub foresees_none : (front : Front) → ForeseesBehind 0 front
 foresees_none front = foresees_behind 0 front (nothing_foreseen front.adapter.controller (drive_selected front.adapter))
 
-foresees_seek : (stage : FrontStage) (count : ℕ) (adapter : AdapterState) → seeks_at stage ≡ true → ForeseesAt stage count adapter
-foresees_seek (Seeking transfer counted) count adapter seeks = tt
-foresees_seek Through count adapter seeks = absurd (false≢true seeks)
-foresees_seek (Moving moving) count adapter seeks = absurd (false≢true seeks)
-foresees_seek (Telling results) count adapter seeks = absurd (false≢true seeks)
-
 -- how large the number is while heads go to a command's cylinder
 pub longest_seek : (stage : FrontStage) (most count : ℕ) (adapter : AdapterState) → seeks_at stage ≡ true → (is_executing adapter.controller.phase ≡ false → count ≡ min most (steps_ahead adapter)) → IsLongestAt stage most count adapter
 longest_seek (Seeking transfer counted) most count adapter seeks is = is
-longest_seek Through most count adapter seeks is = absurd (false≢true seeks)
-longest_seek (Moving moving) most count adapter seeks is = absurd (false≢true seeks)
-longest_seek (Telling results) most count adapter seeks is = absurd (false≢true seeks)
+longest_seek _ most count adapter seeks is = absurd (false≢true seeks)
 
 -- how large the number is while a command is executed
 pub longest_command : (stage : FrontStage) (most count : ℕ) (adapter : AdapterState) → seeks_at stage ≡ false
     → (executes_at stage adapter.controller ≡ true → selected_at adapter ≤ 1 → IsLongest most count adapter.controller (drive_selected adapter)) → IsLongestAt stage most count adapter
 longest_command (Seeking transfer counted) most count adapter rests is = absurd (true≢false rests)
-longest_command Through most count adapter rests is = is
-longest_command (Moving moving) most count adapter rests is = is
-longest_command (Telling results) most count adapter rests is = is
-
-pub seeks_foresee : (count : ℕ) (front : Front) → seeks_at front.stage ≡ true → ForeseesBehind count front
-seeks_foresee count front seeks = foresees_seek front.stage count front.adapter seeks
+longest_command _ most count adapter rests is = is
 
 -- ---- the controller's own command goes on
 
@@ -84,10 +49,8 @@ record Holds (front : Front) : Type 0 where
 
 -- a command that hasn't ended has no results
 none_waits : (phase : Phase) → ending_of_phase phase ≡ None → results_of_phase phase ≡ None
-none_waits Command none = refl
-none_waits (Execute execution) none = refl
 none_waits (Result (Long ending results key)) none = absurd (true≢false (ap is_some none))
-none_waits (Result (Short first second)) none = refl
+none_waits _ none = refl
 
 through_holds : (front : Front) → front.stage ≡ Through → is_executing front.adapter.controller.phase ≡ true → Holds front
 through_holds front through executing = record {
@@ -180,10 +143,8 @@ command_goes most front holds few quiet n new some within steps =
 
 quiet_at : (stage : FrontStage) (count : ℕ) (adapter : AdapterState) → seeks_at stage ≡ false → IsQuietAt stage count adapter
     → IsQuietBy count adapter.controller (drive_selected adapter)
-quiet_at Through count adapter none quiet = quiet
-quiet_at (Moving moving) count adapter none quiet = quiet
-quiet_at (Telling results) count adapter none quiet = quiet
 quiet_at (Seeking transfer counted) count adapter none quiet = absurd (true≢false none)
+quiet_at _ count adapter none quiet = quiet
 
 -- the drive that DOR selects is one of two, or nothing is said
 some_selected : (selected : ℕ) (b : Bool) → nat_lt selected 2 ≡ b → (b ≡ true → selected ≤ 1) × (b ≡ false → 2 ≤ selected)
@@ -269,15 +230,13 @@ polled_seek old = by_poll (old.poll_due && not (is_held old))
     by_poll false = refl
 
 only_rests : (phase : Phase) (track0 : Bool) (polls new : Fdc) → is_executing phase ≡ false → RestsIn phase track0 polls new → new ≡ seek_stepped track0 polls
-only_rests Command track0 polls new idle rests = rests
-only_rests (Result answer) track0 polls new idle rests = rests
 only_rests (Execute execution) track0 polls new idle rests = absurd (true≢false idle)
+only_rests _ track0 polls new idle rests = rests
 
 only_moves : (phase : Phase) (fdc : Fdc) (before after : DriveState) → is_executing phase ≡ false → MovesIn phase fdc before after
     → Moves (pulse_due fdc.seeks (before.cylinder == 0)) before after
-only_moves Command fdc before after idle moves = moves
-only_moves (Result answer) fdc before after idle moves = moves
 only_moves (Execute execution) fdc before after idle moves = absurd (true≢false idle)
+only_moves _ fdc before after idle moves = moves
 
 -- a pulse outward moves the heads by one cylinder at most
 outward_near : (b : Bool) (before after : DriveState) → Moves (if b then None else Some false) before after → before.cylinder ≤ after.cylinder + 1
@@ -403,9 +362,7 @@ still_seeks_lasts count transfer counted front was n new some within steps =
 seek_lasts_at : (stage : FrontStage) (count : ℕ) (front : Front) → front.stage ≡ stage → seeks_at stage ≡ true
     → OnlySeeks count front.adapter → GoesAlongFor count front
 seek_lasts_at (Seeking transfer counted) count front at seeks only = still_seeks_lasts count transfer counted front (record { at = at; only = only })
-seek_lasts_at Through count front at seeks only = absurd (false≢true seeks)
-seek_lasts_at (Moving moving) count front at seeks only = absurd (false≢true seeks)
-seek_lasts_at (Telling results) count front at seeks only = absurd (false≢true seeks)
+seek_lasts_at _ count front at seeks only = absurd (false≢true seeks)
 
 -- as long as the seek surely goes on, nothing changes outside
 pub seek_lasts : (count : ℕ) (front : Front) → is_executing front.adapter.controller.phase ≡ false → count ≤ steps_ahead front.adapter

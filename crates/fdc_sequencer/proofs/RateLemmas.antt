@@ -1,22 +1,16 @@
 -- The data rate of the controller through port accesses.
 use Rattle.std.proofs.Common.{◌≡◌, ℕ, Bool, true, false, Option, Some, None, [], ◌∷◌, ◌++◌, refl, sym, ap, ◌∙◌}
 use Rattle.std.specs.Prelude.{◌==◌, ◌||◌, if◌then◌else◌}
-use Rattle.std.proofs.lemmas.Bool.{eqb-true, true≢false}
-use Rattle.fdc_sequencer.specs.WordTimes.{nanoseconds}
-use Rattle.fdc_core.specs.State.{data_rate}
+use Rattle.fdc_sequencer.proofs.Common.{eqb-true, true≢false, nanoseconds, data_rate, seek_bits, sensed, has_ended_seek, without_ended, reset, ending_told, given_up_if, given_up, without_seek, Fdc}
 use Rattle.fdc_commands.specs.Table.{answer, kept}
 use Rattle.fdc_commands.specs.declared.bytes.Accepted.{Accepted}
-use Rattle.fdc_commands.specs.declared.bytes.Accepted.TheVariants.{More, Ready, Invalid}
+use Rattle.fdc_commands.specs.declared.bytes.Accepted.TheVariants.{Ready}
 use Rattle.fdc_commands.specs.declared.command.Command.{Command}
 use Rattle.fdc_commands.specs.declared.command.Command.TheVariants as command
-use Rattle.fdc_commands.specs.Seeking.{seek_bits, sensed, has_ended_seek, without_ended}
 use Rattle.fdc_stages.specs.declared.ending.Ending.{Ending}
 use Rattle.fdc_core.specs.Commands.{answered, sensing_by, BeginsData, Begins, ObeysAtRest, Obeys, TakesAs, Takes}
 use Rattle.fdc_core.specs.Ports.{is_taking, Writes}
 use Rattle.fdc_phases.specs.Rates.{rate_chosen}
-use Rattle.fdc_core.specs.State.{reset}
-use Rattle.fdc_core.specs.Whole.{ending_told, given_up_if, given_up, without_seek}
-use Rattle.fdc_core.specs.declared.controller.Fdc.{Fdc}
 use Rattle.fdc_core.specs.declared.controller.Lines.{Lines}
 
 either_way : {P : Type 0} (b : Bool) → (b ≡ true → P) → (b ≡ false → P) → P
@@ -47,18 +41,13 @@ sensing_rate old None = refl
 sensing_rate old (Some (status, cylinder)) = refl
 
 at_rest : (command : Command) (lines : Lines) (old new : Fdc) → ObeysAtRest command lines old new → data_rate new ≡ data_rate old
-at_rest (command.Specify x y) lines old new after = ap data_rate after
-at_rest (command.SenseDrive x) lines old new after = ap data_rate after
-at_rest (command.Recalibrate x) lines old new after = ap data_rate after
 at_rest command.SenseInterrupt lines old new after = ap data_rate after ∙ sensing_rate old (sensed old.seeks)
-at_rest (command.Seek x y) lines old new after = ap data_rate after
-at_rest command.Version lines old new after = ap data_rate after
-at_rest (command.Configure x y z) lines old new after = ap data_rate after
 at_rest (command.ReadId h) lines old new after = begun_rate (command.ReadId h) old new after
 at_rest (command.ReadData h key last x y) lines old new after = begun_rate (command.ReadData h key last x y) old new after
 at_rest (command.WriteData h key last x y) lines old new after = begun_rate (command.WriteData h key last x y) old new after
 at_rest (command.WriteDeleted h key last x y) lines old new after = begun_rate (command.WriteDeleted h key last x y) old new after
 at_rest (command.FormatTrack h n sectors gap3 fill) lines old new after = begun_rate (command.FormatTrack h n sectors gap3 fill) old new after
+at_rest _ lines old new after = ap data_rate after
 
 -- what a command does while a seek bit is set, and while none is
 seek_or_rest : (command : Command) (lines : Lines) (old new : Fdc) → (seek_bits old.seeks ≡ 0 → ObeysAtRest command lines old new)
@@ -82,9 +71,8 @@ obeyed (command.FormatTrack h n sectors gap3 fill) lines old new (resting, seeki
 
 -- what bytes came to keeps the data rate
 pub taken_as : (came : Accepted) (lines : Lines) (old new : Fdc) → TakesAs came lines old new → data_rate new ≡ data_rate old
-taken_as More lines old new after = ap data_rate after
 taken_as (Ready command) lines old new after = obeyed command lines old new after
-taken_as Invalid lines old new after = ap data_rate after
+taken_as _ lines old new after = ap data_rate after
 
 -- ---- ports
 

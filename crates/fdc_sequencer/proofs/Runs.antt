@@ -1,21 +1,10 @@
 -- Device steps one by one, and those that the adapter makes at once.
-use Rattle.std.proofs.Common.{◌≡◌, ℕ, zero, suc, ◌+◌, Bool, true, false, Option, None, refl, sym, ap, subst, ◌∙◌, add-suc, arith}
-use Rattle.std.proofs.lemmas.Bool.{true≢false}
+use Rattle.std.proofs.Common.{◌≡◌, ℕ, zero, suc, ◌+◌, Bool, true, false, None, refl, sym, ap, subst, ◌∙◌, add-suc, arith}
+use Rattle.fdc_sequencer.proofs.Common.{true≢false, AdapterState, RunsTo, StepsAdapter, HoldsLines, is_executing, ending_of_phase, Phase, Execute, asks, interrupts, ending_told, mark_of, Fdc, Front, asks_at, asks_outside, interrupts_at, interrupts_outside, FollowsStep, HasLinesOutside, IsUnderWay, MovesAlong, MovesOn, StepsFront, RunsFront, is_unwanted, judged_if, passed_over_if, FrontStage, Through, Moving}
 use Rattle.std.specs.Prelude.{◌&&◌, nat_lt}
-use Rattle.fdc_sequencer.specs.Adapters.{AdapterState, LeapsAdapter, RunsWith, RunsTo, StepsAdapter}
-use Rattle.fdc_core.specs.Courses.{HoldsLines}
-use Rattle.fdc_core.specs.Listening.{is_executing}
-use Rattle.fdc_phases.specs.Phases.{ending_of_phase}
-use Rattle.fdc_phases.specs.declared.phases.Phase.{Phase}
-use Rattle.fdc_phases.specs.declared.phases.Phase.TheVariants.{Command, Execute, Result}
-use Rattle.fdc_core.specs.State.{asks, interrupts}
-use Rattle.fdc_core.specs.Whole.{ending_told, mark_of}
-use Rattle.fdc_core.specs.declared.controller.Fdc.{Fdc}
-use Rattle.fdc_sequencer.specs.Fronts.{Front, asks_at, asks_outside, interrupts_at, interrupts_outside}
-use Rattle.fdc_sequencer.specs.Moves.{FollowsStep, HasLinesOutside, IsUnderWay, LeapsFront, MovesAlong, MovesOn, StepsFront, RunsFrontWith, RunsFront, is_unwanted, judged_if, passed_over_if}
+use Rattle.fdc_sequencer.specs.Adapters.{LeapsAdapter, RunsWith}
+use Rattle.fdc_sequencer.specs.Moves.{LeapsFront, RunsFrontWith}
 use Rattle.fdc_sequencer.specs.declared.stage.Moving.{Moving as MovingSector}
-use Rattle.fdc_sequencer.specs.declared.stage.FrontStage.{FrontStage}
-use Rattle.fdc_sequencer.specs.declared.stage.FrontStage.TheVariants.{Through, Moving}
 
 pub runs_none : (int drq : Bool) (front : Front) → RunsFrontWith int drq 0 front front
 unfolding RunsFrontWith
@@ -86,8 +75,7 @@ runs_one none old between new is leaps step =
 -- a data command in execution hasn't ended
 pub executing_goes : (phase : Phase) → is_executing phase ≡ true → ending_of_phase phase ≡ None
 executing_goes (Execute execution) is = refl
-executing_goes Command is = absurd (true≢false (sym is))
-executing_goes (Result answer) is = absurd (true≢false (sym is))
+executing_goes _ is = absurd (true≢false (sym is))
 
 -- a device step of the adapter in which nothing ends and no mark is met is a device step of the front
 under_way_step : (front : Front) (mid : AdapterState) → IsUnderWay front → StepsAdapter front.adapter mid → HoldsLines front.adapter.controller mid.controller

@@ -1,21 +1,13 @@
 -- Device steps of a front in which nothing is done.
 use Rattle.std.proofs.Common.{◌≡◌, Bool, Option, true, sym, ap, ◌∙◌, subst}
-use Rattle.std.proofs.lemmas.Bool.{true≢false}
-use Rattle.fdc_sequencer.specs.Adapters.{AdapterState}
-use Rattle.fdc_sequencer.specs.AdapterStill.{Stands}
-use Rattle.fdc_core.specs.Whole.{mark_of}
-use Rattle.fdc_sequencer.specs.Fronts.{Front, KeepsFront}
-use Rattle.fdc_sequencer.specs.Moves.{FollowsStep, StepsFront}
+use Rattle.fdc_sequencer.proofs.Common.{true≢false, AdapterState, Stands, mark_of, Front, KeepsFront, FollowsStep, StepsFront, FrontStage, Seeking, Moving}
 use Rattle.fdc_sequencer.specs.Still.{StandsFront, rests_at}
-use Rattle.fdc_sequencer.specs.declared.stage.FrontStage.{FrontStage}
-use Rattle.fdc_sequencer.specs.declared.stage.FrontStage.TheVariants.{Through, Seeking, Moving, Telling}
 
 -- nothing is done after the adapter's step
 follows_none : (mark : Option Bool) (stage : FrontStage) (old new : Front) → rests_at stage ≡ true → FollowsStep mark stage old new → new ≡ old
-follows_none mark Through old new rests follows = follows
-follows_none mark (Telling results) old new rests follows = follows
 follows_none mark (Seeking transfer counted) old new rests follows = absurd (true≢false (sym rests))
 follows_none mark (Moving moving) old new rests follows = absurd (true≢false (sym rests))
+follows_none mark _ old new rests follows = follows
 
 -- the device step is the adapter's alone
 rests_on : (old new : Front) (step : StepsFront old new) → rests_at old.stage ≡ true → new ≡ record old { adapter = step.between }

@@ -1,8 +1,6 @@
 -- A SENSE INTERRUPT whose results are read at once.
 use Rattle.std.specs.Prelude.{ℕ, false, Option, Some, None, [], if◌then◌else◌}
-use Rattle.fdc_commands.specs.Seeking.{sensed, after_sense}
-use Rattle.fdc_core.specs.Whole.{is_idle}
-use Rattle.fdc_core.specs.declared.controller.Fdc.{Fdc}
+use Rattle.fdc_sequencer.specs.Common.{sensed, after_sense, is_idle, Fdc}
 use Rattle.fdc_phases.specs.declared.phases.Phase.TheVariants.{Command}
 
 -- what SENSE INTERRUPT would give: ST0 of the lowest drive with a pending result, and its present cylinder number

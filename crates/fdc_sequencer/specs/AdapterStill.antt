@@ -1,7 +1,6 @@
 -- A controller that does nothing, or whose heads only move.
 use Rattle.std.specs.Prelude.{◌≡◌, ℕ, ◌==◌, if◌then◌else◌}
-use Rattle.fdc_commands.specs.Seeking.{pulses_ahead}
-use Rattle.fdc_core.specs.declared.controller.Fdc.{Fdc}
+use Rattle.fdc_sequencer.specs.Common.{pulses_ahead, Fdc}
 use Rattle.fdc_sequencer.specs.Adapters.{AdapterState, StepsAdapter, selected_at}
 
 -- each device step leaves the controller as it is, whatever the drives are and do

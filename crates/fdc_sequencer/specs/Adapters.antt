@@ -1,15 +1,8 @@
 -- A controller with two drives, as contracts see it.
 use Rattle.std.specs.Prelude.{◌≡◌, ◌≤◌, zero, suc, ℕ, ◌==◌, if◌then◌else◌, false, not, ◌&&◌, Bool, true, Option, Some, None}
-use Rattle.drive_model.specs.Drive.{DriveState, with_motor}
-use Rattle.fdc_core.specs.Courses.{HoldsLines}
-use Rattle.fdc_core.specs.Dma.{byte_out, taken_out, taken_in, to_memory_of}
-use Rattle.fdc_core.specs.Ports.{Writes}
-use Rattle.fdc_core.specs.State.{at_power_up, asks, interrupts}
-use Rattle.fdc_core.specs.declared.controller.Fdc.{Fdc}
-use Rattle.fdc_core.specs.declared.controller.Lines.{Lines}
+use Rattle.fdc_sequencer.specs.Common.{DriveState, with_motor, HoldsLines, byte_out, taken_out, taken_in, to_memory_of, Writes, at_power_up, asks, interrupts, Fdc, Lines, PassesWordTime}
 use Rattle.fdc_core.specs.Drives.Following.{FollowsWrite}
 use Rattle.fdc_core.specs.Drives.Lines.{lines_of_selected, selected_by}
-use Rattle.fdc_core.specs.Drives.WordTimes.{PassesWordTime}
 use Rattle.fdc_sequencer.specs.declared.adapter.DisketteAdapter.{DisketteAdapter}
 
 -- the controller and the states of both drives

@@ -1,22 +1,10 @@
 -- A controller with its drives and what stands in front of it, as contracts see them: their state, their lines, port
 -- accesses, commands, and their side of the channel.
-use Rattle.std.specs.Prelude.{◌≡◌, ℕ, ◌+◌, ◌-◌, ◌%◌, Bool, true, false, not, ◌==◌, ◌&&◌, ◌||◌, List, [], ◌∷◌, ◌++◌, Option, Some, None, if◌then◌else◌, nat_le, nat_lt, get_or, bit_and}
-use Rattle.std.specs.Int.RustNames.{bit_or}
-use Rattle.drive_model.specs.Drive.{DriveState}
+use Rattle.std.specs.Prelude.{◌≡◌, ℕ, ◌-◌, ◌%◌, Bool, true, false, not, ◌==◌, ◌&&◌, [], Option, Some, None, if◌then◌else◌, nat_lt}
+use Rattle.fdc_sequencer.specs.Common.{bit_or, DriveState, Command, Seek, Results, Chrn, byte_out, taken_out, taken_in, told_count, to_memory_of, ReadsField, is_executing, value_read, main_status, resets, asks, interrupts, is_gated, is_idle, TakesWhole, given_up, results_waiting, Fdc}
 use Rattle.fdc_registers.specs.Msr.{rqm, dio, busy}
 use Rattle.fdc_commands.specs.declared.bytes.Accepted.{Accepted}
 use Rattle.fdc_commands.specs.declared.bytes.Accepted.TheVariants.{Ready}
-use Rattle.fdc_commands.specs.declared.command.Command.{Command}
-use Rattle.fdc_commands.specs.declared.command.Command.TheVariants.{Seek}
-use Rattle.fdc_commands.specs.declared.results.Results.{Results}
-use Rattle.flop_base.specs.declared.key.Chrn.{Chrn}
-use Rattle.fdc_core.specs.Dma.{byte_out, taken_out, taken_in, told_count, to_memory_of}
-use Rattle.fdc_core.specs.Fields.{ReadsField}
-use Rattle.fdc_core.specs.Listening.{is_executing}
-use Rattle.fdc_core.specs.Ports.{value_read, main_status, resets}
-use Rattle.fdc_core.specs.State.{asks, interrupts, is_gated}
-use Rattle.fdc_core.specs.Whole.{is_idle, TakesWhole, given_up, results_waiting}
-use Rattle.fdc_core.specs.declared.controller.Fdc.{Fdc}
 use Rattle.fdc_sequencer.specs.Adapters.{AdapterState, adapter_state, adapter_with_drive, lines_at, IsNewAdapter, WritesAdapter, Takes, Gives}
 use Rattle.fdc_sequencer.specs.declared.adapter.DisketteAdapter.{DisketteAdapter}
 use Rattle.fdc_sequencer.specs.Transfers.{transfer_with, command_of, size_of}

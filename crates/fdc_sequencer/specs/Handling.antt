@@ -1,7 +1,7 @@
 -- What is done by hand to the media in the bays. The drive in the other bay doesn't change.
 use Rattle.std.specs.Prelude.{◌≡◌, ◌↔◌, ℕ, ◌-◌, false, Option, Some, Result, IsErr, IsSome, OnOk, IfOk, IfErr}
 use Rattle.raw_image.specs.Disk.{Disk}
-use Rattle.drive_model.specs.Drive.{DriveState, loaded, unloaded, same_length, exchanged}
+use Rattle.fdc_sequencer.specs.Common.{DriveState, loaded, unloaded, same_length, exchanged}
 use Rattle.fdc_sequencer.specs.Adapters.{AdapterState, drive_at}
 
 -- a medium is put in, of which no word was replaced yet. If one is in already, the new one is given back

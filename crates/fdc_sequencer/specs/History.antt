@@ -1,7 +1,6 @@
 -- What a command heard and moved, after the channel was served.
 use Rattle.std.specs.Prelude.{ℕ, Bool, true, false, Option, Some, None}
-use Rattle.fdc_stages.specs.History.{Past}
-use Rattle.fdc_phases.specs.Heard.{gave}
+use Rattle.fdc_sequencer.specs.Common.{Past, gave}
 use Rattle.fdc_phases.specs.Written.{took}
 
 -- a byte went to memory, or none did

@@ -1,3 +1,4 @@
+pub mod Common
 pub mod WordTimes
 pub mod Adapters
 pub mod Handling

@@ -1,11 +1,8 @@
 -- Device steps of a controller and what stands in front of it: a sector ends, and the next begins or the host reads
 -- results.
 use Rattle.std.specs.Prelude.{◌≡◌, ◌≤◌, ℕ, zero, suc, Bool, true, false, not, ◌==◌, ◌&&◌, ◌||◌, Option, Some, None, if◌then◌else◌}
-use Rattle.fdc_commands.specs.Seeking.{has_ended_seek}
-use Rattle.fdc_stages.specs.declared.ending.Ending.{Ending}
+use Rattle.fdc_sequencer.specs.Common.{has_ended_seek, Ending, Results, ending_told, given_up, mark_of, without_seek}
 use Rattle.fdc_stages.specs.declared.ending.Ending.TheVariants.{Done, BadCheck, NoCount}
-use Rattle.fdc_commands.specs.declared.results.Results.{Results}
-use Rattle.fdc_core.specs.Whole.{ending_told, given_up, mark_of, without_seek}
 use Rattle.fdc_sequencer.specs.Adapters.{AdapterState, StepsAdapter}
 use Rattle.fdc_sequencer.specs.Fronts.{Front, with_controller, told_if, BeginsSector, interrupts_outside, asks_outside}
 use Rattle.fdc_sequencer.specs.Transfers.{next_of, is_last, is_other, other_mark, is_skipping, results_told, size_of}

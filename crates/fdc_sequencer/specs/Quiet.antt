@@ -1,10 +1,6 @@
 -- For how many device steps a command that is executed surely changes neither line, and how large the number is.
 use Rattle.std.specs.Prelude.{◌≡◌, ◌⊎◌, ◌≤◌, ℕ, zero, suc, min, Bool, true, false, not, if◌then◌else◌, None}
-use Rattle.drive_model.specs.Drive.{DriveState}
-use Rattle.fdc_core.specs.Listening.{is_executing}
-use Rattle.fdc_core.specs.Quiet.{Foresees, IsLongest, IsQuietBy}
-use Rattle.fdc_core.specs.Whole.{mark_of}
-use Rattle.fdc_core.specs.declared.controller.Fdc.{Fdc}
+use Rattle.fdc_sequencer.specs.Common.{DriveState, is_executing, Foresees, IsLongest, IsQuietBy, mark_of, Fdc}
 use Rattle.fdc_sequencer.specs.Adapters.{AdapterState, drive_at, selected_at}
 use Rattle.fdc_sequencer.specs.AdapterStill.{steps_ahead}
 use Rattle.fdc_sequencer.specs.Fronts.{Front, asks_outside, interrupts_outside, results_outside}

@@ -1,8 +1,7 @@
 -- The controller of the sequencer, for a layer in front of the sequencer that keeps the results of seeks itself.
 use Rattle.std.specs.Prelude.{ℕ, Option, None}
 use Rattle.fdc_sequencer.specs.AdapterSenses.{pending_result, after_result}
-use Rattle.fdc_core.specs.Whole.{recalibrated_within}
-use Rattle.fdc_core.specs.declared.controller.Fdc.{Fdc}
+use Rattle.fdc_sequencer.specs.Common.{recalibrated_within, Fdc}
 use Rattle.fdc_sequencer.specs.Fronts.{Front, with_controller}
 use Rattle.fdc_sequencer.specs.declared.stage.FrontStage.{FrontStage}
 use Rattle.fdc_sequencer.specs.declared.stage.FrontStage.TheVariants.{Through}

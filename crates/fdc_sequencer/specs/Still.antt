@@ -1,6 +1,6 @@
 -- A front in which nothing is done.
 use Rattle.std.specs.Prelude.{Bool, true, false, if◌then◌else◌}
-use Rattle.fdc_core.specs.Courses.{is_at_rest}
+use Rattle.fdc_sequencer.specs.Common.{is_at_rest}
 use Rattle.fdc_sequencer.specs.Fronts.{Front, KeepsFront}
 use Rattle.fdc_sequencer.specs.Moves.{StepsFront}
 use Rattle.fdc_sequencer.specs.declared.stage.FrontStage.{FrontStage}

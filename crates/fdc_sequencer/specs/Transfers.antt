@@ -1,14 +1,9 @@
 -- A command of several sectors, as it stands at one of them.
-use Rattle.std.specs.Prelude.{ℕ, ◌+◌, ◌%◌, Bool, true, false, not, ◌==◌, ◌&&◌, ◌||◌, Option, Some, None, if◌then◌else◌, bit_and}
+use Rattle.std.specs.Prelude.{ℕ, ◌+◌, ◌%◌, Bool, true, false, not, ◌==◌, ◌&&◌, ◌||◌, if◌then◌else◌, bit_and}
 use Rattle.std.specs.Int.Bits.{bit_xor}
-use Rattle.std.specs.Int.RustNames.{bit_or}
-use Rattle.flop_base.specs.declared.key.Chrn.{Chrn}
+use Rattle.fdc_sequencer.specs.Common.{bit_or, Chrn, Command, ReadData, WriteData, WriteDeleted, Results, Ending}
 use Rattle.fdc_registers.specs.St0.{seek_end}
 use Rattle.fdc_registers.specs.St2.{control_mark}
-use Rattle.fdc_commands.specs.declared.command.Command.{Command}
-use Rattle.fdc_commands.specs.declared.command.Command.TheVariants.{ReadData, WriteData, WriteDeleted}
-use Rattle.fdc_commands.specs.declared.results.Results.{Results}
-use Rattle.fdc_stages.specs.declared.ending.Ending.{Ending}
 use Rattle.fdc_phases.specs.Answers.{results_of}
 use Rattle.fdc_sequencer.specs.declared.opcode.Opcode.{Opcode}
 use Rattle.fdc_sequencer.specs.declared.opcode.Operation.{Operation}

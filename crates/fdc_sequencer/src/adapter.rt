@@ -2,16 +2,9 @@
 ghost use Rattle.std.specs.Prelude.{◌≡◌, ◌≤◌, ◌%◌, Bool, IfOk, IsTrue, IsFalse, true};
 ghost use Rattle.fdc_sequencer.specs.WordTimes.{nanoseconds};
 ghost use Rattle.fdc_sequencer.specs.History.{gave_if, took_if};
-ghost use Rattle.fdc_core.specs.Dma.{told_count, to_memory_of};
+ghost use Rattle.fdc_sequencer.specs.Common.{told_count, to_memory_of, Sent, told_in, is_executing, value_read, after_read, Writes, asks, interrupts, dor_of, data_rate, Past, WordTimes, LinesValue};
 ghost use Rattle.fdc_core.specs.Heard.{MayRead};
-ghost use Rattle.fdc_phases.specs.Heard.{Sent, told_in};
-ghost use Rattle.fdc_core.specs.Listening.{is_executing};
-ghost use Rattle.fdc_core.specs.Ports.{value_read, after_read, Writes};
-ghost use Rattle.fdc_core.specs.State.{asks, interrupts, dor_of, data_rate};
 ghost use Rattle.fdc_core.specs.Written.{KeepsKnown, MayWrite};
-ghost use Rattle.fdc_stages.specs.History.{Past};
-ghost use Rattle.fdc_core.specs.Drives.WordTimes.{WordTimes};
-ghost use Rattle.fdc_core.specs.declared.controller.Lines.{Lines as LinesValue};
 
 mod bays;
 mod rates;

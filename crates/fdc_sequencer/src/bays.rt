@@ -1,6 +1,6 @@
 // The bays, which are those of the adapter.
 ghost use Rattle.std.specs.Prelude.{◌≡◌, ◌≤◌};
-ghost use Rattle.drive_model.specs.Drive.{forgotten};
+ghost use Rattle.fdc_sequencer.specs.Common.{forgotten};
 ghost use Rattle.fdc_sequencer.specs.Adapters.{drive_at};
 ghost use Rattle.fdc_sequencer.specs.Handling.{PutsIn, TakesOut, Sets};
 ghost use Rattle.fdc_sequencer.specs.Fronts.{front_state, adapter_of, KeepsFront};

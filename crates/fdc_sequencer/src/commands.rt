@@ -1,6 +1,6 @@
 // Whole commands, and their results.
 ghost use Rattle.std.specs.Prelude.{◌≡◌};
-ghost use Rattle.fdc_core.specs.Commands.{status_of_lines};
+ghost use Rattle.fdc_sequencer.specs.Common.{status_of_lines};
 ghost use Rattle.fdc_sequencer.specs.Adapters.{lines_at, SameDrives};
 ghost use Rattle.fdc_sequencer.specs.Fronts.{front_state, adapter_of, is_ready, is_through, results_outside, results_taken, Commands, GivesCommand, GivesTransfer, SeeksFirst, Starts};
 

@@ -1,9 +1,7 @@
 // Device steps: how a sector ends and the next begins.
 ghost use Rattle.std.specs.Prelude.{◌≡◌, true};
 ghost use Rattle.fdc_sequencer.specs.Adapters.{controller_of};
-ghost use Rattle.fdc_core.specs.Whole.{ending_told};
-ghost use Rattle.fdc_commands.specs.Seeking.{has_ended_seek};
-ghost use Rattle.fdc_core.specs.Listening.{is_executing};
+ghost use Rattle.fdc_sequencer.specs.Common.{ending_told, has_ended_seek, is_executing};
 ghost use Rattle.fdc_sequencer.specs.Fronts.{front_state, adapter_of, told_if, begun_if, BeginsSector, moving_of};
 ghost use Rattle.fdc_sequencer.specs.Moves.{StepsFront, FollowsStep, MovesOn, EndsSector, SeeksOn, passed_over_if, would_go_on, goes_on, is_unwanted, judged, judged_if, results_behind, results_failed, has_met_other, has_failed_other, is_bad_other};
 

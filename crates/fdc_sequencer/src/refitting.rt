@@ -1,6 +1,6 @@
 // What is done to a drive by hand: to the tab of its medium, to the medium itself, and to the whole drive.
 ghost use Rattle.std.specs.Prelude.{◌≡◌, ◌≤◌, ◌-◌};
-ghost use Rattle.drive_model.specs.Drive.{with_protection};
+ghost use Rattle.fdc_sequencer.specs.Common.{with_protection};
 ghost use Rattle.fdc_sequencer.specs.Adapters.{drive_held};
 ghost use Rattle.fdc_sequencer.specs.Handling.{Exchanges, Sets};
 ghost use Rattle.fdc_sequencer.specs.Fronts.{front_state, front_with_drive, adapter_of, KeepsFront};

@@ -1,7 +1,7 @@
 // What a layer in front of the sequencer uses that keeps the results of seeks itself.
 ghost use Rattle.std.specs.Prelude.{◌≡◌};
 ghost use Rattle.fdc_sequencer.specs.Adapters.{controller_of, SameDrives};
-ghost use Rattle.fdc_core.specs.State.{is_gated};
+ghost use Rattle.fdc_sequencer.specs.Common.{is_gated};
 ghost use Rattle.fdc_sequencer.specs.Fronts.{front_state, adapter_of};
 ghost use Rattle.fdc_sequencer.specs.Senses.{pending_outside, recalibrated_outside, sensed_outside};
 

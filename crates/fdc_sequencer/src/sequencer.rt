@@ -1,9 +1,7 @@
 // The state, and the lines that are seen outside.
 ghost use Rattle.std.specs.Prelude.{◌≡◌, ◌≤◌, IfOk, IsTrue, IsFalse, true, false, not, if◌then◌else◌, None};
 ghost use Rattle.fdc_sequencer.specs.Adapters.{controller_of, SameDrives};
-ghost use Rattle.fdc_core.specs.Dma.{to_memory_of};
-ghost use Rattle.fdc_core.specs.Listening.{is_executing};
-ghost use Rattle.fdc_core.specs.Whole.{ending_told, mark_of};
+ghost use Rattle.fdc_sequencer.specs.Common.{to_memory_of, is_executing, ending_told, mark_of};
 ghost use Rattle.fdc_sequencer.specs.Fronts.{front_state, adapter_of, IsNewFront, interrupts_outside, asks_outside};
 ghost use Rattle.fdc_sequencer.specs.Moves.{HasLinesOutside, IsUnderWay, LeapsFront, RunsFront, RunsFrontWith, is_unwanted};
 

@@ -1,7 +1,6 @@
 // Whether anything is done, how long the lines surely stay, and the ranges of the numbers.
 ghost use Rattle.std.specs.Prelude.{◌≡◌, ◌<◌, ◌≤◌, false, true, min};
-ghost use Rattle.fdc_core.specs.Listening.{is_executing};
-ghost use Rattle.fdc_core.specs.Ranges.{IsInRange};
+ghost use Rattle.fdc_sequencer.specs.Common.{is_executing, IsInRange};
 ghost use Rattle.fdc_sequencer.specs.AdapterStill.{steps_ahead};
 ghost use Rattle.fdc_sequencer.specs.Fronts.{front_state};
 ghost use Rattle.fdc_sequencer.specs.Quiet.{ForeseesBehind, GoesAlongFor, IsInCommand, IsLongestBehind, IsQuietBehind, executes_at, seeks_at};

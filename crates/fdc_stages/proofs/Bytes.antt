@@ -1,13 +1,8 @@
 -- The bytes of a content, one after the other.
 use Rattle.std.proofs.Common.{◌≡◌, ◌≤◌, ℕ, Bool, false, Option, None, Some, IfSome, IsNone, List, [], ◌∷◌, ◌++◌, arith, refl, sym, ap, subst}
 use Rattle.track_separator.specs.declared.state.Seen.TheVariants as seen
-use Rattle.track_separator.specs.declared.state.Separator.{Separator}
-use Rattle.track_separator.specs.Parts.{with_word}
-use Rattle.track_separator.specs.Waits.{SReads, SReadSeen}
-use Rattle.track_model.specs.Fields.{content_size}
-use Rattle.fdc_stages.specs.declared.reading.ReadStage.{ReadStage}
-use Rattle.fdc_stages.specs.declared.reading.ReadStage.TheVariants.{Content}
-use Rattle.fdc_stages.specs.Readings.{HearsByte, HearsBytes, IsContent, IsWhole}
+use Rattle.fdc_stages.proofs.Common.{Separator, with_word, SReads, SReadSeen, content_size, ReadStage, Content, HearsByte, IsContent}
+use Rattle.fdc_stages.specs.Readings.{HearsBytes, IsWhole}
 use Rattle.fdc_stages.proofs.Lawful.{told_taken}
 use Rattle.fdc_stages.proofs.ReadWord.{byte_heard}
 

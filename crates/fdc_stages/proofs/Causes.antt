@@ -1,15 +1,6 @@
 -- What the ending of a reading says of the words heard.
 use Rattle.std.proofs.Common.{◌≡◌, ℕ, Bool, true, false, Option, None, List, [], ◌++◌, length, refl, sym, subst, ◌∙◌, inl, inr}
-use Rattle.std.proofs.lemmas.List.{append-nil}
-use Rattle.flop_base.specs.declared.key.Chrn.{Chrn}
-use Rattle.track_model.specs.Fields.{IsSizeCode, content_size}
-use Rattle.track_separator.specs.declared.state.Separator.{Separator}
-use Rattle.track_separator.proofs.Lawful.{whole_part, field_stays, address_stays, no_data_stays}
-use Rattle.fdc_stages.specs.declared.ending.Ending.{Ending}
-use Rattle.fdc_stages.specs.declared.ending.Ending.TheVariants.{Done, NoMark, NoSector, NoField, BadCheck, Overrun, NoCount, Protected, Late}
-use Rattle.fdc_stages.specs.History.{Past, IsTurn, IsTurnIn, IsAmong}
-use Rattle.fdc_stages.specs.Searches.{IsMet, IsBetween, IsMissed}
-use Rattle.fdc_stages.specs.Readings.{IsStart, HasNoField, IsFieldOver, HasRead}
+use Rattle.fdc_stages.proofs.Common.{append-nil, Chrn, IsSizeCode, content_size, Separator, whole_part, field_stays, address_stays, no_data_stays, Ending, Done, NoMark, NoSector, BadCheck, Past, IsTurn, IsTurnIn, IsAmong, IsMet, IsBetween, IsMissed, IsStart, HasNoField, IsFieldOver, HasRead}
 use Rattle.fdc_stages.specs.Findings.{FindsSector, HasAddress, HasIdentified, FindsBadCheck, FindsNoField, FindsNoMark, FindsNoSector}
 use Rattle.fdc_stages.proofs.Lawful.{start_full, over_full}
 
@@ -70,13 +61,7 @@ no_sector_of past wanted (missed, marked) = (marked, (missed.between, missed.is,
 pub identified_of : (past : Past) (key : Chrn) (ending : Ending) → IsMissed past None ending → HasIdentified past key ending
 identified_of past key NoMark missed = missed
 identified_of past key NoSector missed = missed
-identified_of past key (Done deleted) missed = absurd missed
-identified_of past key NoField missed = absurd missed
-identified_of past key BadCheck missed = absurd missed
-identified_of past key Overrun missed = absurd missed
-identified_of past key NoCount missed = absurd missed
-identified_of past key Protected missed = absurd missed
-identified_of past key Late missed = absurd missed
+identified_of past key _ missed = absurd missed
 
 -- an address field that was met stands in the words heard
 pub met_heard : (index : Bool) (past : Past) (key : Chrn) (separator : Separator) → IsMet index past key separator → HasAddress past key

@@ -1,24 +1,8 @@
 -- What the ending of a writing or of a format says of the words written.
 use Rattle.std.proofs.Common.{take, length-append, refl, ◌++◌, ◌≡◌, ℕ, ◌+◌, ◌*◌, ◌≤◌, Bool, List, length, sym, ap, subst, ◌∙◌, arith, inl, inr}
-use Rattle.std.proofs.lemmas.List.{take_at, take_all, append-nil, drop_all}
-use Rattle.flop_base.specs.declared.key.Chrn.{Chrn}
-use Rattle.track_model.specs.Fields.{content_size}
-use Rattle.track_model.specs.Writing.{window}
-use Rattle.track_model.specs.Layouts.{laid_words, lay}
+use Rattle.fdc_stages.proofs.Common.{take_at, take_all, append-nil, drop_all, Chrn, content_size, window, laid_words, lay, window_word, address_stays, length-key_bytes, Ending, Done, Overrun, Protected, Late, Past, WriteStage, FormatPart, Await, Due, Lay, Barred, FormatStage, IsStopped, IsWriting, IsFirstOf, HasBegun, HasWritten, IsWhole, WritesCut, WritesFirst, WritesWhole, Numbers, keys_from, IsAtPart, IsFormatting, IsBehindIndex, HasLaid, HasFormatted, LaysWhole}
 use Rattle.flop_base.specs.Lists.{with_items}
-use Rattle.track_model.specs.Windows.{window_word}
-use Rattle.track_separator.proofs.Lawful.{address_stays}
-use Rattle.track_format.proofs.Asked.{length-key_bytes}
-use Rattle.fdc_stages.specs.declared.ending.Ending.{Ending}
-use Rattle.fdc_stages.specs.declared.ending.Ending.TheVariants.{Done, NoMark, NoSector, NoField, BadCheck, Overrun, NoCount, Protected, Late}
-use Rattle.fdc_stages.specs.History.{Past}
-use Rattle.fdc_stages.specs.declared.writing.WriteStage.{WriteStage}
 use Rattle.fdc_stages.specs.declared.writing.WriteStage.TheVariants as stage
-use Rattle.fdc_stages.specs.declared.formatting.FormatPart.{FormatPart}
-use Rattle.fdc_stages.specs.declared.formatting.FormatPart.TheVariants.{Await, Due, Lay, Barred}
-use Rattle.fdc_stages.specs.declared.formatting.FormatStage.{FormatStage}
-use Rattle.fdc_stages.specs.Writings.{IsStopped, IsWriting, IsFirstOf, HasBegun, HasWritten, IsWhole, WritesCut, WritesFirst, WritesWhole}
-use Rattle.fdc_stages.specs.Formats.{Numbers, keys_from, IsAtPart, IsFormatting, IsBehindIndex, HasLaid, HasFormatted, LaysWhole}
 use Rattle.fdc_stages.proofs.Keyed.{length-keys_from, some_keys}
 use Rattle.fdc_stages.proofs.Windowed.{begun_in}
 use Rattle.fdc_stages.proofs.Turned.{laid_begun}
@@ -26,20 +10,14 @@ use Rattle.fdc_stages.proofs.Turned.{laid_begun}
 -- ---- a command that is stopped
 
 writing_begun : (now : WriteStage) (past : Past) (key : Chrn) (deleted : Bool) (handed : List ℕ) → IsWriting past key deleted handed now → HasBegun past key deleted handed
-writing_begun (stage.Search searching) past key deleted handed (at, (was, none)) = inl none
-writing_begun (stage.Gap left) past key deleted handed (at, (was, none)) = inl none
 writing_begun (stage.Window now) past key deleted handed (at, ((p, was), some)) = inr (p, begun_in past.seen past.words key deleted handed _ p some was)
+writing_begun _ past key deleted handed (at, (was, none)) = inl none
 
 pub stopped_written : (ending : Ending) (now : WriteStage) (past : Past) (key : Chrn) (deleted : Bool) (handed : List ℕ) → IsWriting past key deleted handed now → IsStopped past ending → HasWritten past key deleted handed ending
 stopped_written Overrun now past key deleted handed was stopped = record { begun = writing_begun now past key deleted handed was; cause = stopped }
 stopped_written Late now past key deleted handed was stopped = record { begun = writing_begun now past key deleted handed was; cause = stopped }
 stopped_written Protected now past key deleted handed was stopped = record { begun = writing_begun now past key deleted handed was; cause = stopped }
-stopped_written (Done marked) now past key deleted handed was stopped = absurd stopped
-stopped_written NoMark now past key deleted handed was stopped = absurd stopped
-stopped_written NoSector now past key deleted handed was stopped = absurd stopped
-stopped_written NoField now past key deleted handed was stopped = absurd stopped
-stopped_written BadCheck now past key deleted handed was stopped = absurd stopped
-stopped_written NoCount now past key deleted handed was stopped = absurd stopped
+stopped_written _ now past key deleted handed was stopped = absurd stopped
 
 part_behind : (part : FormatPart) (past : Past) → IsAtPart past.turns past.seen past.place past.words past.barred part → IsBehindIndex past
 part_behind Await past (turns, none) = inl none
@@ -54,12 +32,7 @@ pub stopped_formatted : (ending : Ending) (now : FormatStage) (past : Past) (num
 stopped_formatted Overrun now past numbers handed was stopped = record { begun = format_begun now past numbers handed was; cause = stopped }
 stopped_formatted Late now past numbers handed was stopped = record { begun = format_begun now past numbers handed was; cause = stopped }
 stopped_formatted Protected now past numbers handed was stopped = record { begun = format_begun now past numbers handed was; cause = stopped }
-stopped_formatted (Done marked) now past numbers handed was stopped = absurd stopped
-stopped_formatted NoMark now past numbers handed was stopped = absurd stopped
-stopped_formatted NoSector now past numbers handed was stopped = absurd stopped
-stopped_formatted NoField now past numbers handed was stopped = absurd stopped
-stopped_formatted BadCheck now past numbers handed was stopped = absurd stopped
-stopped_formatted NoCount now past numbers handed was stopped = absurd stopped
+stopped_formatted _ now past numbers handed was stopped = absurd stopped
 
 -- ---- the words written
 

@@ -1,19 +1,10 @@
 -- A word that a writing hears before its window.
 use Rattle.std.proofs.Common.{◌≡◌, ℕ, zero, suc, ◌+◌, ◌-◌, ◌≤◌, Bool, true, false, Some, List, [], ◌∷◌, length, refl, sym, ap, subst, arith, inl, length-append}
-use Rattle.std.proofs.lemmas.Bool.{false≢true}
-use Rattle.flop_base.specs.declared.key.Chrn.{Chrn}
-use Rattle.track_model.specs.Windows.{window_word}
-use Rattle.track_separator.specs.declared.state.Separator.{Separator}
-use Rattle.track_separator.specs.Parts.{EndsInLast, with_word}
-use Rattle.track_separator.proofs.Lawful.{part_with_word, address_stays}
-use Rattle.fdc_stages.specs.declared.ending.Ending.{Ending}
-use Rattle.fdc_stages.specs.declared.ending.Ending.TheVariants.{Done, NoMark, NoSector, NoField, BadCheck, Overrun, NoCount, Protected, Late}
+use Rattle.fdc_stages.proofs.Common.{false≢true, Chrn, window_word, Separator, EndsInLast, with_word, part_with_word, address_stays, Ending, NoMark, NoSector, NoField, Past, heard, IsSearching, IsMet, IsMissed, opens, heard_where, IsWriting, HasWritten}
 use Rattle.fdc_stages.specs.declared.searching.Search.{Search}
-use Rattle.fdc_stages.specs.History.{Past, heard}
-use Rattle.fdc_stages.specs.Searches.{IsSearching, IsMet, IsMissed}
 use Rattle.fdc_stages.specs.declared.writing.WriteStage.TheVariants as stage
 use Rattle.fdc_stages.specs.declared.writing.WriteNext.{WriteNext}
-use Rattle.fdc_stages.specs.Writings.{opens, heard_where, IsWriting, HasWritten, HasNext}
+use Rattle.fdc_stages.specs.Writings.{HasNext}
 
 -- nothing was written, so all words that have passed since the index pulse are words heard
 heard_place : (index : Bool) (word : ℕ) (past : Past) → past.place ≡ length past.seen + length past.words → past.words ≡ [] → (heard index word past).place ≡ length (heard index word past).seen + length past.words
@@ -36,13 +27,7 @@ search_on index word past key deleted before after (at, (was, none)) searching =
 pub search_missed : (past : Past) (key : Chrn) (deleted : Bool) (ending : Ending) → past.words ≡ [] → IsMissed past (Some key) ending → HasWritten past key deleted [] ending
 search_missed past key deleted NoMark none missed = record { begun = inl (none, refl); cause = (none, missed) }
 search_missed past key deleted NoSector none missed = record { begun = inl (none, refl); cause = (none, missed) }
-search_missed past key deleted (Done marked) none missed = absurd missed
-search_missed past key deleted NoField none missed = absurd missed
-search_missed past key deleted BadCheck none missed = absurd missed
-search_missed past key deleted Overrun none missed = absurd missed
-search_missed past key deleted NoCount none missed = absurd missed
-search_missed past key deleted Protected none missed = absurd missed
-search_missed past key deleted Late none missed = absurd missed
+search_missed past key deleted _ none missed = absurd missed
 
 -- ---- the address field has passed
 

@@ -1,12 +1,6 @@
 -- Sector IDs (keys), and their bytes one after the other.
 use Rattle.std.proofs.Common.{◌≡◌, ℕ, zero, suc, ◌+◌, ◌*◌, ◌≤◌, Bool, true, false, List, [], ◌∷◌, ◌++◌, length, drop, slice_index, refl, sym, ap, ◌∙◌, append_assoc, arith, length-append}
-use Rattle.std.proofs.lemmas.Bool.{false≢true}
-use Rattle.std.proofs.lemmas.List.{drop-append-le, drop-drop}
-use Rattle.std.specs.List.{flat_map}
-use Rattle.flop_base.specs.declared.key.Chrn.{Chrn}
-use Rattle.track_format.specs.Keys.{key_bytes}
-use Rattle.fdc_stages.specs.Writings.{handed_with}
-use Rattle.fdc_stages.specs.Formats.{Numbers, no_key, last_from, last_key, keys_from, AreKeys, IsLastKey}
+use Rattle.fdc_stages.proofs.Common.{false≢true, drop-append-le, drop-drop, flat_map, Chrn, key_bytes, handed_with, Numbers, no_key, last_from, last_key, keys_from, AreKeys, IsLastKey}
 
 -- ---- the sector IDs of bytes
 
@@ -53,10 +47,6 @@ key_shifts true handed before after byte is shifted was =
     ∙ sym (drop-append-le (length handed + 1) all (byte ∷ []) (omega arith))
     ∙ ap (drop (length handed + 1)) (append_assoc (key_bytes no_key) handed (byte ∷ []))
     ∙ ap (λ k. drop k (key_bytes no_key ++ (handed ++ byte ∷ []))) (sym more)
-
-pub key_stays : (takes : Bool) (handed : List ℕ) (key : Chrn) (byte : ℕ) → takes ≡ false → IsLastKey handed key → IsLastKey (handed_with takes byte handed) key
-key_stays false handed key byte is was = was
-key_stays true handed key byte is was = absurd (false≢true (sym is))
 
 last_bytes : (before : Chrn) (keys : List Chrn) → drop (length (flat_map key_bytes keys)) (key_bytes before ++ flat_map key_bytes keys) ≡ key_bytes (last_from before keys)
 last_bytes before [] = refl

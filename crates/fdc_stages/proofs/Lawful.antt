@@ -1,20 +1,9 @@
 -- Laws on what a data command has heard. What stood in a revolution still stands there as the revolution goes on, and
 -- so does what was reported of it.
 use Rattle.std.proofs.Common.{◌≡◌, ℕ, ◌+◌, ◌*◌, ◌≤◌, Bool, true, false, Option, List, [], ◌∷◌, ◌++◌, length, min, refl, sym, ap, subst, ◌∙◌, arith, inl, inr}
-use Rattle.std.proofs.lemmas.List.{append-nil, length-append, nil_from_length}
+use Rattle.fdc_stages.proofs.Common.{append-nil, length-append, nil_from_length, Chrn, byte_at, bytes_at, content_size, Separator, with_word, IsPart, part_with_word, whole_part, length-with_word, address_stays, first_stays, intact_stays, intact_stood, bytes_stay, reads_mark, reads_within, ReadStage, Search, Content, Over, Past, heard, IsTurn, HasFewTurns, words_in, words_heard, HasTurned, IsSearching, IsStart, IsReading, IsContentAt, IsFieldOver, IsOver, IsToldFrom, IsToldOf}
 use Rattle.std.proofs.lemmas.List.FromFn.{length-map-range_with_len}
-use Rattle.flop_base.specs.declared.key.Chrn.{Chrn}
-use Rattle.track_model.specs.Bytes.{byte_at, bytes_at}
-use Rattle.track_model.specs.Fields.{content_size}
-use Rattle.track_separator.specs.declared.state.Separator.{Separator}
-use Rattle.track_separator.specs.Parts.{with_word, IsPart}
-use Rattle.track_separator.proofs.Lawful.{part_with_word, whole_part, length-with_word, address_stays, first_stays, intact_stays, intact_stood, bytes_stay, reads_mark, reads_within}
 use Rattle.fdc_stages.specs.declared.searching.Search as searched
-use Rattle.fdc_stages.specs.declared.reading.ReadStage.{ReadStage}
-use Rattle.fdc_stages.specs.declared.reading.ReadStage.TheVariants.{Search, Wait, Content, Over}
-use Rattle.fdc_stages.specs.History.{Past, heard, IsTurn, HasFewTurns, words_in, words_heard}
-use Rattle.fdc_stages.specs.Searches.{HasTurned, IsSearching}
-use Rattle.fdc_stages.specs.Readings.{IsStart, IsReading, IsContentAt, IsFieldOver, IsOver, IsToldFrom, IsToldOf}
 
 -- if all words that passed were heard, the place is their number
 pub heard_place : (index : Bool) (word : ℕ) (past : Past) → past.place ≡ length past.seen → (heard index word past).place ≡ length (heard index word past).seen
@@ -111,10 +100,9 @@ content_told past key told separator deleted p q taken was =
 
 -- at each time, the bytes reported are the first of a data field of the sector ID
 pub reading_told : (past : Past) (key : Chrn) (told : List ℕ) (stage : ReadStage) → IsReading past key told stage → IsToldOf past key told
-reading_told past key told (Search searching) reads = inl reads.1
-reading_told past key told (Wait separator) reads = inl reads.1
 reading_told past key told (Content separator deleted) (p, q, taken, was) = content_told past key told separator deleted p q taken was
 reading_told past key told (Over deleted good) reads = over_told past key told deleted good reads
+reading_told past key told _ reads = inl reads.1
 
 -- no more bytes are reported than the sector has
 pub told_most : (past : Past) (key : Chrn) (told : List ℕ) → IsToldOf past key told → length told ≤ content_size key.n

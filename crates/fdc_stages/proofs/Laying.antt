@@ -1,20 +1,9 @@
 -- A word of a layout that a format writes.
 use Rattle.std.proofs.Common.{◌-◌, ◌≡◌, ◌↔◌, ℕ, suc, ◌+◌, ◌*◌, ◌≤◌, Bool, true, false, IsTrue, List, [], ◌∷◌, ◌++◌, length, drop, slice_index, refl, sym, ap, subst, ◌∙◌, append_assoc, arith, length-append}
-use Rattle.std.proofs.lemmas.Bool.{false≢true}
-use Rattle.std.proofs.lemmas.List.{append-nil, drop-drop, drop_all, length-drop, length-replicate}
-use Rattle.std.specs.List.{flat_map}
-use Rattle.flop_base.specs.declared.key.Chrn.{Chrn}
-use Rattle.track_model.specs.declared.symbol.Symbol.{Symbol}
-use Rattle.track_model.specs.declared.symbol.Symbol.TheVariants.{Byte, Key}
-use Rattle.track_model.specs.Fields.{content_size}
-use Rattle.track_model.specs.Layouts.{gap, sync, marks, check_symbols, field_symbols, before_sectors, address_content, data_content, sector_symbols, sectors_symbols, track_symbols, recorded, word_after, symbol_bit, next_symbol, lay, laid_words, Fits}
-use Rattle.track_separator.specs.Parts.{with_word}
-use Rattle.track_format.specs.Keys.{key_bytes, asked_in}
-use Rattle.track_format.specs.Streams.{Gives, AsksKey, KeyIs, filled}
-use Rattle.track_format.specs.declared.stream.FormatStream.{FormatStream}
-use Rattle.track_format.proofs.Asked.{length-key_bytes, asked-track, asked_first, asked_same, recorded_more, recorded_none}
-use Rattle.fdc_stages.specs.Writings.{handed_with, IsFirstOf}
-use Rattle.fdc_stages.specs.Formats.{Numbers, AreKeys, IsLaidTo, IsLaid, StreamTakes, symbols_of, keys_from, IsFirstOfLayout}
+use Rattle.fdc_stages.proofs.Common.{false≢true, append-nil, drop-drop, drop_all, length-drop, length-replicate, flat_map, Chrn, Symbol, Byte, Key, content_size, gap, sync, marks, check_symbols, address_content, data_content, sector_symbols, track_symbols, recorded, word_after, symbol_bit, next_symbol, laid_words, Fits, with_word, key_bytes, AsksKey, KeyIs, filled, FormatStream, length-key_bytes, asked-track, asked_first, asked_same, recorded_more, recorded_none, handed_with, IsFirstOf, Numbers, AreKeys, IsLaidTo, IsLaid, StreamTakes, symbols_of, keys_from, IsFirstOfLayout}
+use Rattle.track_model.specs.Layouts.{field_symbols, before_sectors, sectors_symbols, lay}
+use Rattle.track_format.specs.Keys.{asked_in}
+use Rattle.track_format.specs.Streams.{Gives}
 use Rattle.fdc_stages.proofs.Keyed.{some_keys}
 
 -- ---- how long a layout is
@@ -186,10 +175,9 @@ part_misfits words handed numbers stream whole was others many fits =
 -- ---- whether a byte is taken
 
 same_bool : (one other : Bool) (P : Type 0) → IsTrue one ↔ P → IsTrue other ↔ P → one ≡ other
-same_bool true true P is too = refl
-same_bool false false P is too = refl
 same_bool true false P is too = sym (too.1 (is.0 refl))
 same_bool false true P is too = is.1 (too.0 refl)
+same_bool _ _ P is too = refl
 
 pub same_takes : (words handed : List ℕ) (numbers : Numbers) (stream : FormatStream) (one other : Bool) → IsLaid words numbers handed stream → StreamTakes stream one → StreamTakes stream other → one ≡ other
 same_takes words handed numbers stream one other was is too =

@@ -1,19 +1,10 @@
 -- The first byte of a sector ID that a layout needs is the one of its 163rd word.
 use Rattle.std.proofs.Common.{◌≡◌, ℕ, zero, suc, ◌+◌, ◌-◌, ◌<◌, ◌≤◌, Bool, true, false, List, [], ◌∷◌, ◌++◌, length, drop, refl, sym, ap, subst, ◌∙◌, append_assoc, arith, length-append, inl, inr}
-use Rattle.std.proofs.lemmas.Bool.{cases_lt}
-use Rattle.std.proofs.lemmas.List.{drop_all}
-use Rattle.flop_base.specs.declared.key.Chrn.{Chrn}
-use Rattle.track_model.specs.declared.symbol.Symbol.{Symbol}
-use Rattle.track_model.specs.declared.symbol.Symbol.TheVariants.{Byte, Key, Mark}
-use Rattle.track_model.specs.Fields.{content_size}
-use Rattle.track_model.specs.Layouts.{sync, marks, field_symbols, before_sectors, sectors_symbols, track_symbols, next_symbol}
-use Rattle.track_separator.specs.Parts.{with_word}
+use Rattle.fdc_stages.proofs.Common.{cases_lt, drop_all, Chrn, Symbol, Byte, Key, content_size, sync, marks, track_symbols, next_symbol, with_word, AsksKey, FormatStream, handed_with, Numbers, keys_from, symbols_of, StreamTakes, StreamLeads}
+use Rattle.track_model.specs.declared.symbol.Symbol.TheVariants.{Mark}
+use Rattle.track_model.specs.Layouts.{field_symbols, before_sectors, sectors_symbols}
 use Rattle.track_format.specs.Keys.{asked_in}
-use Rattle.track_format.specs.Streams.{Gives, AsksKey}
-use Rattle.track_format.specs.declared.stream.FormatStream.{FormatStream}
-use Rattle.fdc_stages.specs.Writings.{handed_with}
-use Rattle.fdc_stages.specs.Formats.{Numbers, keys_from, symbols_of, StreamTakes}
-use Rattle.fdc_stages.specs.Leads.{StreamLeads}
+use Rattle.track_format.specs.Streams.{Gives}
 use Rattle.fdc_stages.proofs.Keyed.{some_keys}
 use Rattle.fdc_stages.proofs.Laying.{Goes, fresh_laid, next_laid, length-before}
 
@@ -21,11 +12,10 @@ use Rattle.fdc_stages.proofs.Laying.{Goes, fresh_laid, next_laid, length-before}
 none_asked : (front back : List Symbol) (k key : ℕ) → asked_in front ≡ [] → k < length front → next_symbol (drop k (front ++ back)) ≡ Key key → ⊥
 unfolding asked_in
 none_asked [] back k key none within is = absurd (omega arith)
-none_asked (Byte byte ∷ front) back zero key none within is = cc is
 none_asked (Byte byte ∷ front) back (suc k) key none within is = none_asked front back k key none (omega arith) is
 none_asked (Key byte ∷ front) back k key none within is = cc none
-none_asked (Mark cells ∷ front) back zero key none within is = cc is
 none_asked (Mark cells ∷ front) back (suc k) key none within is = none_asked front back k key none (omega arith) is
+none_asked _ back zero key none within is = cc is
 
 -- the symbols of a sector that stand before its sector ID
 abbrev field_start : List Symbol

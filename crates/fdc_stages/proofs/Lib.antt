@@ -1,3 +1,4 @@
+mod Common
 pub mod Lawful
 pub mod Causes
 mod SearchWord

@@ -1,23 +1,9 @@
 -- A word heard while a data mark is awaited or a data field is read.
 use Rattle.std.proofs.Common.{◌≡◌, ℕ, ◌+◌, ◌*◌, ◌≤◌, Bool, true, false, List, [], ◌∷◌, ◌++◌, length, min, refl, sym, ap, subst, ◌∙◌, arith, inl, inr}
-use Rattle.std.proofs.lemmas.Bool.{false≢true}
-use Rattle.flop_base.specs.declared.key.Chrn.{Chrn}
-use Rattle.track_model.specs.Bytes.{bytes_at}
-use Rattle.track_model.specs.Fields.{content_size}
+use Rattle.fdc_stages.proofs.Common.{false≢true, Chrn, bytes_at, content_size, Seen, Nothing, Mark, Address, Mode, End, NoData, Separator, with_word, SWaits, SReads, SWaitFed, SReadFed, part_with_word, address_stays, bytes_stay, unfinished_is_no_data, late_is_no_data, reads_within, NoField, Search, Wait, Content, Over, Past, heard, IsJustOver, IsMet, IsMetAt, IsWaitingAt, IsContentAt, IsFieldOver, IsReading, HasRead}
 use Rattle.track_model.proofs.Places.{bytes_at-more}
-use Rattle.track_separator.specs.declared.state.Seen.{Seen}
-use Rattle.track_separator.specs.declared.state.Seen.TheVariants.{Nothing, Mark, Address, Mode, Byte, End, NoData}
-use Rattle.track_separator.specs.declared.state.Separator.{Separator}
-use Rattle.track_separator.specs.Parts.{with_word}
-use Rattle.track_separator.specs.Waits.{SWaits, SReads}
-use Rattle.track_separator.specs.Turns.{SWaitFed, SReadFed}
-use Rattle.track_separator.proofs.Lawful.{part_with_word, address_stays, bytes_stay, unfinished_is_no_data, late_is_no_data, reads_within}
-use Rattle.fdc_stages.specs.declared.ending.Ending.TheVariants.{NoField}
+use Rattle.track_separator.specs.declared.state.Seen.TheVariants.{Byte}
 use Rattle.fdc_stages.specs.declared.searching.Search as searched
-use Rattle.fdc_stages.specs.declared.reading.ReadStage.TheVariants.{Search, Wait, Content, Over}
-use Rattle.fdc_stages.specs.History.{Past, heard, IsJustOver}
-use Rattle.fdc_stages.specs.Searches.{IsMet, IsMetAt}
-use Rattle.fdc_stages.specs.Readings.{IsWaitingAt, IsContentAt, IsFieldOver, IsReading, HasRead}
 use Rattle.fdc_stages.proofs.Lawful.{last_heard, told_stays, content_told}
 
 -- the revolution that is over if an index pulse follows the word
@@ -74,17 +60,9 @@ module _ (past : Past) (key : Chrn) (word p : ℕ) (before now : Separator) (was
 
   waited_on : (index : Bool) (event : Seen) → ((deleted : Bool) → event ≡ Mode deleted → ⊥) → (event ≡ NoData → ⊥) → SWaitFed index (with_word past.seen word) p (content_size key.n) now event → IsReading (heard index word past) key [] (Wait now)
   waited_on false Nothing mode none waits = ((p, record { address = address_stays past.seen (with_word past.seen word) (part_with_word past.seen word) p key was.address; waits = waits; few = was.few }), refl)
-  waited_on true Nothing mode none given = absurd given
-  waited_on false Mark mode none given = absurd given
-  waited_on true Mark mode none given = absurd given
-  waited_on false (Address other) mode none given = absurd given
-  waited_on true (Address other) mode none given = absurd given
   waited_on index (Mode deleted) mode none given = absurd (mode deleted refl)
-  waited_on false (Byte value) mode none given = absurd given
-  waited_on true (Byte value) mode none given = absurd given
-  waited_on false (End good) mode none given = absurd given
-  waited_on true (End good) mode none given = absurd given
   waited_on index NoData mode none given = absurd (none refl)
+  waited_on _ _ mode none given = absurd given
 
 pub wait_mode : (past : Past) (key : Chrn) (word p : ℕ) (before now : Separator) (index deleted : Bool) (event : Seen) → event ≡ Mode deleted → IsWaitingAt past key before p → SWaitFed index (with_word past.seen word) p (content_size key.n) now event → IsReading (heard index word past) key [] (Content now deleted)
 wait_mode past key word p before now index deleted event is was given =

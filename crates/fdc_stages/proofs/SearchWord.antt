@@ -1,20 +1,11 @@
 -- A word heard by a search.
 use Rattle.std.proofs.Common.{◌≡◌, ◌⊎◌, ℕ, ◌+◌, Bool, true, false, MatchBool, Option, List, [], ◌∷◌, refl, sym, ap, subst, arith, inl, inr}
-use Rattle.std.proofs.lemmas.Bool.{false≢true}
-use Rattle.flop_base.specs.declared.key.Chrn.{Chrn}
-use Rattle.track_model.specs.Marks.{IsAddressMark}
+use Rattle.fdc_stages.proofs.Common.{false≢true, Chrn, IsAddressMark, Seen, Nothing, Mark, Address, Separator, with_word, turn_after, EndsInLast, SBegins, IsHunted, part_with_word, mark_stays, no_run_stood, mark_old_or_new, address_old_or_new, follows_hunts, Past, heard, Wants, HasNoClear, HasNoneIn, HasMarkIn, HasTurned, IsSearchingIn, IsPassed, IsMet, HasMissed}
 use Rattle.track_model.specs.Looks.{HasAddressMark}
-use Rattle.track_separator.specs.declared.state.Seen.{Seen}
-use Rattle.track_separator.specs.declared.state.Seen.TheVariants.{Nothing, Mark, Address}
-use Rattle.track_separator.specs.declared.state.Separator.{Separator}
-use Rattle.track_separator.specs.Parts.{with_word, turn_after, EndsInLast}
 use Rattle.track_separator.specs.Hunts.{SHunts, SFollows, SHuntSeen, GivesAll, Stands}
 use Rattle.track_separator.specs.Past.{HuntsPast}
-use Rattle.track_separator.specs.Turns.{SBegins, IsHunted}
-use Rattle.track_separator.proofs.Lawful.{part_with_word, mark_stays, no_run_stood, mark_old_or_new, address_old_or_new, follows_hunts}
-use Rattle.fdc_stages.specs.History.{Past, heard}
 use Rattle.fdc_stages.proofs.Lawful.{turned_few}
-use Rattle.fdc_stages.specs.Searches.{Wants, HasNoClear, HasNoneIn, HasMarkIn, HasTurned, IsSearchingIn, IsPassed, IsMet, HasMissed, HearsNothingIn}
+use Rattle.fdc_stages.specs.Searches.{HearsNothingIn}
 
 -- ---- right after a revolution is over, nothing was heard of the next one
 

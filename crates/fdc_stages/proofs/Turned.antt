@@ -1,18 +1,6 @@
 -- A word that a format hears, and the end of its revolution.
 use Rattle.std.proofs.Common.{◌≡◌, ℕ, Bool, true, false, List, [], ◌∷◌, length, refl, sym, ap, subst, ◌∙◌, arith, inl, inr, length-append}
-use Rattle.std.proofs.lemmas.Bool.{false≢true}
-use Rattle.std.proofs.lemmas.List.{append-nil}
-use Rattle.flop_base.specs.declared.key.Chrn.{Chrn}
-use Rattle.track_separator.specs.Parts.{with_word}
-use Rattle.track_format.specs.declared.stream.FormatStream.{FormatStream}
-use Rattle.fdc_stages.specs.declared.ending.Ending.TheVariants.{Done, NoMark, NoField}
-use Rattle.fdc_stages.specs.History.{Past, heard, kept_out, wrote}
-use Rattle.fdc_stages.specs.declared.formatting.FormatPart.{FormatPart}
-use Rattle.fdc_stages.specs.declared.formatting.FormatPart.TheVariants.{Await, Due, Lay, Barred}
-use Rattle.fdc_stages.specs.declared.formatting.FormatStage.{FormatStage}
-use Rattle.fdc_stages.specs.Writings.{handed_with}
-use Rattle.fdc_stages.specs.Formats.{Numbers, is_next, is_due, StreamTakes, TakesAt, IsLaid, IsLastKey, IsBehindFirst, IsAtPart, IsFormatting, IsNextLaid, IsBehindIndex, HasLaid, HasWholeTurn, IsUnopened, HasFormatted, IsResultKey}
-use Rattle.fdc_stages.specs.Leads.{StreamLeads}
+use Rattle.fdc_stages.proofs.Common.{false≢true, append-nil, Chrn, with_word, FormatStream, Done, NoMark, NoField, Past, heard, kept_out, wrote, FormatPart, Due, Lay, Barred, FormatStage, handed_with, Numbers, is_next, is_due, StreamTakes, TakesAt, IsLaid, IsLastKey, IsBehindFirst, IsAtPart, IsFormatting, IsNextLaid, IsBehindIndex, HasLaid, HasWholeTurn, IsUnopened, HasFormatted, IsResultKey, StreamLeads}
 use Rattle.fdc_stages.proofs.Keyed.{last_of}
 use Rattle.fdc_stages.proofs.Leading.{none_before}
 use Rattle.fdc_stages.proofs.Laying.{Goes, next_laid, same_takes, laid_words_are, StreamIsWhole, whole_fits, part_misfits}
@@ -46,23 +34,21 @@ unopened_over false past numbers handed stream is barred was = absurd (false≢t
 -- ---- a word of the layout
 
 due_behind : (part : FormatPart) (past : Past) → is_next part ≡ true → IsAtPart past.turns past.seen past.place past.words past.barred part → IsBehindFirst past.turns past.seen × (past.place ≡ length past.words)
-due_behind Await past due was = absurd (false≢true due)
 due_behind Due past due (behind, begins, none) = (behind, begins ∙ sym (ap length none))
 due_behind Lay past due (behind, place, some) = (behind, place)
-due_behind Barred past due was = absurd (false≢true due)
+due_behind _ past due was = absurd (false≢true due)
 
 some_lead : (lead : ℕ) → lead ≡ 162 → lead ≡ 0 → ⊥
 some_lead lead is none = omega arith
 
 -- the first word of the layout takes no byte
 takes_agree : (part : FormatPart) (past : Past) (numbers : Numbers) (handed : List ℕ) (stream : FormatStream) (takes given : Bool) → is_next part ≡ true → IsAtPart past.turns past.seen past.place past.words past.barred part → IsLaid past.words numbers handed stream → TakesAt part stream takes → StreamTakes stream given → given ≡ takes
-takes_agree Await past numbers handed stream takes given due at laid is too = absurd (false≢true due)
-takes_agree Barred past numbers handed stream takes given due at laid is too = absurd (false≢true due)
 takes_agree Lay past numbers handed stream takes given due at laid is too = same_takes past.words handed numbers stream given takes laid too is
 takes_agree Due past numbers handed stream takes true due (behind, begins, none) laid is too =
     let leads : StreamLeads stream 162 = record { numbers = numbers; words = past.words; handed = handed; laid = laid; most = omega (arith, ap length none) } in
     absurd (some_lead 162 refl (none_before stream true 162 refl too leads))
 takes_agree Due past numbers handed stream takes false due at laid is too = sym is
+takes_agree _ past numbers handed stream takes given due at laid is too = absurd (false≢true due)
 
 pub write_laid : (past : Past) (numbers : Numbers) (handed : List ℕ) (now : FormatStage) (new : FormatStream) (key : Chrn) (byte word : ℕ) (takes given : Bool) → is_due now ≡ true → IsFormatting past numbers handed now → TakesAt now.part now.stream takes → StreamTakes now.stream given → Goes now.stream new byte word → (IsLastKey handed now.key → IsLastKey (handed_with given byte handed) key) → IsNextLaid past numbers (handed_with takes byte handed) word new key
 write_laid past numbers handed now new key byte word takes given due (at, laid, last) is too goes shifts =

@@ -1,20 +1,11 @@
 -- A word of a window that a writing writes.
 use Rattle.std.proofs.Common.{◌≡◌, ℕ, ◌+◌, ◌≤◌, Bool, true, false, Option, Some, None, List, [], ◌∷◌, ◌++◌, length, replicate, refl, sym, ap, subst, ◌∙◌, append_assoc, arith, inl, inr, length-append}
-use Rattle.std.proofs.lemmas.Bool.{false≢true, true≢false}
-use Rattle.std.proofs.lemmas.List.{append-nil, length-replicate}
-use Rattle.flop_base.specs.declared.key.Chrn.{Chrn}
-use Rattle.track_model.specs.Writing.{window}
-use Rattle.track_separator.specs.Parts.{with_word}
+use Rattle.fdc_stages.proofs.Common.{false≢true, true≢false, append-nil, length-replicate, Chrn, window, with_word, bytes_left, count_from, is_content, with_byte, needs_byte, words_behind, bytes_behind, lead_behind, Gives, Done, NoField, Past, wrote, WriteStage, handed_with, IsInWindow, IsBegun, IsWhole, IsWriting, IsNextWord, HasBegun, HasWhole, HasWritten}
 use Rattle.fdc_stages.specs.declared.window.Part.{Part}
 use Rattle.fdc_stages.specs.declared.window.Part.TheVariants as part
 use Rattle.fdc_stages.specs.declared.window.Window.{Window}
-use Rattle.fdc_stages.specs.Windows.{bytes_left, count_from, is_content, with_byte, needs_byte, words_behind, bytes_behind, lead_behind, Gives}
-use Rattle.fdc_stages.specs.declared.ending.Ending.TheVariants.{Done, NoField}
-use Rattle.fdc_stages.specs.History.{Past, wrote}
-use Rattle.fdc_stages.specs.declared.writing.WriteStage.{WriteStage}
 use Rattle.fdc_stages.specs.declared.writing.WriteStage.TheVariants as stage
 use Rattle.fdc_stages.specs.Writings as writing
-use Rattle.fdc_stages.specs.Writings.{handed_with, IsInWindow, IsBegun, IsWhole, IsWriting, IsNextWord, HasBegun, HasWhole, HasWritten}
 
 -- ---- the window that the next word belongs to
 
@@ -24,12 +15,8 @@ open_window now past key deleted handed opened is was = (subst (IsWriting past k
 -- ---- the next word
 
 handed_ahead : (now : Part) (byte : ℕ) (handed rest : List ℕ) → handed ++ with_byte now byte rest ≡ handed_with (is_content now) byte handed ++ rest
-handed_ahead (part.Sync more) byte handed rest = refl
-handed_ahead (part.Marks more) byte handed rest = refl
-handed_ahead part.Mark byte handed rest = refl
 handed_ahead (part.Content more) byte handed rest = sym (append_assoc handed (byte ∷ []) rest)
-handed_ahead part.High byte handed rest = refl
-handed_ahead part.Low byte handed rest = refl
+handed_ahead _ byte handed rest = refl
 
 pub next_word : (seen words : List ℕ) (key : Chrn) (deleted : Bool) (handed : List ℕ) (now : Window) (p byte word : ℕ) (behind : Option Window) → IsInWindow seen words key deleted handed (Some now) p → Gives now.part now byte word behind → IsInWindow seen (with_word words word) key deleted (handed_with (needs_byte now) byte handed) behind p
 next_word seen words key deleted handed now p byte word behind was gives =
@@ -119,18 +106,16 @@ put_in_window past key deleted handed now byte word behind gives opened was = wr
 pub goes_next : (index last : Bool) (word : ℕ) (past : Past) (key : Chrn) (deleted : Bool) (handed : List ℕ) (at : WriteStage) → index ≡ false → last ≡ false → writing.is_open at ≡ true → IsNextWord past key deleted handed word (writing.rest_behind last at) → IsWriting (wrote index word past) key deleted handed at
 goes_next true last word past key deleted handed at on more opened was = absurd (true≢false on)
 goes_next false true word past key deleted handed at on more opened was = absurd (true≢false more)
-goes_next false false word past key deleted handed (stage.Search searching) on more opened was = absurd (false≢true opened)
-goes_next false false word past key deleted handed (stage.Gap left) on more opened was = absurd (false≢true opened)
 goes_next false false word past key deleted handed (stage.Window now) on more opened (place, inside) =
     let long = length-append past.words (word ∷ []) in
     (omega (arith, place, long), (inside, omega (arith, long)))
+goes_next false false word past key deleted handed _ on more opened was = absurd (false≢true opened)
 
 -- the index pulse cuts the window
 pub cut_open : (index last : Bool) (word : ℕ) (past : Past) (key : Chrn) (deleted : Bool) (handed : List ℕ) (at : WriteStage) → index ≡ true → last ≡ false → writing.is_open at ≡ true → IsNextWord past key deleted handed word (writing.rest_behind last at) → HasWritten (wrote index word past) key deleted handed NoField
 cut_open index true word past key deleted handed at is more opened was = absurd (true≢false more)
-cut_open index false word past key deleted handed (stage.Search searching) is more opened was = absurd (false≢true opened)
-cut_open index false word past key deleted handed (stage.Gap left) is more opened was = absurd (false≢true opened)
 cut_open index false word past key deleted handed (stage.Window now) is more opened was = cut_next index word past key deleted handed (Some now) now is refl was
+cut_open index false word past key deleted handed _ is more opened was = absurd (false≢true opened)
 
 -- no word is left after the last
 pub none_behind : (last : Bool) (at : WriteStage) → last ≡ true → writing.rest_behind last at ≡ None
@@ -142,6 +127,5 @@ none_behind true (stage.Window now) is = refl
 -- one word fewer passes before a byte is needed
 pub lead_next : (last : Bool) (at : WriteStage) (before : ℕ) → last ≡ false → writing.is_open at ≡ true → before ≤ lead_behind (writing.rest_behind last at) + 1 → before ≤ writing.lead_of at + 1
 lead_next true at before more opened leads = absurd (true≢false more)
-lead_next false (stage.Search searching) before more opened leads = absurd (false≢true opened)
-lead_next false (stage.Gap left) before more opened leads = absurd (false≢true opened)
 lead_next false (stage.Window now) before more opened leads = leads
+lead_next false _ before more opened leads = absurd (false≢true opened)

@@ -1,13 +1,9 @@
 -- The first of the words that are still to come.
 use Rattle.std.proofs.Common.{◌≡◌, ℕ, suc, ◌-◌, ◌<◌, ◌≤◌, ◌^◌, Bool, true, false, List, [], ◌∷◌, ◌++◌, replicate, sym, ap, ◌∙◌, arith}
-use Rattle.track_model.specs.Bytes.{legal, last_bit}
+use Rattle.fdc_stages.proofs.Common.{legal, last_bit, after_marks, data_byte, check_bytes, words_of_field}
 use Rattle.track_model.specs.Crc.{crc, crc_from}
-use Rattle.track_model.specs.Fields.{after_marks}
-use Rattle.track_model.specs.Marks.{data_byte}
-use Rattle.track_model.specs.Writing.{check_bytes}
 use Rattle.track_model.proofs.CrcSteps.{crc_from_none}
 use Rattle.track_model.proofs.Legals.{legal-cons}
-use Rattle.fdc_stages.specs.Windows.{words_of_field}
 
 -- the cells of a byte, and then the rest
 pub byte_first : (last : Bool) (byte cells : ℕ) (rest : List ℕ) → cells ∷ [] ≡ legal last (byte ∷ []) → legal last (byte ∷ rest) ≡ cells ∷ legal (last_bit byte) rest

@@ -1,10 +1,7 @@
 -- What the ending of a reading says of the words heard.
 use Rattle.std.specs.Prelude.{◌≡◌, ◌⊎◌, ℕ, ◌+◌, Bool, true, Option, None, List, ◌++◌, length}
-use Rattle.flop_base.specs.declared.key.Chrn.{Chrn}
+use Rattle.fdc_stages.specs.Common.{Chrn, IsAddressAt, content_size, content_at, HasAddressMark, LookAt, IsPart}
 use Rattle.track_model.specs.declared.Look.TheVariants.{Found, NoData, BadCrc}
-use Rattle.track_model.specs.Fields.{IsAddressAt, content_size, content_at}
-use Rattle.track_model.specs.Looks.{HasAddressMark, LookAt}
-use Rattle.track_separator.specs.Parts.{IsPart}
 use Rattle.fdc_stages.specs.declared.ending.Ending.{Ending}
 use Rattle.fdc_stages.specs.declared.ending.Ending.TheVariants.{Done, NoMark, NoSector, Late}
 use Rattle.fdc_stages.specs.History.{Past, IsTurn, IsJustOver}

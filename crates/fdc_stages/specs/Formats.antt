@@ -1,14 +1,11 @@
 -- What a format has heard and written.
 use Rattle.std.specs.Prelude.{◌≡◌, ◌⊎◌, ◌↔◌, ℕ, zero, suc, ◌+◌, ◌*◌, ◌≤◌, Bool, true, false, IsTrue, Option, None, Some, List, [], ◌∷◌, ◌++◌, length, drop, slice_index}
 use Rattle.std.specs.List.{flat_map}
-use Rattle.flop_base.specs.declared.key.Chrn.{Chrn}
+use Rattle.fdc_stages.specs.Common.{Chrn, with_items, with_word, FormatStream}
 use Rattle.track_model.specs.declared.symbol.Symbol.{Symbol}
 use Rattle.track_model.specs.Layouts.{recorded, track_symbols, lay, Fits}
-use Rattle.flop_base.specs.Lists.{with_items}
-use Rattle.track_separator.specs.Parts.{with_word}
 use Rattle.track_format.specs.Keys.{key_bytes, asked_in}
 use Rattle.track_format.specs.Streams.{Gives, AsksKey, filled}
-use Rattle.track_format.specs.declared.stream.FormatStream.{FormatStream}
 use Rattle.fdc_stages.specs.declared.ending.Ending.{Ending}
 use Rattle.fdc_stages.specs.declared.ending.Ending.TheVariants.{Done, NoMark, NoSector, NoField, BadCheck, Overrun, NoCount, Protected, Late}
 use Rattle.fdc_stages.specs.History.{Past}

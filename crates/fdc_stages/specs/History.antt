@@ -1,6 +1,6 @@
 -- What a data command has heard and moved since it began.
 use Rattle.std.specs.Prelude.{◌≡◌, ◌⊎◌, ℕ, ◌+◌, ◌≤◌, Bool, true, false, List, [], ◌∷◌, length}
-use Rattle.track_separator.specs.Parts.{with_word, turn_after}
+use Rattle.fdc_stages.specs.Common.{with_word, turn_after}
 
 pub record Past : Type 0 where
   -- the revolutions that an index pulse ended, the latest first

@@ -1,6 +1,6 @@
 -- How many words of a format pass before a byte of a sector ID is needed.
 use Rattle.std.specs.Prelude.{ℕ, ◌-◌, ◌≤◌, List, length}
-use Rattle.track_format.specs.declared.stream.FormatStream.{FormatStream}
+use Rattle.fdc_stages.specs.Common.{FormatStream}
 use Rattle.fdc_stages.specs.declared.formatting.FormatStage.{FormatStage}
 use Rattle.fdc_stages.specs.declared.formatting.FormatNext.{FormatNext}
 use Rattle.fdc_stages.specs.declared.formatting.FormatNext.TheVariants.{On, Ended}

@@ -1,3 +1,4 @@
+pub mod Common
 pub mod History
 pub mod Searches
 pub mod Readings

@@ -1,6 +1,6 @@
 -- The bytes in which stages are saved: one for the kind of the stage, and then what the stage keeps.
 use Rattle.std.specs.Prelude.{ℕ, List, ◌∷◌}
-use Rattle.saved_state.specs.Saved.{spelled_flag}
+use Rattle.fdc_stages.specs.Common.{spelled_flag}
 use Rattle.track_separator.specs.Saving.{spelled_separator}
 use Rattle.fdc_stages.specs.declared.ending.Ending.{Ending}
 use Rattle.fdc_stages.specs.declared.ending.Ending.TheVariants.{Done, NoMark, NoSector, NoField, BadCheck, Overrun, NoCount, Protected, Late}

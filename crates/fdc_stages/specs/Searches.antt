@@ -1,11 +1,7 @@
 -- What a search for an address field has heard.
 use Rattle.std.specs.Prelude.{◌≡◌, ℕ, ◌+◌, Bool, true, false, MatchBool, Option, Some, None, List, [], ◌∷◌}
-use Rattle.flop_base.specs.declared.key.Chrn.{Chrn}
-use Rattle.track_model.specs.Fields.{IsAddressAt}
-use Rattle.track_model.specs.Looks.{HasAddressMark}
+use Rattle.fdc_stages.specs.Common.{Chrn, IsAddressAt, HasAddressMark, Separator, EndsInLast, with_word, turn_after}
 use Rattle.track_model.specs.Sectors.{HasNoRunWithin}
-use Rattle.track_separator.specs.declared.state.Separator.{Separator}
-use Rattle.track_separator.specs.Parts.{EndsInLast, with_word, turn_after}
 use Rattle.track_separator.specs.Hunts.{SFollows, SAddressed}
 use Rattle.track_separator.specs.Turns.{SBegins}
 use Rattle.fdc_stages.specs.declared.ending.Ending.{Ending}

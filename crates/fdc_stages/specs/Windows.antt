@@ -1,10 +1,7 @@
 -- The words of a window that are still to come.
 use Rattle.std.specs.Prelude.{◌≡◌, ℕ, suc, ◌+◌, ◌%◌, ◌≤◌, Bool, true, false, Option, Some, None, List, [], ◌∷◌, ◌++◌, length, replicate}
-use Rattle.track_model.specs.Bytes.{legal}
+use Rattle.fdc_stages.specs.Common.{legal, after_marks, data_byte, check_bytes}
 use Rattle.track_model.specs.Crc.{crc, crc_from}
-use Rattle.track_model.specs.Fields.{after_marks}
-use Rattle.track_model.specs.Marks.{data_byte}
-use Rattle.track_model.specs.Writing.{check_bytes}
 use Rattle.fdc_stages.specs.declared.window.Part.{Part}
 use Rattle.fdc_stages.specs.declared.window.Part.TheVariants.{Sync, Marks, Mark, Content, High, Low}
 use Rattle.fdc_stages.specs.declared.window.Window.{Window}

@@ -1,6 +1,6 @@
 -- The bytes in which stages that write are saved: one for the kind of the stage, and then what the stage keeps.
 use Rattle.std.specs.Prelude.{ℕ, List, ◌∷◌}
-use Rattle.saved_state.specs.Saved.{spelled_byte, spelled_flag, spelled_key, spelled_word}
+use Rattle.fdc_stages.specs.Common.{spelled_byte, spelled_flag, spelled_key, spelled_word}
 use Rattle.fdc_stages.specs.Saving.{spelled_search}
 use Rattle.track_format.specs.Saving.{spelled_stream}
 use Rattle.fdc_stages.specs.declared.window.Part.{Part}

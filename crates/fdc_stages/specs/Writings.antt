@@ -1,12 +1,8 @@
 -- What a writing has heard and written.
 use Rattle.std.specs.Prelude.{◌≡◌, ◌⊎◌, ℕ, zero, suc, ◌+◌, ◌<◌, ◌≤◌, Bool, true, false, Option, None, Some, List, [], ◌++◌, length}
-use Rattle.flop_base.specs.declared.key.Chrn.{Chrn}
-use Rattle.track_model.specs.Fields.{IsAddressAt, content_size}
-use Rattle.flop_base.specs.Lists.{with_items}
+use Rattle.fdc_stages.specs.Common.{Chrn, IsAddressAt, content_size, with_items, window, with_word, IsPart}
 use Rattle.track_model.specs.Windows.{window_word, window_words, IsFieldFor, IsCut}
 use Rattle.track_model.specs.Laid.{with_window}
-use Rattle.track_model.specs.Writing.{window}
-use Rattle.track_separator.specs.Parts.{with_word, IsPart}
 use Rattle.fdc_stages.specs.declared.window.Window.{Window}
 use Rattle.fdc_stages.specs.Windows as windowed
 use Rattle.fdc_stages.specs.Windows.{window_behind, words_behind, bytes_behind, count_behind, lead_left}

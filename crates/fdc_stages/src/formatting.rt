@@ -1,6 +1,6 @@
 // The stages of a format.
 ghost use Rattle.std.specs.Prelude.{◌≡◌, ◌-◌, ◌≤◌, ℕ, Bool, true, false, List, []};
-ghost use Rattle.flop_base.specs.declared.key.Chrn.{Chrn};
+ghost use Rattle.fdc_stages.specs.Common.{Chrn};
 ghost use Rattle.fdc_stages.specs.History.{Past, begun, heard, wrote};
 ghost use Rattle.fdc_stages.specs.Writings.{handed_with, heard_where};
 ghost use Rattle.fdc_stages.specs.Formats.{Numbers, is_open, opens, is_due, Takes, IsLaid, IsLastKey, IsFormatting, IsNextLaid, IsUnopened, HasNext, FailsWell, EndsWell, IsEnd, format_next};

@@ -1,8 +1,6 @@
 // What the ending of a reading says of the words heard.
 ghost use Rattle.std.specs.Prelude.{◌≡◌, ℕ, List, Bool, Option};
-ghost use Rattle.flop_base.specs.declared.key.Chrn.{Chrn};
-ghost use Rattle.track_model.specs.Fields.{IsSizeCode};
-ghost use Rattle.track_separator.specs.declared.state.Separator.{Separator};
+ghost use Rattle.fdc_stages.specs.Common.{Chrn, IsSizeCode, Separator};
 ghost use Rattle.fdc_stages.specs.History.{Past};
 ghost use Rattle.fdc_stages.specs.Searches.{IsMet, IsMissed};
 ghost use Rattle.fdc_stages.specs.Readings.{IsStart, IsReading, IsToldOf, HasRead};

@@ -1,7 +1,6 @@
 // The stages of a reading.
 ghost use Rattle.std.specs.Prelude.{◌≡◌, ◌≤◌, ℕ, Bool, true, false, List, [], length, Some, IfSome, IsNone};
-ghost use Rattle.track_model.specs.Fields.{IsSizeCode, content_size, IsAddressAt};
-ghost use Rattle.flop_base.specs.declared.key.Chrn.{Chrn};
+ghost use Rattle.fdc_stages.specs.Common.{IsSizeCode, content_size, IsAddressAt, Chrn};
 ghost use Rattle.fdc_stages.specs.History.{Past, begun, heard};
 ghost use Rattle.fdc_stages.specs.Searches.{IsMet, IsSearching};
 ghost use Rattle.fdc_stages.specs.Readings.{IsOver, IsWaitingAt, IsContentAt, IsReading, HasRead, read_outcome, HasHeard, FailsWell, IsFailure, KeepsMark, PassesBy, HearsByte, IsContent, IsWhole};

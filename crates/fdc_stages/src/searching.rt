@@ -1,6 +1,6 @@
 // The search for an address field.
 ghost use Rattle.std.specs.Prelude.{◌≡◌, ◌≤◌, ◌⊎◌, ◌↔◌, ℕ, Bool, true, false, IsTrue, MatchBool, MatchOption, Option, List, length, take};
-ghost use Rattle.flop_base.specs.declared.key.Chrn.{Chrn};
+ghost use Rattle.fdc_stages.specs.Common.{Chrn};
 ghost use Rattle.fdc_stages.specs.History.{Past, begun, heard};
 ghost use Rattle.fdc_stages.specs.Searches.{Wants, IsSearching, IsPassed, IsMissed, HasMissed, HasMarkIn, search_outcome, HasSearched, IsMiss, MissesWell, HearsNothingIn};
 

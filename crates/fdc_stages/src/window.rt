@@ -1,7 +1,6 @@
 // The words of a window, one by one.
 ghost use Rattle.std.specs.Prelude.{◌≡◌, ◌+◌, ◌≤◌, ℕ, List, false, Some, None};
-ghost use Rattle.track_model.specs.Marks.{data_byte};
-ghost use Rattle.track_model.specs.Writing.{window};
+ghost use Rattle.fdc_stages.specs.Common.{data_byte, window};
 ghost use Rattle.fdc_stages.specs.Windows.{Gives, words_left, bytes_left, count_left, lead_left, needs_byte, is_last, window_behind};
 
 use track_model::{crc_step, encode_byte, mark_crc};

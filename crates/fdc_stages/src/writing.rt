@@ -1,8 +1,6 @@
 // The stages of a writing.
 ghost use Rattle.std.specs.Prelude.{◌≡◌, ◌+◌, ◌≤◌, ℕ, Bool, true, false, Some, List, [], length};
-ghost use Rattle.track_separator.specs.declared.state.Separator.{Separator};
-ghost use Rattle.flop_base.specs.declared.key.Chrn.{Chrn};
-ghost use Rattle.track_model.specs.Fields.{IsSizeCode};
+ghost use Rattle.fdc_stages.specs.Common.{Separator, Chrn, IsSizeCode};
 ghost use Rattle.fdc_stages.specs.Windows as windows;
 ghost use Rattle.fdc_stages.specs.Windows.{lead_left, lead_behind};
 ghost use Rattle.fdc_stages.specs.History.{Past, begun, heard, wrote};

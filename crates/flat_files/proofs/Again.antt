@@ -1,20 +1,9 @@
 -- If a flat file made a medium, the flat file of that medium is that file again.
 use Rattle.std.proofs.Common.{◌≡◌, ◌+◌, ◌-◌, ◌*◌, ◌<◌, ◌≤◌, ◌==◌, ◌&&◌, ◌∷◌, ◌++◌, [], ℕ, zero, suc, Bool, true, false, cond, List, length, map, take, get_or, Option, Some, None, refl, sym, ap, ◌∙◌, subst, arith, ⊎_elim, eq-eqb, ne_eqb, take-add, take_all}
 use Rattle.std.specs.Prelude.{find, slice_range}
-use Rattle.std.specs.List.{range_with_len}
+use Rattle.flat_files.proofs.Common.{range_with_len, and_parts, cases_eq, eqb-true, length-map-range_with_len, Disk, HasTrack, track_of, HasImage, HasSectors, ImdImage, Good, ImdSector, ImdTrack, is_track, is_wanted, sector_on, sectors_on, IsForm, cylinder_of, file_length, head_of, sector_bytes, tracks_of, form_image, form_sector, form_track, FlatForm}
 use Rattle.std.specs.Option.{option_map_or}
-use Rattle.std.proofs.lemmas.Bool.{and_parts, cases_eq, eqb-true}
-use Rattle.std.proofs.lemmas.List.FromFn.{length-map-range_with_len}
-use Rattle.raw_image.specs.Disk.{Disk, HasTrack, track_of}
-use Rattle.imagedisk.specs.Found.{HasImage, HasSectors}
-use Rattle.imagedisk.specs.declared.image.ImdImage.{ImdImage}
-use Rattle.imagedisk.specs.declared.sector.ImdKind.TheVariants.{Good}
-use Rattle.imagedisk.specs.declared.sector.ImdSector.{ImdSector}
-use Rattle.imagedisk.specs.declared.track.ImdTrack.{ImdTrack}
-use Rattle.flat_files.specs.Files.{AddsRecords, AreOfTracks, is_track, is_wanted, sector_on, sectors_on}
-use Rattle.flat_files.specs.Forms.{IsForm, cylinder_of, file_length, head_of, sector_bytes, tracks_of}
-use Rattle.flat_files.specs.FormMaking.{form_image, form_sector, form_track}
-use Rattle.flat_files.specs.declared.form.FlatForm.{FlatForm}
+use Rattle.flat_files.specs.Files.{AddsRecords, AreOfTracks}
 use Rattle.flat_files.proofs.Alike.{AreGood, same_sectors}
 use Rattle.flat_files.proofs.FormValid.{track_is}
 

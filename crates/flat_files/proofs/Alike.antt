@@ -2,14 +2,9 @@
 -- same.
 use Rattle.std.proofs.Common.{◌≡◌, ◌+◌, ◌<◌, ◌≤◌, ◌∷◌, [], ℕ, zero, suc, false, true, List, length, get_or, refl, sym, ap, ◌∙◌, subst, arith}
 use Rattle.std.specs.Prelude.{⊤}
-use Rattle.flop_base.specs.declared.key.Chrn.{Chrn}
-use Rattle.track_model.specs.Fields.{IsAddressAt, content_at}
+use Rattle.flat_files.proofs.Common.{Chrn, IsAddressAt, content_at, one_key, one_look_at, HasSectors, IsFoundAs, Absent, Good, Deleted, ImdSector}
 use Rattle.track_model.specs.declared.Look.TheVariants.{Found, NoData, BadCrc}
-use Rattle.track_model.proofs.Unique.{one_key, one_look_at}
-use Rattle.imagedisk.specs.Found.{HasSectors, IsFoundAs}
 use Rattle.imagedisk.specs.declared.sector.ImdKind.{ImdKind}
-use Rattle.imagedisk.specs.declared.sector.ImdKind.TheVariants.{Absent, Good, Deleted, Bad, BadDeleted}
-use Rattle.imagedisk.specs.declared.sector.ImdSector.{ImdSector}
 
 -- all these sectors have whole data
 abbrev pub AreGood : List ImdSector → Type 0
@@ -26,8 +21,7 @@ one_content track p n Good content other good is =
     let place : good.0 ≡ is.0 = cc in
     (refl, is.2 ∙ ap (λ (k : ℕ). content_at track k n) (sym place) ∙ sym good.2)
 one_content track p n Deleted content other good is = let same = one_look_at track p n (Found false good.0) (Found true is.0) good.1 is.1 in absurd cc
-one_content track p n Bad content other good is = let same = one_look_at track p n (Found false good.0) BadCrc good.1 is in absurd cc
-one_content track p n BadDeleted content other good is = let same = one_look_at track p n (Found false good.0) BadCrc good.1 is in absurd cc
+one_content track p n _ content other good is = let same = one_look_at track p n (Found false good.0) BadCrc good.1 is in absurd cc
 
 abbrev made : Chrn → ImdKind → List ℕ → ImdSector
 made key kind content = record { key = key; kind = kind; content = content }

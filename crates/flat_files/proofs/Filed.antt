@@ -1,12 +1,8 @@
 -- The contents of a medium's sectors, one after the other.
 use Rattle.std.proofs.Common.{◌≡◌, ◌∙◌, ◌+◌, ◌*◌, ◌/◌, ◌%◌, ◌<◌, ◌≤◌, ◌==◌, ◌++◌, [], ℕ, zero, suc, Bool, true, false, List, refl, ap, sym, subst, arith, ⊎_elim}
 use Rattle.std.specs.Prelude.{Some, None, Option, IsSome, if◌then◌else◌}
-use Rattle.std.proofs.lemmas.Bool.{cases_lt, eqb-false, eqb-true}
-use Rattle.imagedisk.specs.declared.sector.ImdSector.{ImdSector}
-use Rattle.imagedisk.specs.declared.track.ImdTrack.{ImdTrack}
-use Rattle.flat_files.specs.Files.{AddsRecords, AreOfTracks, IsReached, Lack, is_plain, sector_on}
-use Rattle.flat_files.specs.Forms.{IsForm, cylinder_of, head_of, tracks_of}
-use Rattle.flat_files.specs.declared.form.FlatForm.{FlatForm}
+use Rattle.flat_files.proofs.Common.{cases_lt, eqb-false, eqb-true, ImdSector, ImdTrack, IsReached, Lack, is_plain, sector_on, IsForm, cylinder_of, head_of, tracks_of, FlatForm}
+use Rattle.flat_files.specs.Files.{AddsRecords, AreOfTracks}
 
 more : (n : ℕ) → suc n ≡ n + 1
 more n = omega arith

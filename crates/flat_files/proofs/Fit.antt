@@ -1,30 +1,10 @@
 -- A medium that a flat file made has a flat file. Its tracks are such as an image can have, and nothing but a lack of
 -- memory refuses it.
 use Rattle.std.proofs.Common.{◌≡◌, ◌+◌, ◌*◌, ◌<◌, ◌≤◌, ℕ, zero, suc, List, length, get_or, Result, Ok, Err, refl, sym, ap, ◌∙◌, subst, arith, ⊎_elim}
-use Rattle.std.specs.Global.{Vec}
-use Rattle.std.proofs.lemmas.Bool.{cases_eq, cases_lt}
-use Rattle.std.proofs.lemmas.List.FromFn.{get_or-map-range_with_len, length-map-range_with_len}
-use Rattle.flop_base.specs.Standard.{words_at}
-use Rattle.flop_base.specs.declared.answers.Rate.{Rate}
-use Rattle.flop_base.specs.declared.answers.Rate.TheVariants.{R500, R250}
-use Rattle.flop_base.specs.declared.key.Chrn.{Chrn}
-use Rattle.raw_image.specs.Disk.{Disk, HasTrack, track_of}
-use Rattle.track_format.specs.Gaps.{narrow_gap}
-use Rattle.track_model.specs.Fields.{AreAddresses, IsAddressAt}
+use Rattle.flat_files.proofs.Common.{Vec, cases_eq, cases_lt, get_or-map-range_with_len, length-map-range_with_len, words_at, Rate, R500, R250, Chrn, Disk, HasTrack, track_of, narrow_gap, AreAddresses, IsAddressAt, one_key, HasSectors, IsMadeTrack, ImdSector, ImdTrack, GivesForm, IsFileAgain, head_of, tracks_of, HasForm, form_sector, form_track, FileFault, NoForm, Flat, FlatForm}
 use Rattle.track_model.specs.declared.Field.{Field}
-use Rattle.track_model.proofs.Unique.{one_key}
-use Rattle.imagedisk.specs.Found.{HasSectors}
-use Rattle.imagedisk.specs.Made.{IsMadeTrack}
 use Rattle.imagedisk.specs.Taken.{IsUnfit}
-use Rattle.imagedisk.specs.declared.sector.ImdSector.{ImdSector}
-use Rattle.imagedisk.specs.declared.track.ImdTrack.{ImdTrack}
-use Rattle.flat_files.specs.Files.{GivesForm, IsFileAgain}
-use Rattle.flat_files.specs.Forms.{head_of, tracks_of}
-use Rattle.flat_files.specs.FormMaking.{HasForm, form_sector, form_track}
 use Rattle.flat_files.specs.declared.fault.FlatFault.TheVariants as fault
-use Rattle.flat_files.specs.declared.file_fault.FileFault.{FileFault}
-use Rattle.flat_files.specs.declared.file_fault.FileFault.TheVariants.{NoForm, Flat}
-use Rattle.flat_files.specs.declared.form.FlatForm.{FlatForm}
 use Rattle.flat_files.proofs.Again.{file_again, form_on, form_sectors, no_sector, sectors_are}
 use Rattle.flat_files.proofs.FormValid.{track_is}
 use Rattle.flat_files.proofs.Refused.{no_more, none_lacks, number_of, shape_of}

@@ -1,15 +1,7 @@
 -- The image of a flat file is an image that an ImageDisk file can hold.
-use Rattle.std.proofs.Common.{◌≡◌, ◌+◌, ◌-◌, ◌/◌, ◌%◌, ◌<◌, ◌≤◌, ◌∷◌, ◌++◌, ◌==◌, [], ℕ, List, length, map, drop, get_or, sym, ap, ◌∙◌, subst, arith}
+use Rattle.std.proofs.Common.{◌≡◌, ◌+◌, ◌-◌, ◌<◌, ◌≤◌, ◌∷◌, ◌++◌, ◌==◌, [], ℕ, List, length, map, drop, get_or, sym, ap, ◌∙◌, subst, arith}
 use Rattle.std.specs.Prelude.{slice_range, All}
-use Rattle.std.specs.List.{range_with_len}
-use Rattle.std.proofs.lemmas.Bool.{cond_both}
-use Rattle.std.proofs.lemmas.List.{length-drop, length-take}
-use Rattle.std.proofs.lemmas.List.FromFn.{length-map-range_with_len, get_or-map-range_with_len, map-range_with_len_more}
-use Rattle.imagedisk.specs.Images.{AreApart, IsImdImage, IsImdTrack}
-use Rattle.imagedisk.specs.declared.track.ImdTrack.{ImdTrack}
-use Rattle.flat_files.specs.Forms.{IsForm, cylinder_of, head_of, tracks_of}
-use Rattle.flat_files.specs.FormMaking.{form_image, form_track}
-use Rattle.flat_files.specs.declared.form.FlatForm.{FlatForm}
+use Rattle.flat_files.proofs.Common.{range_with_len, cond_both, length-drop, length-take, length-map-range_with_len, get_or-map-range_with_len, map-range_with_len_more, AreApart, IsImdImage, IsImdTrack, ImdTrack, IsForm, cylinder_of, head_of, tracks_of, form_image, form_track, FlatForm}
 
 -- one more item of a list made from the indices
 pub pushed_more : {X : Type 0} (f : ℕ → X) (kept new : List X) (n : ℕ) (x : X) → kept ≡ map f (range_with_len 0 n) → x ≡ f n → new ≡ kept ++ x ∷ []

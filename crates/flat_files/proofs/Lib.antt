@@ -1,3 +1,4 @@
+mod Common
 pub mod Filed
 pub mod Valid
 pub mod Places

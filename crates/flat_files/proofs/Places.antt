@@ -1,5 +1,5 @@
 -- The places of sectors in a file.
-use Rattle.std.proofs.Common.{◌≡◌, ◌+◌, ◌*◌, ◌<◌, ◌≤◌, ℕ, suc, arith}
+use Rattle.std.proofs.Common.{◌+◌, ◌*◌, ◌<◌, ◌≤◌, ℕ, suc, arith}
 use Rattle.std.proofs.lemmas.Nat.{mul-le}
 
 pub place_inside : (tracks track sectors i size : ℕ) → track < tracks → i < sectors

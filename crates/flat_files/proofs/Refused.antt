@@ -2,19 +2,9 @@
 -- none.
 use Rattle.std.proofs.Common.{◌≡◌, ◌+◌, ◌-◌, ◌*◌, ◌/◌, ◌%◌, ◌<◌, ◌≤◌, ◌==◌, ◌&&◌, ◌∷◌, [], ℕ, zero, suc, Bool, true, false, not, leb, List, length, map, get_or, Some, refl, sym, ap, ◌∙◌, subst, arith, eq-eqb, ne_eqb, le-leb}
 use Rattle.std.specs.Prelude.{if◌then◌else◌}
-use Rattle.std.specs.List.{range_with_len}
-use Rattle.std.proofs.lemmas.Bool.{eqb-false, eqb-true}
+use Rattle.flat_files.proofs.Common.{range_with_len, eqb-false, eqb-true, length-map-range_with_len, Disk, cylinder_count, has_other_side, head_count, ImdSector, ImdTrack, HasMore, IsOfForm, Lack, has_deleted, sector_on, sectors_on, IsForm, cylinder_of, head_of, tracks_of, HasForm, form_sector, form_track, FlatForm}
 use Rattle.std.proofs.lemmas.List.Folds.{list_any_at}
-use Rattle.std.proofs.lemmas.List.FromFn.{length-map-range_with_len}
-use Rattle.raw_image.specs.Disk.{Disk}
-use Rattle.imagedisk.specs.Made.{cylinder_count, has_other_side, head_count}
-use Rattle.imagedisk.specs.declared.sector.ImdSector.{ImdSector}
-use Rattle.imagedisk.specs.declared.track.ImdTrack.{ImdTrack}
 use Rattle.imagedisk.proofs.OnMedium.{cylinder_in}
-use Rattle.flat_files.specs.Files.{HasMore, IsOfForm, Lack, has_deleted, sector_on, sectors_on}
-use Rattle.flat_files.specs.Forms.{IsForm, cylinder_of, head_of, tracks_of}
-use Rattle.flat_files.specs.FormMaking.{HasForm, form_sector, form_track}
-use Rattle.flat_files.specs.declared.form.FlatForm.{FlatForm}
 use Rattle.flat_files.proofs.Again.{form_sectors, sector_is}
 use Rattle.flat_files.proofs.Filed.{at_place}
 use Rattle.flat_files.proofs.FormValid.{track_is}

@@ -1,30 +1,11 @@
 -- A flat file of 1.44 MB or 720 KB is a flat file of a geometry, and its medium is a medium of that geometry.
 use Rattle.std.proofs.Common.{◌≡◌, ◌≤◌, ◌+◌, ◌-◌, ◌*◌, ◌/◌, ◌%◌, ◌==◌, ◌∷◌, [], ℕ, Bool, true, false, List, length, map, Result, Ok, Err, refl, sym, ap, ◌∙◌, subst, arith, cond, nat_lt, ◌⊎◌, inl, inr, ⊎_elim}
 use Rattle.std.specs.Prelude.{slice_range}
-use Rattle.std.specs.Global.{Vec}
-use Rattle.std.specs.List.{range_with_len}
-use Rattle.std.proofs.lemmas.Bool.{eqb-true}
-use Rattle.flop_base.specs.declared.answers.Rate.{Rate}
-use Rattle.raw_image.specs.Disk.{Disk}
+use Rattle.flat_files.proofs.Common.{Vec, range_with_len, eqb-true, Rate, Disk, narrow_gap, HasImage, IsMediumOf, ImdImage, Good, ImdSector, ImdTrack, GivesFlat, IsFlatAgain, standard_form, sector_place, HasFlat, flat_image, flat_sector, flat_track, rate_of, HasForm, form_image, form_sector, form_track, Flat, FlatForm}
 use Rattle.raw_image.specs.declared.error.ImageError.{ImageError}
 use Rattle.raw_image.specs.declared.error.ImageError.TheVariants.{TooShort, Trailing}
-use Rattle.track_format.specs.Gaps.{narrow_gap}
-use Rattle.imagedisk.specs.Found.{HasImage}
-use Rattle.imagedisk.specs.Made.{IsMediumOf}
-use Rattle.imagedisk.specs.declared.image.ImdImage.{ImdImage}
-use Rattle.imagedisk.specs.declared.sector.ImdKind.TheVariants.{Good}
-use Rattle.imagedisk.specs.declared.sector.ImdSector.{ImdSector}
-use Rattle.imagedisk.specs.declared.track.ImdTrack.{ImdTrack}
-use Rattle.flat_files.specs.Files.{GivesFlat, IsFlatAgain, standard_form}
-use Rattle.sector_map.specs.Flat.{sector_place, sectors_told}
-use Rattle.flat_files.specs.Flats.{HasFlat, flat_image, flat_sector, flat_track, rate_of}
-use Rattle.flat_files.specs.FormMaking.{HasForm, form_image, form_sector, form_track}
-use Rattle.flat_files.specs.Forms.{IsForm}
 use Rattle.flat_files.specs.declared.fault.FlatFault.{FlatFault}
 use Rattle.flat_files.specs.declared.fault.FlatFault.TheVariants.{NoMemory}
-use Rattle.flat_files.specs.declared.file_fault.FileFault.{FileFault}
-use Rattle.flat_files.specs.declared.file_fault.FileFault.TheVariants.{Flat}
-use Rattle.flat_files.specs.declared.form.FlatForm.{FlatForm}
 use Rattle.flat_files.proofs.Fit.{given_again}
 
 -- the geometry with this many sectors per track, at a rate

@@ -1,18 +1,7 @@
 -- The image of a flat file is an image that an ImageDisk file can hold, and its tracks have room.
 use Rattle.std.proofs.Common.{◌≡◌, ◌+◌, ◌-◌, ◌/◌, ◌%◌, ◌<◌, ◌≤◌, ◌∷◌, ◌++◌, [], ℕ, List, length, map, drop, get_or, sym, ap, ◌∙◌, subst, arith, ⊎_elim}
 use Rattle.std.specs.Prelude.{slice_range, All}
-use Rattle.std.specs.List.{range_with_len}
-use Rattle.std.proofs.lemmas.List.{length-drop, length-take}
-use Rattle.std.proofs.lemmas.List.FromFn.{length-map-range_with_len, get_or-map-range_with_len, map-range_with_len_more}
-use Rattle.flop_base.specs.Standard.{gap_at, words_at}
-use Rattle.flop_base.specs.declared.answers.Rate.{Rate}
-use Rattle.flop_base.specs.declared.answers.Rate.TheVariants.{R500, R250}
-use Rattle.sector_map.specs.Flat.{IsDensity}
-use Rattle.imagedisk.specs.Images.{AreApart, IsImdImage, IsImdTrack}
-use Rattle.imagedisk.specs.Made.{IsCrowded, IsFirstCrowded}
-use Rattle.imagedisk.specs.declared.track.ImdTrack.{ImdTrack}
-use Rattle.track_format.specs.Gaps.{Suits, narrow_gap}
-use Rattle.flat_files.specs.Flats.{flat_image, flat_sector, flat_track, rate_of}
+use Rattle.flat_files.proofs.Common.{range_with_len, length-drop, length-take, length-map-range_with_len, get_or-map-range_with_len, map-range_with_len_more, gap_at, words_at, Rate, R500, R250, IsDensity, AreApart, IsImdImage, IsImdTrack, IsCrowded, IsFirstCrowded, ImdTrack, Suits, narrow_gap, flat_image, flat_sector, flat_track, rate_of}
 
 -- one more item of a list made from the indices
 pub pushed_more : {X : Type 0} (f : ℕ → X) (kept new : List X) (n : ℕ) (x : X) → kept ≡ map f (range_with_len 0 n) → x ≡ f n → new ≡ kept ++ x ∷ []

@@ -1,19 +1,11 @@
 -- The flat file of a medium.
 use Rattle.std.specs.Prelude.{◌≡◌, ℕ, zero, suc, ◌+◌, ◌*◌, ◌<◌, ◌≤◌, ◌==◌, ◌&&◌, nat_le, Bool, true, false, not, List, [], ◌++◌, length, find, Option, Some, None, IsSome, Result, Ok, Err}
-use Rattle.std.specs.List.{list_any}
+use Rattle.flat_files.specs.Common.{list_any, Rate, R500, R250, Disk, HasImage, ImdImage, Absent, Good, Deleted, Bad, BadDeleted, ImdSector, ImdTrack}
 use Rattle.std.specs.Option.{option_map_or}
 use Rattle.std.specs.Global.{Vec}
-use Rattle.flop_base.specs.declared.answers.Rate.{Rate}
-use Rattle.flop_base.specs.declared.answers.Rate.TheVariants.{R500, R250}
-use Rattle.raw_image.specs.Disk.{Disk}
-use Rattle.imagedisk.specs.Found.{HasImage}
 use Rattle.imagedisk.specs.Taken.{TakesDisk}
 use Rattle.imagedisk.specs.declared.error.ImdError.TheVariants.{Unfit}
-use Rattle.imagedisk.specs.declared.image.ImdImage.{ImdImage}
 use Rattle.imagedisk.specs.declared.sector.ImdKind.{ImdKind}
-use Rattle.imagedisk.specs.declared.sector.ImdKind.TheVariants.{Absent, Good, Deleted, Bad, BadDeleted}
-use Rattle.imagedisk.specs.declared.sector.ImdSector.{ImdSector}
-use Rattle.imagedisk.specs.declared.track.ImdTrack.{ImdTrack}
 use Rattle.flat_files.specs.Forms.{IsForm, cylinder_of, head_of, tracks_of}
 use Rattle.flat_files.specs.declared.fault.FlatFault.{FlatFault}
 use Rattle.flat_files.specs.declared.fault.FlatFault.TheVariants as fault

@@ -1,19 +1,8 @@
 -- The medium of a flat file.
 use Rattle.std.specs.Prelude.{◌≡◌, ◌+◌, ◌/◌, ◌%◌, ◌==◌, ℕ, List, length, map, slice_range, Result, Ok, Err, if◌then◌else◌}
-use Rattle.std.specs.List.{range_with_len}
-use Rattle.flop_base.specs.declared.answers.Rate.{Rate}
-use Rattle.flop_base.specs.declared.answers.Rate.TheVariants.{R500, R250}
-use Rattle.raw_image.specs.Disk.{Disk}
+use Rattle.flat_files.specs.Common.{range_with_len, Rate, R500, R250, Disk, sector_place, sectors_told, narrow_gap, HasImage, IsMediumOf, ImdImage, Good, ImdSector, ImdTrack}
 use Rattle.raw_image.specs.Image.{OrNoMemory}
 use Rattle.raw_image.specs.declared.error.ImageError.{ImageError}
-use Rattle.sector_map.specs.Flat.{sector_place, sectors_told}
-use Rattle.track_format.specs.Gaps.{narrow_gap}
-use Rattle.imagedisk.specs.Found.{HasImage}
-use Rattle.imagedisk.specs.Made.{IsMediumOf}
-use Rattle.imagedisk.specs.declared.image.ImdImage.{ImdImage}
-use Rattle.imagedisk.specs.declared.sector.ImdKind.TheVariants.{Good}
-use Rattle.imagedisk.specs.declared.sector.ImdSector.{ImdSector}
-use Rattle.imagedisk.specs.declared.track.ImdTrack.{ImdTrack}
 
 -- Sector i of a track, counted from 0: it has its 512 bytes of the file, and its record number is i + 1.
 abbrev pub flat_sector : List ℕ → (sectors c h i : ℕ) → ImdSector

@@ -1,14 +1,6 @@
 -- The medium of a flat file.
 use Rattle.std.specs.Prelude.{◌≡◌, ◌+◌, ℕ, List, length, map, slice_range, Result, Ok, Err}
-use Rattle.std.specs.List.{range_with_len}
-use Rattle.imagedisk.specs.Found.{HasImage}
-use Rattle.imagedisk.specs.Made.{IsFirstCrowded, IsMediumOf}
-use Rattle.imagedisk.specs.declared.image.ImdImage.{ImdImage}
-use Rattle.imagedisk.specs.declared.sector.ImdKind.TheVariants.{Good}
-use Rattle.imagedisk.specs.declared.sector.ImdSector.{ImdSector}
-use Rattle.imagedisk.specs.declared.track.ImdTrack.{ImdTrack}
-use Rattle.raw_image.specs.Disk.{Disk}
-use Rattle.track_format.specs.Gaps.{narrow_gap}
+use Rattle.flat_files.specs.Common.{range_with_len, HasImage, IsFirstCrowded, IsMediumOf, ImdImage, Good, ImdSector, ImdTrack, Disk, narrow_gap}
 use Rattle.flat_files.specs.Forms.{IsForm, cylinder_of, file_length, head_of, sector_bytes, sector_place, tracks_of}
 use Rattle.flat_files.specs.declared.form_fault.FormFault.{FormFault}
 use Rattle.flat_files.specs.declared.form_fault.FormFault.TheVariants as fault

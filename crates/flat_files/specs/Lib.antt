@@ -1,3 +1,4 @@
+pub mod Common
 pub mod Zeroes
 pub mod Flats
 pub mod Files

@@ -1,6 +1,6 @@
 // The sector with a key in the image of a medium.
 ghost use Rattle.std.specs.Prelude.{◌≡◌, MatchOption, Some, None, find};
-ghost use Rattle.imagedisk.specs.declared.sector.ImdSector.{ImdSector};
+ghost use Rattle.flat_files.specs.Common.{ImdSector};
 ghost use Rattle.flat_files.specs.Files.{has_deleted as has_deleted_of, is_deleted as is_deleted_kind, is_plain as is_plain_track, is_track as is_track_of, is_wanted as is_wanted_of, is_whole as is_whole_kind, sector_on, sectors_on as sectors_of_track};
 
 use imagedisk::{ImdKind, ImdSector, ImdTrack};

@@ -1,6 +1,6 @@
 // The sectors of a flat file, track by track.
 ghost use Rattle.std.specs.Prelude.{◌≡◌, ◌<◌, length, IfOk};
-ghost use Rattle.imagedisk.specs.Images.{IsImdImage, IsImdSector, IsImdTrack};
+ghost use Rattle.flat_files.specs.Common.{IsImdImage, IsImdSector, IsImdTrack};
 ghost use Rattle.flat_files.specs.Forms.{IsForm, file_length, tracks_of};
 ghost use Rattle.flat_files.specs.FormMaking.{form_image as form_image_of, form_sector as form_sector_of, form_track as form_track_of};
 

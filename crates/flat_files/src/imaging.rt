@@ -1,7 +1,6 @@
 // The sectors of a flat file, track by track.
 ghost use Rattle.std.specs.Prelude.{◌≡◌, ◌+◌, ◌<◌, ◌≤◌, length, IfOk};
-ghost use Rattle.sector_map.specs.Flat.{IsDensity, IsSector, flat_length};
-ghost use Rattle.imagedisk.specs.Images.{IsImdImage, IsImdSector, IsImdTrack};
+ghost use Rattle.flat_files.specs.Common.{IsDensity, IsSector, flat_length, IsImdImage, IsImdSector, IsImdTrack};
 ghost use Rattle.flat_files.specs.Flats.{flat_image as flat_image_of, flat_sector as flat_sector_of, flat_track as flat_track_of};
 
 use flop_base::standard::SIZE_CODE;

@@ -1,7 +1,7 @@
 // What follows from the contracts on the places of sectors, and on files that are made again. The bodies are empty.
 ghost use Rattle.std.specs.Prelude.{◌≡◌, ◌⊎◌};
 ghost use Rattle.flat_files.specs.Files.{GivesFlat, GivesForm, IsFileAgain, IsFlatAgain};
-ghost use Rattle.sector_map.specs.Flat.{IsDensity, IsSector, sector_place, AreApart};
+ghost use Rattle.flat_files.specs.Common.{IsDensity, IsSector, sector_place, AreApart};
 ghost use Rattle.flat_files.specs.Flats.{HasFlat};
 ghost use Rattle.flat_files.specs.FormMaking.{HasForm};
 

@@ -1,6 +1,6 @@
 // Files as a whole.
 ghost use Rattle.std.specs.Prelude.{◌≡◌, vec_len, IfOk};
-ghost use Rattle.sector_map.specs.Flat.{IsDensity, flat_length};
+ghost use Rattle.flat_files.specs.Common.{IsDensity, flat_length};
 ghost use Rattle.flat_files.specs.Zeroes.{zeroes};
 
 use flop_base::NoMemory;

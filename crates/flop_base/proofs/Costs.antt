@@ -1,7 +1,7 @@
 -- What calls cost, one after another.
 use Rattle.std.proofs.Common.{ℕ, ◌+◌, ◌-◌, ◌≤◌, arith}
-use Rattle.flop_base.specs.Counts.{last_count, RoseBy}
-use Rattle.flop_base.specs.Counters.{Counters, CostsUpTo, LastsUpTo, AccessesPortsUpTo}
+use Rattle.flop_base.specs.Counts.{RoseBy}
+use Rattle.flop_base.specs.Counters.{Counters, CostsUpTo, AccessesPortsUpTo}
 
 -- ---- numbers: `g` gaps become `h` and then `i`, and a count of interrupts goes from `a` to `b` and then to `c`
 
@@ -41,6 +41,3 @@ costs_within n m p q a b shorter fewer costs = (omega (arith, shorter, costs.0),
 -- a call that costs nothing, after another or before another
 pub costs_after : (n p : ℕ) (a b c : Counters) → CostsUpTo n p a b → CostsUpTo 0 0 b c → CostsUpTo n p a c
 costs_after n p a b c costs none = costs_within (n + 0) n (p + 0) p a c (omega arith) (omega arith) (costs_twice n 0 p 0 a b c costs none)
-
-pub costs_before : (n p : ℕ) (a b c : Counters) → CostsUpTo 0 0 a b → CostsUpTo n p b c → CostsUpTo n p a c
-costs_before n p a b c none costs = costs_within (0 + n) n (0 + p) p a c (omega arith) (omega arith) (costs_twice 0 n 0 p a b c none costs)

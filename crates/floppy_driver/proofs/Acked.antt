@@ -1,29 +1,7 @@
 -- A bay is acknowledged or refused.
 use Rattle.std.proofs.Common.{◌≡◌, ℕ, ◌≤◌, ◌⊎◌, Bool, true, false, if◌then◌else◌, List, Option, Some, None, IsSome, IfSome, Result, Ok, Err, MatchBool, refl, sym, ap, ◌∙◌, subst, arith, inl, inr}
 use Rattle.std.specs.Prelude.{◌==◌, ◌&&◌, not}
-use Rattle.std.proofs.lemmas.Bool.{false≢true, le-leb}
-use Rattle.flop_base.specs.declared.key.Chrn.{Chrn}
-use Rattle.flop_base.specs.declared.answers.Rate.{Rate}
-use Rattle.flop_base.specs.declared.answers.Rate.TheVariants.{R500, R250}
-use Rattle.flop_base.specs.declared.answers.Code.{Code}
-use Rattle.flop_base.specs.declared.answers.Code.TheVariants.{BadRequest, NotReady}
-use Rattle.raw_image.specs.Disk.{Disk, IsDisk, track_of}
-use Rattle.track_model.specs.Fields.{IsAddress}
-use Rattle.flop_base.specs.Bays.{Two, in_bay}
-use Rattle.flop_base.specs.Counters.{DriveCounts, faults_of, FaultsRoseBy, FaultsRoseLess}
-use Rattle.flop_base.proofs.Counted.{faults_go_on}
-use Rattle.sector_map.specs.Met.{met_in, HasClearAddress}
-use Rattle.sector_map.specs.MetTracks.{MeetsTrack}
-use Rattle.sector_map.proofs.MetTracks.{met_from_mark, met_track, one_met}
-use Rattle.floppy_driver.specs.Rigs.{CostsFor, Rig, IsSound, OnlyAsks, track_under}
-use Rattle.sector_model.specs.Stations.{Bay, StationState, bay_of, set_bay, fresh_bay}
-use Rattle.sector_model.specs.Orders.{IsRefusedAtOnce}
-use Rattle.sector_model.specs.Calls.{HasClearStart, HasNoStart, AcksDrive, Acks}
-use Rattle.floppy_driver.specs.declared.driver.Notes.{Notes}
-use Rattle.floppy_driver.specs.declared.driver.Driver.{Driver}
-use Rattle.floppy_driver.specs.Shown.{is_held, bay_shown, with_waiting, shown, with_notes}
-use Rattle.floppy_driver.specs.Attached.{IsAttached}
-use Rattle.floppy_driver.specs.Acknowledged.{Works, ClearsChange, OnlyReads, HasStart, IsHeldSince}
+use Rattle.floppy_driver.proofs.Common.{false≢true, le-leb, Chrn, Rate, R500, R250, Code, BadRequest, NotReady, Disk, IsDisk, track_of, IsAddress, Two, in_bay, DriveCounts, faults_of, FaultsRoseBy, FaultsRoseLess, faults_go_on, met_in, HasClearAddress, MeetsTrack, met_from_mark, met_track, one_met, CostsFor, Rig, IsSound, OnlyAsks, track_under, Bay, StationState, bay_of, set_bay, fresh_bay, IsRefusedAtOnce, HasClearStart, HasNoStart, AcksDrive, Acks, Notes, Driver, is_held, bay_shown, with_waiting, shown, with_notes, IsAttached, Works, ClearsChange, OnlyReads, HasStart, IsHeldSince}
 use Rattle.floppy_driver.proofs.Lasting.{costs_shown}
 use Rattle.floppy_driver.proofs.Rounds.{HasStayedSet}
 use Rattle.floppy_driver.proofs.Shows.{noted_at, bay_shown_at, held_bay, held_shown, spun_at, attached_with, waiting_driven, driven_after, driven_within}
@@ -216,10 +194,9 @@ module _ (driver after : Driver) (start : Rig) (bay count : ℕ) (notes : Notes)
           omega arith
 
       by_rates : (a b : Rate) → notes.rate ≡ a → disk.rate ≡ b → notes.rate ≡ disk.rate
-      by_rates R500 R500 a b = a ∙ sym b
-      by_rates R250 R250 a b = a ∙ sym b
       by_rates R250 R500 a b = let d = double a in absurd (cc (b, d))
       by_rates R500 R250 a b = absurd (none_single a b (held.finds.single a))
+      by_rates _ _ a b = a ∙ sym b
 
   untold : FaultsRoseLess 3 bay start.counters new.counters → HasNoStart disk → notes.rate ≡ R500
   untold few none = by_rate notes.rate refl

@@ -1,20 +1,7 @@
 -- Calls that only ask, and calls that set the rate of a bay.
 use Rattle.std.proofs.Common.{◌≡◌, ℕ, ◌≤◌, Bool, true, false, List, Option, Some, None, MatchOption, Result, Ok, Err, refl, sym, ap, ◌∙◌, subst, arith}
 use Rattle.std.specs.Prelude.{not, if◌then◌else◌}
-use Rattle.std.proofs.lemmas.Bool.{le-leb}
-use Rattle.raw_image.specs.Disk.{Disk}
-use Rattle.flop_base.specs.declared.answers.Rate.{Rate}
-use Rattle.flop_base.specs.declared.answers.Code.{Code}
-use Rattle.flop_base.specs.declared.answers.Code.TheVariants.{BadRequest, Changed}
-use Rattle.flop_base.specs.Bays.{Two, in_bay}
-use Rattle.flop_base.specs.Counters.{CostsUpTo, DriveCounts}
-use Rattle.floppy_driver.specs.Rigs.{CostsFor, Rig, OnlyAsks}
-use Rattle.sector_model.specs.Stations.{Bay, StationState, bay_of, set_bay}
-use Rattle.sector_model.specs.Orders.{is_acknowledged, IsRefusedAtOnce}
-use Rattle.sector_model.specs.Calls.{SetsRate, RatesTo, TellsChange}
-use Rattle.floppy_driver.specs.declared.driver.Notes.{Notes}
-use Rattle.floppy_driver.specs.declared.driver.Driver.{Driver}
-use Rattle.floppy_driver.specs.Shown.{notes_of, is_held, bay_shown, with_waiting, shown, with_notes, HasAsked}
+use Rattle.floppy_driver.proofs.Common.{le-leb, Disk, Rate, Code, BadRequest, Changed, Two, in_bay, CostsUpTo, DriveCounts, CostsFor, Rig, OnlyAsks, Bay, StationState, bay_of, set_bay, is_acknowledged, IsRefusedAtOnce, SetsRate, RatesTo, TellsChange, Notes, Driver, notes_of, is_held, bay_shown, with_waiting, shown, with_notes, HasAsked}
 use Rattle.floppy_driver.proofs.Lasting.{asking_costs, question_costs}
 use Rattle.floppy_driver.proofs.Shows.{held_bay, held_shown, held_bay_shown, acknowledged_held, asks_shown, noted_shown}
 

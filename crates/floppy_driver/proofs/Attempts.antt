@@ -1,21 +1,7 @@
 -- What the attempts of a call have in common.
 use Rattle.std.proofs.Common.{◌≡◌, ◌↔◌, ℕ, ◌+◌, ◌≤◌, IsTrue, Bool, true, List, Some, IsSome, refl, sym, ap, ◌∙◌, subst, arith, inl, inr}
-use Rattle.std.proofs.lemmas.Bool.{cases_lt}
-use Rattle.floppy_driver.specs.declared.retry_plan.Prepare.{Prepare}
+use Rattle.floppy_driver.proofs.Common.{cases_lt, Prepare, Two, in_bay, DriveCounts, Counters, faults_of, DisturbedLess, IsUndisturbed, GoesOn, faults_go_on, Rig, IsSound, OnlyAsks, SendsRead, Bay, StationState, IsSteady, spoilable, Notes, Driver, notes_of, is_held, shown, with_notes, HasAsked, IsAttached, IsPrepared, CanTry, IsSure}
 use Rattle.floppy_driver.specs.declared.retry_plan.Prepare.TheVariants as prepare
-use Rattle.flop_base.specs.Bays.{Two, in_bay}
-use Rattle.flop_base.specs.Counters.{DriveCounts, Counters, faults_of, DisturbedLess, IsUndisturbed, GoesOn}
-use Rattle.flop_base.proofs.Counted.{faults_go_on}
-use Rattle.floppy_driver.specs.Rigs.{Rig, IsSound, OnlyAsks}
-use Rattle.floppy_driver.specs.Reading.{SendsRead}
-use Rattle.sector_model.specs.Stations.{Bay, StationState, IsSteady}
-use Rattle.sector_model.specs.Reads.{spoilable}
-use Rattle.floppy_driver.specs.declared.driver.Notes.{Notes}
-use Rattle.floppy_driver.specs.declared.driver.Driver.{Driver}
-use Rattle.floppy_driver.specs.Shown.{notes_of, is_held, shown, with_notes, HasAsked}
-use Rattle.floppy_driver.specs.Attached.{IsAttached}
-use Rattle.floppy_driver.specs.Prepared.{IsPrepared}
-use Rattle.floppy_driver.specs.Attempts.{CanTry, IsSure}
 use Rattle.floppy_driver.proofs.SureAttempts.{sure_attempts}
 use Rattle.floppy_driver.proofs.Shows.{held_bay_shown, held_lines_stay, moved_shown, known_shown, waiting_goes_on, waiting_driven, noted_at, attached_asked, attached_read, disturbed_less_more}
 use Rattle.floppy_driver.proofs.Prepared.{prepared_stands}

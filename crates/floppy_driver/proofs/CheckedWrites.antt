@@ -2,30 +2,8 @@
 use Rattle.std.proofs.Common.{MatchOption, IfOk, IfErr, IsOk, ◌≡◌, ℕ, ◌+◌, ◌-◌, ◌<◌, ◌≤◌, Bool, true, false, List, length, drop, get_or, Option, Some, None, Result, Ok, Err, refl, sym, ap, ◌∙◌, subst, arith, inl, inr}
 use Rattle.std.specs.Prelude.{not}
 use Rattle.std.proofs.Math.Bool.{beq}
-use Rattle.std.proofs.lemmas.Bool.{false≢true}
-use Rattle.std.proofs.lemmas.List.{ext_get_or, length-take, length-drop, get_or-take, get_or-drop, get_or_append_left}
-use Rattle.flop_base.specs.Counts.{RoseBy}
-use Rattle.flop_base.specs.declared.answers.Rate.{Rate}
-use Rattle.flop_base.specs.declared.answers.Code.{Code}
-use Rattle.flop_base.specs.declared.answers.Code.TheVariants.{NoMark, NotFound, Overrun, BadCrc, Seek}
-use Rattle.raw_image.specs.Disk.{Disk, track_of}
-use Rattle.track_model.specs.Fields.{content_size}
-use Rattle.track_model.specs.Sectors.{IsSector, IsUnder}
-use Rattle.flop_base.specs.Bays.{Two, in_bay}
+use Rattle.floppy_driver.proofs.Common.{false≢true, ext_get_or, length-take, length-drop, get_or-take, get_or-drop, get_or_append_left, RoseBy, Rate, Code, NoMark, NotFound, Overrun, BadCrc, Seek, Disk, track_of, content_size, IsSector, IsUnder, Two, in_bay, user_bytes, bytes_from, Counters, IsFaultless, IsUndisturbed, GoesOn, goes_on_after, met_in, MeetsTrack, met_track, Change, Written, HasOtherContent, IsDeviceRefusal, Rig, AreBytes, track_under, FindsField, ReadsBack, IsReadMiss, IsReadReason, IsReadCode, ChangesMedium, WritesData, IsWriteMiss, IsWriteReason, IsWriteCode, AreBytesAlike, WroteWhole, IsMissCause, IsReadBack, WritesChecked}
 use Rattle.flop_base.specs.Lists.{with_items}
-use Rattle.flop_base.specs.Memory.{user_bytes, bytes_from}
-use Rattle.flop_base.specs.Counters.{Counters, IsFaultless, IsUndisturbed, GoesOn}
-use Rattle.flop_base.proofs.Counted.{goes_on_after}
-use Rattle.sector_map.specs.Met.{met_in}
-use Rattle.sector_map.specs.MetTracks.{MeetsTrack}
-use Rattle.sector_map.proofs.MetTracks.{met_track}
-use Rattle.sector_map.specs.Changes.{Change, Written}
-use Rattle.sector_model.specs.Writes.{HasOtherContent}
-use Rattle.sector_model.specs.Orders.{IsDeviceRefusal}
-use Rattle.floppy_driver.specs.Rigs.{Rig, AreBytes, track_under}
-use Rattle.floppy_driver.specs.Reading.{FindsField, ReadsBack, IsReadMiss, IsReadReason, IsReadCode}
-use Rattle.floppy_driver.specs.Writing.{ChangesMedium, WritesData, IsWriteMiss, IsWriteReason, IsWriteCode}
-use Rattle.floppy_driver.specs.Writings.{AreBytesAlike, WroteWhole, IsMissCause, IsReadBack, WritesChecked}
 use Rattle.floppy_driver.proofs.Shows.{driven_after, driven_within, undisturbed_faultless}
 use Rattle.floppy_driver.proofs.Rising.{less_first, less_later, less_than_two, disturbed_first, disturbed_later, stalls_later}
 
@@ -316,13 +294,11 @@ module _ (old : Rig) (bay : ℕ) (rate : Rate) (written : Written) (mid new : Ri
 -- ---- marks
 
 pub marks_differ : (a b : Bool) → not (beq a b) ≡ true → a ≡ b → ⊥
-marks_differ true true e = absurd (false≢true e)
-marks_differ false false e = absurd (false≢true e)
 marks_differ true false e = λ same. false≢true (sym same)
 marks_differ false true e = false≢true
+marks_differ _ _ e = absurd (false≢true e)
 
 pub marks_same : (a b : Bool) → not (beq a b) ≡ false → a ≡ b
-marks_same true true e = refl
-marks_same false false e = refl
 marks_same true false e = absurd (false≢true (sym e))
 marks_same false true e = absurd (false≢true (sym e))
+marks_same _ _ e = refl

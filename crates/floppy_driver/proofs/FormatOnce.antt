@@ -1,29 +1,8 @@
 -- One attempt of a format.
 use Rattle.std.proofs.Common.{◌≡◌, ℕ, ◌+◌, ◌*◌, ◌≤◌, ◌⊎◌, Bool, true, false, [], Option, Some, None, IfSome, MatchOption, Result, Ok, Err, IsOk, IsErr, IfErr, refl, sym, ap, ◌∙◌, subst, arith, inl, inr}
 use Rattle.std.specs.Prelude.{◌==◌, if◌then◌else◌}
-use Rattle.std.proofs.lemmas.Bool.{false≢true}
-use Rattle.flop_base.specs.Standard.{sectors_at}
-use Rattle.flop_base.specs.declared.answers.Code.{Code}
-use Rattle.flop_base.specs.declared.answers.Code.TheVariants.{BadRequest, NoMark, Protected, NotFound, NotReady, Changed, Overrun, Page, BadCrc, Seek}
-use Rattle.raw_image.specs.Disk.{Disk, IsDisk, HasTrack}
+use Rattle.floppy_driver.proofs.Common.{false≢true, sectors_at, Code, NoMark, NotFound, Overrun, BadCrc, Seek, Disk, IsDisk, HasTrack, Two, in_bay, Counters, GoesOn, IsUndisturbed, IsFaultless, goes_on_after, goes_on_itself, faults_go_on, Rate, R500, R250, met_in, MeetsTrack, met_cases, Format, Laying, IsFormattable, IsDeviceRefusal, IsFormatted, Rig, IsSound, track_under, IsReadCode, FormatsTrack, LaysMedium, HasTrackUnder, CanFormatUnder, IsFormatCode, IsPrepared, IsValidFormat, IsBlankUnder, HoldsRecords, IsReadBackMiss, ReadsRecords, IsAttemptRefusal, FormatsIn, Notes}
 use Rattle.floppy_driver.specs.declared.retry_plan.Prepare.TheVariants as prepare
-use Rattle.flop_base.specs.Bays.{Two, in_bay}
-use Rattle.flop_base.specs.Counters.{Counters, GoesOn, IsUndisturbed, IsFaultless}
-use Rattle.flop_base.proofs.Counted.{goes_on_after, goes_on_itself, faults_go_on}
-use Rattle.flop_base.specs.declared.answers.Rate.{Rate}
-use Rattle.flop_base.specs.declared.answers.Rate.TheVariants.{R500, R250}
-use Rattle.sector_map.specs.Met.{met_in}
-use Rattle.sector_map.specs.MetTracks.{MeetsTrack}
-use Rattle.sector_map.proofs.MetTracks.{met_cases}
-use Rattle.sector_map.specs.Layings.{Format, Laying, IsFormattable}
-use Rattle.sector_model.specs.Orders.{IsDeviceRefusal}
-use Rattle.sector_model.specs.Formats.{IsFormatted}
-use Rattle.floppy_driver.specs.Rigs.{Rig, IsSound, track_under}
-use Rattle.floppy_driver.specs.Reading.{IsReadCode}
-use Rattle.floppy_driver.specs.Writing.{FormatsTrack, LaysMedium, HasTrackUnder, CanFormatUnder, IsFormatCode}
-use Rattle.floppy_driver.specs.Prepared.{IsPrepared}
-use Rattle.floppy_driver.specs.Formattings.{IsValidFormat, IsBlankUnder, HoldsRecords, IsReadBackMiss, ReadsRecords, IsAttemptRefusal, FormatsIn}
-use Rattle.floppy_driver.specs.declared.driver.Notes.{Notes}
 use Rattle.floppy_driver.proofs.Shows.{driven_after, driven_within, undisturbed_part, undisturbed_faultless}
 use Rattle.floppy_driver.proofs.LaidTracks.{lays_none, MayLay, layings_of, IsLaidWhole, one_at_most, laying_lays, laying_only, laying_untouched, laying_whole, laid_holds, same_some}
 
@@ -49,26 +28,14 @@ some_sectors R250 = omega arith
 format_device : (code : Code) → IsFormatCode code → IsDeviceRefusal code
 format_device NoMark coded = tt
 format_device Overrun coded = tt
-format_device BadRequest coded = absurd coded
-format_device Protected coded = absurd coded
-format_device NotFound coded = absurd coded
-format_device NotReady coded = absurd coded
-format_device Changed coded = absurd coded
-format_device Page coded = absurd coded
-format_device BadCrc coded = absurd coded
-format_device Seek coded = absurd coded
+format_device _ coded = absurd coded
 
 read_device : (code : Code) → IsReadCode code → IsDeviceRefusal code
 read_device NoMark coded = tt
 read_device NotFound coded = tt
 read_device BadCrc coded = tt
 read_device Overrun coded = tt
-read_device BadRequest coded = absurd coded
-read_device Protected coded = absurd coded
-read_device NotReady coded = absurd coded
-read_device Changed coded = absurd coded
-read_device Page coded = absurd coded
-read_device Seek coded = absurd coded
+read_device _ coded = absurd coded
 
 format_not_seek : (code : Code) → IsFormatCode code → code ≡ Seek → ⊥
 format_not_seek code coded is = subst IsFormatCode is coded

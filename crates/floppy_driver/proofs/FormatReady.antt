@@ -1,20 +1,6 @@
 -- A medium that can be written can still be written after the commands of a format.
 use Rattle.std.proofs.Common.{◌≡◌, ℕ, Bool, false, Option, Some, None, MatchOption, Result, sym, ap, ◌∙◌}
-use Rattle.std.specs.Option.{option_map_or}
-use Rattle.flop_base.specs.declared.answers.Code.{Code}
-use Rattle.raw_image.specs.Disk.{Disk}
-use Rattle.flop_base.specs.Bays.{Two, in_bay}
-use Rattle.sector_map.specs.Layings.{Format, Laying}
-use Rattle.floppy_driver.specs.declared.retry_plan.Prepare.{Prepare}
-use Rattle.floppy_driver.specs.Rigs.{Rig, IsSound, HeadsStay, OnlyAsks}
-use Rattle.floppy_driver.specs.Writing.{FormatsTrack, LaysMedium}
-use Rattle.floppy_driver.specs.Shown.{notes_of, is_held, with_notes}
-use Rattle.floppy_driver.specs.Attached.{IsAttached}
-use Rattle.floppy_driver.specs.Attempts.{CanTry}
-use Rattle.floppy_driver.specs.Prepared.{IsPrepared}
-use Rattle.floppy_driver.specs.Writings.{CanWrite}
-use Rattle.floppy_driver.specs.Formattings.{ReadsRecords}
-use Rattle.floppy_driver.specs.declared.driver.Driver.{Driver}
+use Rattle.floppy_driver.proofs.Common.{option_map_or, Code, Disk, Two, in_bay, Format, Laying, Prepare, Rig, IsSound, HeadsStay, OnlyAsks, FormatsTrack, LaysMedium, notes_of, is_held, with_notes, IsAttached, CanTry, IsPrepared, CanWrite, ReadsRecords, Driver}
 use Rattle.floppy_driver.proofs.Shows.{attached_stays, attached_written}
 use Rattle.floppy_driver.proofs.Attempts.{can_try_asked, prepared_ready}
 

@@ -1,26 +1,7 @@
 -- A format is a step of the sector model.
 use Rattle.std.proofs.Common.{◌≡◌, ℕ, ◌+◌, ◌-◌, ◌*◌, ◌<◌, ◌≤◌, Bool, true, false, List, Option, Some, None, MatchOption, Result, Ok, Err, IsErr, IfErr, refl, sym, ap, ◌∙◌, subst, arith}
 use Rattle.std.specs.Prelude.{◌&&◌, not, nat_le, if◌then◌else◌}
-use Rattle.std.specs.Option.{option_map_or}
-use Rattle.std.proofs.lemmas.Bool.{le-leb, lt-leb}
-use Rattle.flop_base.specs.Standard.{sectors_at}
-use Rattle.flop_base.specs.declared.answers.Rate.{Rate}
-use Rattle.flop_base.specs.declared.answers.Rate.TheVariants.{R500}
-use Rattle.flop_base.specs.declared.answers.Code.{Code}
-use Rattle.flop_base.specs.declared.answers.Code.TheVariants.{BadRequest, Changed, Protected, Seek}
-use Rattle.raw_image.specs.Disk.{Disk}
-use Rattle.flop_base.specs.Bays.{Two, in_bay}
-use Rattle.flop_base.specs.Counters.{DriveCounts, Counters, GoesOn, IsFaultless, DisturbedLess, IsDriven, CostsUpTo}
-use Rattle.flop_base.proofs.Counted.{goes_on_after, faults_go_on}
-use Rattle.sector_map.specs.Layings.{Format, IsFormattable}
-use Rattle.sector_model.specs.Stations.{Bay, StationState, bay_of, set_bay}
-use Rattle.sector_model.specs.Lasting.{format_once_port_accesses, format_port_accesses, format_steps, format_time, format_turns}
-use Rattle.sector_model.specs.Orders.{is_bay, is_place, is_acknowledged, is_protected, most_format_gap, is_format_request, IsRefusedAtOnce}
-use Rattle.sector_model.specs.Formats.{IsFormatCause, FormatsDrive, FormatsTo}
-use Rattle.floppy_driver.specs.Rigs.{CostsFor, Rig, OnlyAsks}
-use Rattle.floppy_driver.specs.Shown.{notes_of, is_held, with_waiting, shown, HasAsked}
-use Rattle.floppy_driver.specs.Formattings.{IsAttemptRefusal, FormatsIn, HasOnlyMedium}
-use Rattle.floppy_driver.specs.declared.driver.Driver.{Driver}
+use Rattle.floppy_driver.proofs.Common.{option_map_or, le-leb, lt-leb, sectors_at, Rate, R500, Code, BadRequest, Changed, Protected, Seek, Disk, Two, in_bay, DriveCounts, Counters, GoesOn, IsFaultless, DisturbedLess, IsDriven, CostsUpTo, goes_on_after, faults_go_on, Format, IsFormattable, Bay, StationState, bay_of, set_bay, format_once_port_accesses, format_port_accesses, format_steps, format_time, format_turns, is_bay, is_place, is_acknowledged, is_protected, most_format_gap, is_format_request, IsRefusedAtOnce, IsFormatCause, FormatsDrive, FormatsTo, CostsFor, Rig, OnlyAsks, notes_of, is_held, with_waiting, shown, HasAsked, IsAttemptRefusal, FormatsIn, HasOnlyMedium, Driver}
 use Rattle.floppy_driver.proofs.Shows.{bay_shown_at, acknowledged_held, asks_shown, driven_after}
 use Rattle.floppy_driver.proofs.Lasting.{costs_shown, format_costs, question_costs, questions_cost}
 use Rattle.floppy_driver.proofs.Asking.{refused_asking}

@@ -1,22 +1,8 @@
 -- Attempts of a format, one after the other.
 use Rattle.std.proofs.Common.{◌≡◌, ℕ, ◌+◌, ◌-◌, ◌*◌, ◌≤◌, Bool, true, false, List, [], ◌∷◌, ◌++◌, Option, Some, None, Result, Ok, Err, IfErr, refl, sym, ap, ◌∙◌, subst, arith}
 use Rattle.std.specs.Prelude.{◌==◌, if◌then◌else◌}
-use Rattle.std.proofs.lemmas.Bool.{false≢true}
-use Rattle.std.proofs.lemmas.List.{length-append}
+use Rattle.floppy_driver.proofs.Common.{false≢true, length-append, sectors_at, standard_code, Rate, R500, R250, Code, Disk, HasTrack, Fits, Two, Counters, GoesOn, IsUndisturbed, goes_on_itself, faults_go_on, Format, Laying, format_keys, formatted, CanFormat, IsFormattable, StationState, Bay, bay_of, LaysDisk, Lays, IsFormatted, IsUnformatted, IsAttemptRefusal, EndsFormat, FormatsIn, HasOnlyMedium}
 use Rattle.std.proofs.lemmas.List.Elements.{All-append}
-use Rattle.flop_base.specs.Standard.{sectors_at, standard_code}
-use Rattle.flop_base.specs.declared.answers.Rate.{Rate}
-use Rattle.flop_base.specs.declared.answers.Rate.TheVariants.{R500, R250}
-use Rattle.flop_base.specs.declared.answers.Code.{Code}
-use Rattle.raw_image.specs.Disk.{Disk, HasTrack}
-use Rattle.track_model.specs.Layouts.{Fits}
-use Rattle.flop_base.specs.Bays.{Two}
-use Rattle.flop_base.specs.Counters.{Counters, GoesOn, IsUndisturbed}
-use Rattle.flop_base.proofs.Counted.{goes_on_itself, faults_go_on}
-use Rattle.sector_map.specs.Layings.{Format, Laying, format_keys, formatted, CanFormat, IsFormattable}
-use Rattle.sector_model.specs.Stations.{StationState, Bay, bay_of}
-use Rattle.sector_model.specs.Formats.{LaysDisk, Lays, IsFormatted, IsUnformatted}
-use Rattle.floppy_driver.specs.Formattings.{IsAttemptRefusal, EndsFormat, FormatsIn, HasOnlyMedium}
 use Rattle.floppy_driver.proofs.Shows.{driven_after, driven_within, undisturbed_part, disturbed_less_more}
 use Rattle.floppy_driver.proofs.LaidTracks.{lays_none, same_some}
 use Rattle.floppy_driver.proofs.FormatOnce.{faultless_first, faultless_later}

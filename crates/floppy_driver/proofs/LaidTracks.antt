@@ -1,22 +1,10 @@
 -- What one format command makes of the medium in a bay, from the cylinder that was asked for.
 use Rattle.std.proofs.Common.{◌≡◌, ℕ, zero, suc, ◌<◌, ◌≤◌, All, List, [], ◌∷◌, length, Option, Some, None, MatchOption, refl, sym, ap, ◌∙◌, subst, arith}
-use Rattle.flop_base.specs.declared.key.Chrn.{Chrn}
-use Rattle.flop_base.specs.declared.answers.Rate.{Rate}
-use Rattle.flop_base.specs.declared.answers.Rate.TheVariants.{R500, R250}
-use Rattle.flop_base.specs.Standard.{sectors_at, standard_code}
-use Rattle.raw_image.specs.Disk.{Disk, IsDisk, HasTrack, track_of}
-use Rattle.track_model.specs.Fields.{IsSizeCode}
+use Rattle.floppy_driver.proofs.Common.{Chrn, Rate, R500, R250, sectors_at, standard_code, Disk, IsDisk, HasTrack, track_of, IsSizeCode, Fits, met_in, key_of, Format, Laying, IsLaying, format_keys, formatted, met_track, Lays, IsUnformatted, HoldsRecords}
 use Rattle.track_model.specs.LaidFields.{IsKey}
-use Rattle.track_model.specs.Layouts.{Fits}
 use Rattle.track_format.specs.Reads.{HasClearField}
 use Rattle.track_format.proofs.Read.{read_clear, read_filled}
-use Rattle.sector_map.specs.Met.{met_in}
-use Rattle.sector_map.specs.Standard.{key_of}
-use Rattle.sector_map.specs.Layings.{Format, Laying, IsLaying, format_keys, formatted}
 use Rattle.sector_map.proofs.Laid.{all_track_keys, each_track_key, laid_whole}
-use Rattle.sector_map.proofs.MetTracks.{met_track}
-use Rattle.sector_model.specs.Formats.{Lays, IsUnformatted}
-use Rattle.floppy_driver.specs.Formattings.{HoldsRecords}
 
 pub same_some : (a b : Disk) → Some a ≡ Some b → a ≡ b
 same_some a b e = cc
@@ -24,8 +12,7 @@ same_some a b e = cc
 pub lays_none : (format : Format) (m n : Option Disk) → n ≡ m → Lays format m [] n
 lays_none format None None e = (refl, e)
 lays_none format (Some d) (Some f) e = same_some f d e
-lays_none format None (Some f) e = absurd (cc e)
-lays_none format (Some d) None e = absurd (cc e)
+lays_none format _ _ e = absurd (cc e)
 
 lays_one : (format : Format) (m n : Option Disk) (d after : Disk) (laying : Laying) → m ≡ Some d → n ≡ Some after → IsLaying format d laying after → Lays format m (laying ∷ []) n
 lays_one format m n d after laying e f is =

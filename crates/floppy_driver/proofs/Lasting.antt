@@ -1,20 +1,8 @@
 -- What calls cost, one after another.
 use Rattle.std.proofs.Common.{◌≡◌, ℕ, ◌+◌, ◌*◌, ◌≤◌, List, Option, Some, None, Result, refl, sym, ◌∙◌, ap, subst, arith}
 use Rattle.std.proofs.Math.Nat.{mul-le-mul_right}
-use Rattle.flop_base.specs.Bays.{Two, in_bay}
+use Rattle.floppy_driver.proofs.Common.{Two, in_bay, CostsUpTo, DriveCounts, Code, Rate, Disk, Change, Written, Format, Laying, format_once_port_accesses, format_steps, format_turns, time_in, turn_of, Bay, StationState, bay_of, CostsFor, Rig, turn_in, HasAsked, shown, FormatsTrack, WritesData, Driver}
 use Rattle.flop_base.proofs.Costs.{accesses_twice, accesses_within, costs_none, costs_twice, costs_within}
-use Rattle.flop_base.specs.Counters.{CostsUpTo, Counters, DriveCounts}
-use Rattle.flop_base.specs.declared.answers.Code.{Code}
-use Rattle.flop_base.specs.declared.answers.Rate.{Rate}
-use Rattle.raw_image.specs.Disk.{Disk}
-use Rattle.sector_map.specs.Changes.{Change, Written}
-use Rattle.sector_map.specs.Layings.{Format, Laying}
-use Rattle.sector_model.specs.Lasting.{format_once_port_accesses, format_steps, format_turns, time_in, turn_of}
-use Rattle.sector_model.specs.Stations.{Bay, StationState, bay_of}
-use Rattle.floppy_driver.specs.Rigs.{CostsFor, Rig, turn_in}
-use Rattle.floppy_driver.specs.Shown.{HasAsked, shown}
-use Rattle.floppy_driver.specs.Writing.{FormatsTrack, WritesData}
-use Rattle.floppy_driver.specs.declared.driver.Driver.{Driver}
 use Rattle.floppy_driver.proofs.Shows.{bay_shown_at}
 
 -- ---- a revolution stays as long as it was

@@ -1,3 +1,4 @@
+mod Common
 pub mod TriedWrites
 pub mod TriedReads
 pub mod SureAttempts

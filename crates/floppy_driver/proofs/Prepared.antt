@@ -1,19 +1,7 @@
 -- How driver and machine agree once an attempt is prepared.
 use Rattle.std.proofs.Common.{◌≡◌, ℕ, ◌<◌, ◌≤◌, Bool, true, Option, Some, None, IsSome, refl, sym, ap, ◌∙◌, subst, arith}
-use Rattle.flop_base.specs.Counts.{last_count}
-use Rattle.raw_image.specs.Disk.{Disk}
-use Rattle.floppy_driver.specs.declared.retry_plan.Prepare.{Prepare}
+use Rattle.floppy_driver.proofs.Common.{last_count, Disk, Prepare, Two, in_bay, faults_of, faults_go_on, Rig, MovesHeads, Notes, Driver, notes_of, is_held, with_notes, IsAttached, IsPrepared}
 use Rattle.floppy_driver.specs.declared.retry_plan.Prepare.TheVariants as prepare
-use Rattle.flop_base.specs.Bays.{Two, in_bay}
-use Rattle.flop_base.specs.Counters.{faults_of}
-use Rattle.flop_base.proofs.Counted.{faults_go_on}
-use Rattle.floppy_driver.specs.Rigs.{Rig}
-use Rattle.floppy_driver.specs.Heads.{MovesHeads}
-use Rattle.floppy_driver.specs.declared.driver.Notes.{Notes}
-use Rattle.floppy_driver.specs.declared.driver.Driver.{Driver}
-use Rattle.floppy_driver.specs.Shown.{notes_of, is_held, with_notes}
-use Rattle.floppy_driver.specs.Attached.{IsAttached}
-use Rattle.floppy_driver.specs.Prepared.{IsPrepared}
 use Rattle.floppy_driver.proofs.Shows.{IsNotedAt, noted_at, held_lines_stay, spun_at, attached_noted}
 
 -- what the notes know of the cylinder is true of the drive

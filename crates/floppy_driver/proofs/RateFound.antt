@@ -1,19 +1,6 @@
 -- Looking for the rate of a medium.
 use Rattle.std.proofs.Common.{◌≡◌, ℕ, ◌+◌, ◌*◌, ◌≤◌, Bool, false, List, Option, Result, Ok, Err, IfErr, is_ok, sym, ap, ◌∙◌, subst, arith, inl, inr}
-use Rattle.std.proofs.lemmas.Bool.{false≢true, cases_lt}
-use Rattle.flop_base.specs.Counts.{last_count}
-use Rattle.flop_base.specs.declared.key.Chrn.{Chrn}
-use Rattle.flop_base.specs.declared.answers.Rate.{Rate}
-use Rattle.flop_base.specs.declared.answers.Rate.TheVariants.{R500, R250}
-use Rattle.flop_base.specs.declared.answers.Code.{Code}
-use Rattle.raw_image.specs.Disk.{Disk}
-use Rattle.flop_base.specs.Bays.{Two, in_bay}
-use Rattle.flop_base.specs.Counters.{Counters, faults_of, IsFaultless, FaultsRoseBy, GoesOn}
-use Rattle.flop_base.proofs.Counted.{goes_on_after, faults_go_on}
-use Rattle.sector_map.specs.Met.{met_in, HasClearAddress}
-use Rattle.floppy_driver.specs.Rigs.{Rig, StaysSpun, track_under}
-use Rattle.floppy_driver.specs.Reading.{SendsRead, ReadsId}
-use Rattle.floppy_driver.specs.Acknowledged.{OnlyReads, FindsRate}
+use Rattle.floppy_driver.proofs.Common.{false≢true, cases_lt, last_count, Chrn, Rate, R500, R250, Code, Disk, Two, in_bay, Counters, faults_of, IsFaultless, FaultsRoseBy, GoesOn, goes_on_after, faults_go_on, met_in, HasClearAddress, Rig, StaysSpun, track_under, SendsRead, ReadsId, OnlyReads, FindsRate}
 use Rattle.floppy_driver.proofs.Rounds.{HasFoundNone}
 use Rattle.floppy_driver.proofs.Shows.{driven_after, driven_within}
 

@@ -1,27 +1,8 @@
 -- Reading a record back to the driver's page.
 use Rattle.std.proofs.Common.{◌≡◌, ℕ, ◌+◌, ◌≤◌, Bool, false, List, length, drop, replicate, get_or, Option, Ok, Err, refl, sym, ap, ◌∙◌, subst, arith, inl, inr}
-use Rattle.std.proofs.lemmas.Bool.{false≢true}
-use Rattle.std.proofs.lemmas.List.{get_or_append_left, get_or-replicate}
-use Rattle.flop_base.specs.declared.key.Chrn.{Chrn}
-use Rattle.flop_base.specs.declared.answers.Rate.{Rate}
-use Rattle.flop_base.specs.declared.answers.Code.{Code}
-use Rattle.flop_base.specs.declared.answers.Code.TheVariants.{BadRequest, NoMark, Protected, NotFound, NotReady, Changed, Overrun, Page, BadCrc, Seek}
-use Rattle.raw_image.specs.Disk.{Disk, track_of}
+use Rattle.floppy_driver.proofs.Common.{false≢true, get_or_append_left, get_or-replicate, Chrn, Rate, Code, NoMark, NotFound, BadCrc, Disk, track_of, IsAddressAt, content_size, content_at, IsSector, one_look_at, Two, in_bay, goes_on_after, goes_on_itself, met_in, key_of, IsUndisturbed, HasNothing, met_track, Rig, HeadsStay, track_under, IsReadReason, ReadsBack, IsFilled, IsBlankUnder, HoldsRecord, HoldsRecords, ReadsRecords}
 use Rattle.track_model.specs.declared.Look.TheVariants as look
-use Rattle.track_model.specs.Fields.{IsAddressAt, content_size, content_at}
-use Rattle.track_model.specs.Sectors.{IsSector}
-use Rattle.track_model.proofs.Unique.{one_look_at}
-use Rattle.flop_base.specs.Bays.{Two, in_bay}
-use Rattle.flop_base.proofs.Counted.{goes_on_after, goes_on_itself}
-use Rattle.sector_map.specs.Met.{met_in}
-use Rattle.sector_map.specs.Standard.{key_of}
-use Rattle.flop_base.specs.Counters.{IsUndisturbed}
 use Rattle.flop_base.specs.Lists.{with_items}
-use Rattle.sector_map.specs.MetTracks.{HasNothing}
-use Rattle.sector_map.proofs.MetTracks.{met_track}
-use Rattle.floppy_driver.specs.Rigs.{Rig, HeadsStay, track_under}
-use Rattle.floppy_driver.specs.Reading.{IsReadReason, ReadsBack}
-use Rattle.floppy_driver.specs.Formattings.{IsFilled, IsBlankUnder, HoldsRecord, HoldsRecords, ReadsRecords}
 use Rattle.floppy_driver.proofs.Shows.{driven_after, driven_within, undisturbed_part, undisturbed_faultless}
 
 -- a read of a record that is there has no reason to fail
@@ -35,13 +16,7 @@ no_reason track key fill BadCrc holds found =
     let there = holds.filled found.0 found.1 in
     let same : look.BadCrc ≡ look.Found false there.0 = one_look_at track found.0 key.n look.BadCrc (look.Found false there.0) found.2 there.1 in
     absurd (cc same)
-no_reason track key fill BadRequest holds reason = reason
-no_reason track key fill Protected holds reason = reason
-no_reason track key fill NotReady holds reason = reason
-no_reason track key fill Changed holds reason = reason
-no_reason track key fill Overrun holds reason = reason
-no_reason track key fill Page holds reason = reason
-no_reason track key fill Seek holds reason = reason
+no_reason track key fill _ holds reason = reason
 
 same_place : (a b : Bool) (p q : ℕ) → look.Found a p ≡ look.Found b q → p ≡ q
 same_place a b p q e = cc e
@@ -58,13 +33,7 @@ unmarked_code : (track : List ℕ) (key : Chrn) (code : Code) → HasNothing tra
 unmarked_code track key NoMark nothing reason = refl
 unmarked_code track key NotFound nothing reason = absurd (nothing.marks reason.0)
 unmarked_code track key BadCrc nothing found = absurd (nothing.looks key look.BadCrc found)
-unmarked_code track key BadRequest nothing reason = absurd reason
-unmarked_code track key Protected nothing reason = absurd reason
-unmarked_code track key NotReady nothing reason = absurd reason
-unmarked_code track key Changed nothing reason = absurd reason
-unmarked_code track key Overrun nothing reason = absurd reason
-unmarked_code track key Page nothing reason = absurd reason
-unmarked_code track key Seek nothing reason = absurd reason
+unmarked_code track key _ nothing reason = absurd reason
 
 -- the page begins with this byte, repeated
 filled_page : (page content new : List ℕ) (count fill : ℕ) → new ≡ with_items page 0 content → length content ≡ count → content ≡ replicate count fill → IsFilled new count fill

@@ -1,28 +1,8 @@
 -- One attempt at a read.
 use Rattle.std.proofs.Common.{◌≡◌, ◌↔◌, ℕ, ◌≤◌, IsTrue, Bool, true, List, Option, is_some, Result, Ok, Err, IfOk, IfErr, refl, sym, ap, ◌∙◌, subst, arith, inl, inr}
-use Rattle.raw_image.specs.Disk.{Disk}
-use Rattle.flop_base.specs.declared.key.Chrn.{Chrn}
-use Rattle.flop_base.specs.declared.answers.Rate.{Rate}
-use Rattle.flop_base.specs.declared.answers.Code.{Code}
-use Rattle.flop_base.specs.declared.answers.Code.TheVariants.{BadRequest, NoMark, Protected, NotFound, Changed, Overrun, Page, BadCrc, Seek, NotReady}
-use Rattle.floppy_driver.specs.declared.retry_plan.Prepare.{Prepare}
+use Rattle.floppy_driver.proofs.Common.{Disk, Chrn, Rate, Code, NoMark, NotFound, Overrun, BadCrc, Seek, Prepare, content_size, Two, in_bay, DriveCounts, IsFaultless, GoesOn, SameOutside, goes_on_after, goes_on_itself, faults_go_on, met_in, Rig, track_under, IsReadReason, IsReadCode, IsReadMiss, FindsField, ReadsData, Bay, StationState, bay_of, met, IsDeviceRefusal, Driver, notes_of, shown, with_notes, with_waiting, HasAsked, IsPrepared, CanTry, IsSure, IsReadWhole, IsReadFailed, TriesRead}
 use Rattle.floppy_driver.specs.declared.retry_plan.Prepare.TheVariants as prepare
-use Rattle.track_model.specs.Fields.{content_size}
-use Rattle.flop_base.specs.Bays.{Two, in_bay}
-use Rattle.flop_base.specs.Counters.{DriveCounts, IsFaultless, GoesOn}
 use Rattle.flop_base.specs.Lists.{with_items}
-use Rattle.flop_base.specs.Memory.{SameOutside}
-use Rattle.flop_base.proofs.Counted.{goes_on_after, goes_on_itself, faults_go_on}
-use Rattle.sector_map.specs.Met.{met_in}
-use Rattle.floppy_driver.specs.Rigs.{Rig, track_under}
-use Rattle.floppy_driver.specs.Reading.{IsReadReason, IsReadCode, IsReadMiss, FindsField, ReadsData}
-use Rattle.sector_model.specs.Stations.{Bay, StationState, bay_of, met}
-use Rattle.sector_model.specs.Orders.{IsDeviceRefusal}
-use Rattle.floppy_driver.specs.declared.driver.Driver.{Driver}
-use Rattle.floppy_driver.specs.Shown.{notes_of, shown, with_notes, with_waiting, HasAsked}
-use Rattle.floppy_driver.specs.Prepared.{IsPrepared}
-use Rattle.floppy_driver.specs.Attempts.{CanTry, IsSure}
-use Rattle.floppy_driver.specs.Readings.{IsReadWhole, IsReadFailed, TriesRead}
 use Rattle.floppy_driver.proofs.Shows.{held_bay, held_bay_shown, read_shown, waiting_goes_on, waiting_driven, waiting_undisturbed, driven_after, undisturbed_part, undisturbed_faultless}
 use Rattle.floppy_driver.proofs.Attempts.{sure_way, prepared_shown, prepared_steady}
 
@@ -31,12 +11,8 @@ device_code NoMark is = tt
 device_code NotFound is = tt
 device_code BadCrc is = tt
 device_code Overrun is = tt
-device_code BadRequest is = is
-device_code Protected is = is
-device_code Changed is = is
-device_code Page is = is
 device_code Seek is = absurd is
-device_code NotReady is = is
+device_code _ is = is
 
 no_seek : (code : Code) → IsReadCode code → code ≡ Seek → ⊥
 no_seek code is e = subst IsReadCode e is

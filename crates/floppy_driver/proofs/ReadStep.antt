@@ -1,13 +1,7 @@
 -- The order of a read's refusals.
 use Rattle.std.proofs.Common.{◌≡◌, ℕ, Bool, true, false, Option, Some, None, MatchOption, Result, sym, subst}
 use Rattle.std.specs.Prelude.{not, if◌then◌else◌}
-use Rattle.flop_base.specs.declared.key.Chrn.{Chrn}
-use Rattle.flop_base.specs.declared.answers.Code.{Code}
-use Rattle.flop_base.specs.declared.answers.Code.TheVariants.{BadRequest, Changed, Page}
-use Rattle.track_model.specs.Fields.{content_size}
-use Rattle.sector_model.specs.Stations.{StationState}
-use Rattle.sector_model.specs.Orders.{is_sector_request, crosses_page, is_acknowledged, IsRefusedAtOnce}
-use Rattle.sector_model.specs.Reads.{ReadsDrive, Reads}
+use Rattle.floppy_driver.proofs.Common.{Chrn, Code, BadRequest, Changed, Page, content_size, StationState, is_sector_request, crosses_page, is_acknowledged, IsRefusedAtOnce, ReadsDrive, Reads}
 
 module _ (old : StationState) (bay : ℕ) (key : Chrn) (address : ℕ) (answer : Result Bool Code) (new : StationState) (asked : is_sector_request bay key address ≡ true) (page : crosses_page address (content_size key.n) ≡ false) where
   Step : Option Code → Type 0

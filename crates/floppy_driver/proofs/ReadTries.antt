@@ -1,26 +1,8 @@
 -- Attempts at a read, one after the other.
 use Rattle.std.proofs.Common.{◌≡◌, ℕ, ◌+◌, ◌-◌, ◌<◌, ◌≤◌, ◌++◌, Bool, List, length, take, drop, min, Ok, Err, refl, sym, ap, ◌∙◌, subst, arith, inl, inr}
-use Rattle.std.proofs.lemmas.List.{get_or-take, get_or-drop, length-take, length-drop}
-use Rattle.std.proofs.lemmas.Grind.{same_number_lists}
-use Rattle.flop_base.specs.declared.key.Chrn.{Chrn}
-use Rattle.flop_base.specs.declared.answers.Code.{Code}
-use Rattle.flop_base.specs.declared.answers.Code.TheVariants.{BadRequest, NoMark, Protected, NotFound, Changed, Overrun, Page, BadCrc, Seek, NotReady}
-use Rattle.track_model.specs.declared.Look.{Look}
+use Rattle.floppy_driver.proofs.Common.{get_or-take, get_or-drop, length-take, length-drop, same_number_lists, Chrn, Code, NoMark, NotFound, BadCrc, Look, content_size, one_look_at, Counters, IsFaultless, DisturbedLess, CostsUpTo, GoesOn, SameOutside, goes_on_after, goes_on_itself, faults_go_on, HasClearAddress, HasLook, AllFound, IsReadReason, read_port_accesses, read_time, StationState, bay_of, met, IsRead, ReadsDrive, HasAsked, IsSure, IsReadWhole, IsReadFailed, TriesRead}
 use Rattle.track_model.specs.declared.Look.TheVariants as look
-use Rattle.track_model.specs.Fields.{content_size}
-use Rattle.track_model.proofs.Unique.{one_look_at}
-use Rattle.flop_base.specs.Counters.{Counters, IsFaultless, DisturbedLess, CostsUpTo, GoesOn}
 use Rattle.flop_base.specs.Lists.{with_items}
-use Rattle.flop_base.specs.Memory.{SameOutside}
-use Rattle.flop_base.proofs.Counted.{goes_on_after, goes_on_itself, faults_go_on}
-use Rattle.sector_map.specs.Met.{HasClearAddress, HasLook, AllFound}
-use Rattle.floppy_driver.specs.Reading.{IsReadReason}
-use Rattle.sector_model.specs.Lasting.{read_port_accesses, read_time}
-use Rattle.sector_model.specs.Stations.{StationState, bay_of, met}
-use Rattle.sector_model.specs.Reads.{IsRead, ReadsDrive}
-use Rattle.floppy_driver.specs.Shown.{HasAsked}
-use Rattle.floppy_driver.specs.Attempts.{IsSure}
-use Rattle.floppy_driver.specs.Readings.{IsReadWhole, IsReadFailed, TriesRead}
 use Rattle.floppy_driver.proofs.TriedReads.{HasTriedRead}
 use Rattle.floppy_driver.proofs.Shows.{driven_after, driven_within, undisturbed_part}
 use Rattle.floppy_driver.proofs.Attempts.{spoilt_none, spoilt_more, all_sure, last_sure}
@@ -67,13 +49,7 @@ good_track track key NoMark clear all (inl none) = none clear.0 clear.1.clear
 good_track track key NoMark clear all (inr looked) = not_found track key look.NoData looked (λ deleted place e. cc e) all
 good_track track key NotFound clear all reason = reason.1 clear
 good_track track key BadCrc clear all reason = not_found track key look.BadCrc reason (λ deleted place e. cc e) all
-good_track track key BadRequest clear all reason = reason
-good_track track key Protected clear all reason = reason
-good_track track key Changed clear all reason = reason
-good_track track key Overrun clear all reason = reason
-good_track track key Page clear all reason = reason
-good_track track key Seek clear all reason = reason
-good_track track key NotReady clear all reason = reason
+good_track track key _ clear all reason = reason
 
 -- ---- attempt after attempt
 

@@ -1,9 +1,6 @@
 -- How counts rise in a call and in its parts.
 use Rattle.std.proofs.Common.{ℕ, ◌+◌, ◌⊎◌, arith, inl, inr}
-use Rattle.std.proofs.lemmas.Bool.{cases_lt}
-use Rattle.flop_base.specs.Counts.{RoseBy}
-use Rattle.flop_base.specs.Counters.{Counters, faults_of, FaultsRoseBy, FaultsRoseLess, DisturbedLess, IsUndisturbed, GoesOn}
-use Rattle.flop_base.proofs.Counted.{faults_go_on}
+use Rattle.floppy_driver.proofs.Common.{cases_lt, RoseBy, Counters, faults_of, FaultsRoseBy, FaultsRoseLess, DisturbedLess, IsUndisturbed, GoesOn, faults_go_on}
 
 -- a call with two parts
 module _ (bay : ℕ) (a b c : Counters) (one : GoesOn a b) (two : GoesOn b c) where

@@ -1,9 +1,6 @@
 -- Words of the proofs: the rounds of an acknowledgement so far.
 use Rattle.std.proofs.Common.{◌≡◌, ℕ, ◌*◌, true, IsSome}
-use Rattle.flop_base.specs.Bays.{in_bay}
-use Rattle.flop_base.specs.Counters.{FaultsRoseBy, IsDriven}
-use Rattle.floppy_driver.specs.Rigs.{Rig}
-use Rattle.floppy_driver.specs.Acknowledged.{Works, OnlyReads, IsSpoilt}
+use Rattle.floppy_driver.proofs.Common.{in_bay, FaultsRoseBy, IsDriven, Rig, Works, OnlyReads, IsSpoilt}
 
 -- the change line stayed set in `count` rounds of steps: if a medium is in and at speed, a pulse of each round was lost
 pub record HasStayedSet (bay count : ℕ) (old new : Rig) : Type 0 where

@@ -1,22 +1,7 @@
 -- What commands do to the station that is shown, and to the agreement of driver and machine.
 use Rattle.std.proofs.Common.{◌≡◌, ℕ, zero, suc, ◌+◌, ◌-◌, ◌≤◌, ◌⊎◌, Bool, true, false, List, Option, Some, None, refl, sym, ap, ◌∙◌, subst, arith, inl, inr}
 use Rattle.std.specs.Prelude.{◌==◌, ◌&&◌, not, is_some, if◌then◌else◌}
-use Rattle.std.proofs.lemmas.Bool.{false≢true, cases_lt}
-use Rattle.flop_base.specs.declared.answers.Rate.TheVariants.{R500}
-use Rattle.raw_image.specs.Disk.{Disk}
-use Rattle.flop_base.specs.Bays.{Two, in_bay, with_bay}
-use Rattle.flop_base.specs.Counters.{DriveCounts, Counters, faults_of, IsFaultless, DisturbedLess, IsUndisturbed, GoesOn, IsDriven}
-use Rattle.flop_base.proofs.Counted.{faults_go_on}
-use Rattle.floppy_driver.specs.Rigs.{Rig, StaysSpun, HeadsStay, OnlyAsks}
-use Rattle.floppy_driver.specs.Heads.{MovesHeads}
-use Rattle.floppy_driver.specs.Reading.{SendsRead}
-use Rattle.floppy_driver.specs.Writing.{SendsWrite}
-use Rattle.sector_model.specs.Stations.{Bay, StationState, Becomes, Stays, bay_of, set_bay}
-use Rattle.sector_model.specs.Orders.{is_acknowledged}
-use Rattle.floppy_driver.specs.declared.driver.Notes.{Notes}
-use Rattle.floppy_driver.specs.declared.driver.Driver.{Driver}
-use Rattle.floppy_driver.specs.Shown.{notes_of, is_held, bay_shown, with_waiting, shown, with_notes, HasAsked}
-use Rattle.floppy_driver.specs.Attached.{IsNoted, IsAttached}
+use Rattle.floppy_driver.proofs.Common.{false≢true, cases_lt, R500, Disk, Two, in_bay, with_bay, DriveCounts, Counters, faults_of, IsFaultless, DisturbedLess, IsUndisturbed, GoesOn, IsDriven, faults_go_on, Rig, StaysSpun, HeadsStay, OnlyAsks, MovesHeads, SendsRead, SendsWrite, Bay, StationState, Becomes, Stays, bay_of, set_bay, is_acknowledged, Notes, Driver, notes_of, is_held, bay_shown, with_waiting, shown, with_notes, HasAsked, IsNoted, IsAttached}
 
 -- ---- counts
 
@@ -196,21 +181,6 @@ module _ (driver : Driver) (old new : Rig) (spares : ℕ) (waiting : List DriveC
   pub moved_shown : (bay : ℕ) → is_held (notes_of driver bay) (in_bay old.changes bay) ≡ true → MovesHeads bay old new → Stays (shown driver old spares waiting) (shown driver new spares waiting)
   moved_shown bay held moves = counters_shown moves.media (held_lines_stay old bay new (notes_of driver bay) held moves) moves.memory
 
-  written_at : (bay : ℕ) → bay ≤ 1 → in_bay new.media (1 - bay) ≡ in_bay old.media (1 - bay) → new.changes ≡ old.changes → new.memory ≡ old.memory → Becomes (set_bay (shown driver old spares waiting) bay (record (bay_of (shown driver old spares waiting) bay) { medium = in_bay new.media bay })) (shown driver new spares waiting)
-  unfolding shown_parts
-  written_at zero in_range other changes memory =
-      ap (λ m. shown_parts driver (record { first = new.media.first; second = m }) new.changes new.memory (with_waiting new.counters waiting) spares) other
-      ∙ ap (λ c. shown_parts driver (record { first = new.media.first; second = old.media.second }) c new.memory (with_waiting new.counters waiting) spares) changes
-      ∙ ap (λ m. shown_parts driver (record { first = new.media.first; second = old.media.second }) old.changes m (with_waiting new.counters waiting) spares) memory
-  written_at (suc zero) in_range other changes memory =
-      ap (λ m. shown_parts driver (record { first = m; second = new.media.second }) new.changes new.memory (with_waiting new.counters waiting) spares) other
-      ∙ ap (λ c. shown_parts driver (record { first = old.media.first; second = new.media.second }) c new.memory (with_waiting new.counters waiting) spares) changes
-      ∙ ap (λ m. shown_parts driver (record { first = old.media.first; second = new.media.second }) old.changes m (with_waiting new.counters waiting) spares) memory
-  written_at (suc (suc n)) in_range other changes memory = absurd (omega arith)
-
-  pub written_shown : (bay : ℕ) → bay ≤ 1 → SendsWrite bay old new → Becomes (set_bay (shown driver old spares waiting) bay (record (bay_of (shown driver old spares waiting) bay) { medium = in_bay new.media bay })) (shown driver new spares waiting)
-  written_shown bay in_range sends = written_at bay in_range sends.other_medium sends.heads.changes sends.memory
-
 -- a question to the machine is a question to the station, if the driver shows the same after it
 pub asks_shown : (driver after : Driver) (old new : Rig) (spares : ℕ) (waiting : List DriveCounts) → shown after old spares waiting ≡ shown driver old spares waiting → OnlyAsks old new → HasAsked (shown driver old spares waiting) (shown after new spares waiting)
 asks_shown driver after old new spares waiting same asks = record {
@@ -332,9 +302,8 @@ notes_set driver bay notes = by_bay (bay == 0)
     by_bay false = refl
 
 pub other_notes : (driver : Driver) (bay : ℕ) (notes : Notes) → bay ≤ 1 → notes_of (with_notes driver bay notes) (1 - bay) ≡ notes_of driver (1 - bay)
-other_notes driver zero notes in_range = refl
-other_notes driver (suc zero) notes in_range = refl
 other_notes driver (suc (suc n)) notes in_range = absurd (omega arith)
+other_notes driver _ notes in_range = refl
 
 -- the agreement with new notes on a bay follows from what is true of its drive and of the other
 pub attached_with : (driver after : Driver) (rig : Rig) (bay : ℕ) (notes : Notes) → bay ≤ 1 → after ≡ with_notes driver bay notes → IsNoted notes (in_bay rig.media bay) (in_bay rig.changes bay) (in_bay rig.spun bay) (in_bay rig.numbers bay) (in_bay rig.cylinders bay) (faults_of rig.counters bay) → IsNotedAt driver rig (1 - bay) → IsAttached after rig

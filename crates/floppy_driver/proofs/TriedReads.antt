@@ -1,16 +1,7 @@
 -- Words of the proofs: a read in attempts so far.
 use Rattle.std.proofs.Common.{◌≡◌, ℕ, ◌+◌, ◌-◌, ◌≤◌}
-use Rattle.flop_base.specs.declared.key.Chrn.{Chrn}
-use Rattle.flop_base.specs.declared.answers.Code.{Code}
-use Rattle.flop_base.specs.declared.answers.Code.TheVariants.{Seek}
-use Rattle.track_model.specs.Fields.{content_size}
-use Rattle.flop_base.specs.Counters.{DisturbedLess, GoesOn, IsDriven}
-use Rattle.flop_base.specs.Memory.{SameOutside}
-use Rattle.sector_map.specs.Met.{HasClearAddress, AllFound}
-use Rattle.sector_model.specs.Stations.{StationState, Becomes, bay_of, met}
-use Rattle.floppy_driver.specs.Attempts.{IsSure}
+use Rattle.floppy_driver.proofs.Common.{Chrn, Code, Seek, content_size, DisturbedLess, GoesOn, IsDriven, SameOutside, HasClearAddress, AllFound, StationState, Becomes, bay_of, met, IsSure, IsReadFailed}
 use Rattle.floppy_driver.proofs.SureAttempts.{sure_attempts}
-use Rattle.floppy_driver.specs.Readings.{IsReadFailed}
 
 -- `count` attempts failed since the start of the call, the last one with this code
 pub record HasTriedRead (bay : ℕ) (key : Chrn) (address count : ℕ) (start : StationState) (code : Code) (now : StationState) : Type 0 where

@@ -1,29 +1,8 @@
 -- Words of the proofs: a write in attempts so far.
 use Rattle.std.proofs.Common.{None, [], ◌∷◌, ◌++◌, ◌≡◌, ◌≢◌, ℕ, ◌+◌, ◌-◌, ◌*◌, ◌≤◌, Bool, List, length, All, Option, Some, ◌⊎◌}
-use Rattle.flop_base.specs.Counts.{RoseBy}
-use Rattle.flop_base.specs.declared.key.Chrn.{Chrn}
-use Rattle.flop_base.specs.declared.answers.Code.{Code}
-use Rattle.flop_base.specs.declared.answers.Code.TheVariants.{NoMark, NotFound, Overrun, BadCrc, Seek}
-use Rattle.raw_image.specs.Disk.{Disk, IsDisk}
+use Rattle.floppy_driver.proofs.Common.{RoseBy, Chrn, Code, NoMark, NotFound, Overrun, BadCrc, Seek, Disk, IsDisk, IsAddressAt, HasAddressMark, IsCut, IsTidy, IsRegular, DriveCounts, FaultsRoseBy, IsUndisturbed, DisturbedLess, GoesOn, IsDriven, faults_of, HasNoClearMark, HasClearAddress, HasLook, IsRegularDisk, Change, Written, window_of, FitsKey, IsSameOrChanged, StationState, Becomes, bay_of, set_bay, met, IsSteady, IsDeviceRefusal, Rig, Driver, shown, HasAsked, IsSure, Reaches, IsLastWhole, HasWindowCut, HasOtherContent, written_from, CanWrite}
 use Rattle.track_model.specs.declared.Look.TheVariants as look
-use Rattle.track_model.specs.Fields.{IsAddressAt}
-use Rattle.track_model.specs.Looks.{HasAddressMark}
-use Rattle.track_model.specs.Windows.{IsCut, IsTidy}
-use Rattle.track_model.specs.Regular.{IsRegular}
-use Rattle.flop_base.specs.Counters.{DriveCounts, FaultsRoseBy, IsUndisturbed, DisturbedLess, GoesOn, IsDriven, faults_of}
-use Rattle.sector_map.specs.Met.{HasNoClearMark, HasClearAddress, HasLook}
-use Rattle.sector_map.specs.Disks.{IsRegularDisk}
-use Rattle.sector_map.specs.Changes.{Change, Written, window_of}
-use Rattle.sector_map.proofs.Writable.{FitsKey, IsSameOrChanged}
-use Rattle.sector_model.specs.Stations.{StationState, Becomes, bay_of, set_bay, met, IsSteady}
-use Rattle.sector_model.specs.Orders.{IsDeviceRefusal}
-use Rattle.floppy_driver.specs.Rigs.{Rig}
-use Rattle.floppy_driver.specs.declared.driver.Driver.{Driver}
-use Rattle.floppy_driver.specs.Shown.{shown, HasAsked}
-use Rattle.floppy_driver.specs.Attempts.{IsSure}
 use Rattle.floppy_driver.proofs.SureAttempts.{sure_attempts}
-use Rattle.sector_model.specs.Writes.{Reaches, IsLastWhole, HasWindowCut, HasOtherContent, written_from}
-use Rattle.floppy_driver.specs.Writings.{CanWrite}
 
 -- what has to hold at the start, so that a regular disk stays regular
 pub record IsWriteStart (written : Written) (bay : ℕ) (start : StationState) : Type 0 where

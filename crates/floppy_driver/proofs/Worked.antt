@@ -1,17 +1,6 @@
 -- Working with a drive until its change line clears.
 use Rattle.std.proofs.Common.{◌≡◌, ℕ, zero, suc, ◌-◌, ◌≤◌, Bool, true, false, List, Option, Some, None, IsSome, refl, sym, ap, ◌∙◌, arith}
-use Rattle.std.proofs.lemmas.Bool.{false≢true}
-use Rattle.raw_image.specs.Disk.{Disk}
-use Rattle.flop_base.specs.Bays.{Two, in_bay}
-use Rattle.flop_base.specs.Counters.{DriveCounts, faults_of, IsDriven}
-use Rattle.flop_base.proofs.Counted.{goes_on_after, faults_go_on}
-use Rattle.floppy_driver.specs.Rigs.{Rig, OnlyAsks}
-use Rattle.sector_model.specs.Stations.{Bay, StationState, set_bay}
-use Rattle.floppy_driver.specs.declared.driver.Notes.{Notes}
-use Rattle.floppy_driver.specs.declared.driver.Driver.{Driver}
-use Rattle.floppy_driver.specs.Shown.{notes_of, bay_shown, with_waiting, shown, with_notes}
-use Rattle.floppy_driver.specs.Attached.{IsAttached}
-use Rattle.floppy_driver.specs.Acknowledged.{Works, ClearsChange, OnlyReads}
+use Rattle.floppy_driver.proofs.Common.{false≢true, Disk, Two, in_bay, DriveCounts, faults_of, IsDriven, goes_on_after, faults_go_on, Rig, OnlyAsks, Bay, StationState, set_bay, Notes, Driver, notes_of, bay_shown, with_waiting, shown, with_notes, IsAttached, Works, ClearsChange, OnlyReads}
 use Rattle.floppy_driver.proofs.Rounds.{HasStayedSet}
 use Rattle.floppy_driver.proofs.Shows.{IsNotedAt, noted_at, noted_later, spun_at, driven_after}
 use Rattle.floppy_driver.proofs.RateFound.{spun_after}

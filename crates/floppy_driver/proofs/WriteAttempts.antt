@@ -1,31 +1,8 @@
 -- One attempt at a write, as the station shows it.
 use Rattle.std.proofs.Common.{MatchOption, IfErr, ◌≡◌, ◌↔◌, ℕ, zero, suc, ◌-◌, ◌≤◌, Bool, true, false, IsTrue, List, Option, Some, None, IsSome, is_some, Result, Ok, Err, refl, sym, ap, ◌∙◌, subst, arith}
-use Rattle.std.specs.Option.{option_map_or}
-use Rattle.flop_base.specs.declared.key.Chrn.{Chrn}
-use Rattle.flop_base.specs.declared.answers.Rate.{Rate}
-use Rattle.flop_base.specs.declared.answers.Code.{Code}
-use Rattle.raw_image.specs.Disk.{Disk}
-use Rattle.flop_base.specs.Bays.{Two, in_bay}
-use Rattle.flop_base.specs.Memory.{bytes_from}
-use Rattle.track_model.specs.Fields.{content_size}
-use Rattle.flop_base.specs.Counters.{DriveCounts, Counters, GoesOn}
-use Rattle.flop_base.proofs.Counted.{goes_on_after, faults_go_on}
-use Rattle.floppy_driver.specs.declared.retry_plan.Prepare.{Prepare}
+use Rattle.floppy_driver.proofs.Common.{option_map_or, Chrn, Rate, Code, Disk, Two, in_bay, bytes_from, content_size, DriveCounts, Counters, GoesOn, goes_on_after, faults_go_on, Prepare, met_in, Change, Written, change_keeps_tracks, Bay, StationState, Becomes, Stays, bay_of, set_bay, met, Rig, IsSound, HeadsStay, track_under, ChangesMedium, Notes, Driver, notes_of, is_held, bay_shown, with_waiting, shown, with_notes, HasAsked, IsSure, IsAttached, IsPrepared, CanWrite, IsMissCause, IsReadBack, WritesChecked, ChangesBay, TriesWrite}
 use Rattle.floppy_driver.specs.declared.retry_plan.Prepare.TheVariants as prepare
-use Rattle.sector_map.specs.Met.{met_in}
-use Rattle.sector_map.specs.Changes.{Change, Written}
-use Rattle.sector_map.proofs.Changed.{change_keeps_tracks}
-use Rattle.sector_model.specs.Stations.{Bay, StationState, Becomes, Stays, bay_of, set_bay, met}
-use Rattle.floppy_driver.specs.Rigs.{Rig, IsSound, HeadsStay, track_under}
-use Rattle.floppy_driver.specs.Writing.{ChangesMedium}
-use Rattle.floppy_driver.specs.declared.driver.Notes.{Notes}
-use Rattle.floppy_driver.specs.declared.driver.Driver.{Driver}
-use Rattle.floppy_driver.specs.Shown.{notes_of, is_held, bay_shown, with_waiting, shown, with_notes, HasAsked}
-use Rattle.floppy_driver.specs.Attempts.{IsSure}
 use Rattle.floppy_driver.proofs.Attempts.{prepared_ready, prepared_shown, prepared_steady, sure_way}
-use Rattle.floppy_driver.specs.Attached.{IsAttached}
-use Rattle.floppy_driver.specs.Prepared.{IsPrepared}
-use Rattle.floppy_driver.specs.Writings.{CanWrite, IsMissCause, IsReadBack, WritesChecked, ChangesBay, TriesWrite}
 use Rattle.floppy_driver.proofs.Shows.{waiting_goes_on, waiting_driven, waiting_undisturbed, driven_after, held_bay, bay_shown_at, held_bay_shown, held_lines_stay, attached_stays}
 use Rattle.floppy_driver.proofs.Rising.{less_first, less_later, disturbed_later, stalls_later, commands_later, rose_later}
 

@@ -1,16 +1,7 @@
 -- Changes of the medium in a bay, one attempt after the other.
 use Rattle.std.proofs.Common.{MatchOption, ◌≡◌, ℕ, zero, suc, ◌+◌, ◌≤◌, Bool, true, false, List, [], ◌∷◌, ◌++◌, length, All, Option, Some, None, refl, sym, ap, ◌∙◌, subst, arith}
 use Rattle.std.specs.Prelude.{◌==◌, if◌then◌else◌}
-use Rattle.std.proofs.lemmas.List.{length-append}
-use Rattle.raw_image.specs.Disk.{Disk, IsDisk}
-use Rattle.flop_base.specs.Bays.{Two}
-use Rattle.sector_map.specs.Changes.{Change, Written, IsChange}
-use Rattle.sector_map.specs.KeptDisks.{AreAlike}
-use Rattle.sector_map.proofs.KeptTracks.{alike_itself, alike_both}
-use Rattle.sector_map.proofs.Changed.{change_keeps_tracks}
-use Rattle.sector_model.specs.Stations.{Bay, StationState, Becomes, bay_of, set_bay}
-use Rattle.sector_model.specs.Writes.{ChangesDisk, Reaches, IsLastWhole}
-use Rattle.floppy_driver.specs.Writings.{ChangesBay, WroteWhole}
+use Rattle.floppy_driver.proofs.Common.{length-append, Disk, IsDisk, Two, Change, Written, IsChange, AreAlike, alike_itself, alike_both, change_keeps_tracks, Bay, StationState, Becomes, bay_of, set_bay, ChangesDisk, Reaches, IsLastWhole, ChangesBay, WroteWhole}
 use Rattle.floppy_driver.proofs.TriedWrites.{with_change}
 
 pub same_disks : (a b : Disk) → Some a ≡ Some b → a ≡ b

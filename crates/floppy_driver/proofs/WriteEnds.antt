@@ -1,30 +1,10 @@
 -- How several attempts at a write begin and end.
 use Rattle.std.proofs.Common.{MatchOption, IsOk, ◌≡◌, ℕ, ◌+◌, ◌*◌, ◌≤◌, ◌⊎◌, Bool, true, false, [], Option, Some, None, Result, Ok, Err, refl, sym, ap, ◌∙◌, subst, arith, inl, inr}
 use Rattle.std.specs.Prelude.{◌==◌, if◌then◌else◌}
-use Rattle.std.proofs.lemmas.Bool.{false≢true}
-use Rattle.flop_base.specs.declared.answers.Code.{Code}
-use Rattle.raw_image.specs.Disk.{Disk, IsDisk, HasTrack, track_of}
+use Rattle.floppy_driver.proofs.Common.{false≢true, Code, Disk, IsDisk, HasTrack, track_of, IsAddressAt, content_at, LookAt, IsLone, IsSector, IsUnder, window_place, Two, faults_of, IsFaultless, FaultsRoseLess, CostsUpTo, DisturbedLess, IsRegularDisk, IsOnMap, Change, Written, IsChange, HasWritten, change_at, entry_of, IsSameOrChanged, met_track, key_cylinder, one_address, rewritten_keeps_sectors, rewritten_keeps_address, Bay, StationState, Becomes, bay_of, set_bay, met, write_port_accesses, write_time, IsLastRead, IsWritten, KeepsRegular, WritesDrive, HasAsked, IsReadBack, TriesWrite, WroteWhole}
 use Rattle.track_model.specs.declared.Look.TheVariants as look
-use Rattle.track_model.specs.Fields.{IsAddressAt, content_at}
-use Rattle.track_model.specs.Looks.{LookAt}
-use Rattle.track_model.specs.Sectors.{IsLone, IsSector, IsUnder}
-use Rattle.track_model.specs.Windows.{window_place}
 use Rattle.track_model.proofs.Sectored.{lone_found}
-use Rattle.flop_base.specs.Bays.{Two}
-use Rattle.flop_base.specs.Counters.{faults_of, IsFaultless, FaultsRoseLess, CostsUpTo, DisturbedLess}
-use Rattle.sector_map.specs.Disks.{IsRegularDisk, IsOnMap}
-use Rattle.sector_map.specs.Changes.{Change, Written, IsChange}
-use Rattle.sector_map.specs.ChangedDisks.{HasWritten, change_at, entry_of}
-use Rattle.sector_map.proofs.Writable.{IsSameOrChanged}
-use Rattle.sector_map.proofs.MetTracks.{met_track}
-use Rattle.sector_map.proofs.RegularTracks.{key_cylinder, one_address}
 use Rattle.sector_map.proofs.Joined.{change_of_none_regular}
-use Rattle.sector_map.proofs.Rewritten.{rewritten_keeps_sectors, rewritten_keeps_address}
-use Rattle.sector_model.specs.Stations.{Bay, StationState, Becomes, bay_of, set_bay, met}
-use Rattle.sector_model.specs.Lasting.{write_port_accesses, write_time}
-use Rattle.sector_model.specs.Writes.{IsLastRead, IsWritten, KeepsRegular, WritesDrive}
-use Rattle.floppy_driver.specs.Shown.{HasAsked}
-use Rattle.floppy_driver.specs.Writings.{IsReadBack, TriesWrite, WroteWhole}
 use Rattle.floppy_driver.proofs.TriedWrites.{IsWriteStart, IsSpared, with_change, KeptSoFar, HasTriedWrite}
 use Rattle.floppy_driver.proofs.Shows.{driven_within}
 use Rattle.floppy_driver.proofs.Attempts.{spoilt_none, all_sure, last_sure}

@@ -1,27 +1,8 @@
 -- The attempts of a write, one after the other.
 use Rattle.std.proofs.Common.{◌≡◌, ℕ, ◌+◌, ◌^◌, ◌<◌, ◌≤◌, Bool, true, false, List, drop, get_or, Option, Some, IfSome, Result, Ok, Err, refl, sym, ap, ◌∙◌, subst, arith, inl, inr}
 use Rattle.std.specs.Prelude.{◌==◌, if◌then◌else◌}
-use Rattle.std.proofs.lemmas.Bool.{cases_lt}
-use Rattle.std.proofs.lemmas.List.{length-take, length-drop, get_or-take, get_or-drop, get_or_past}
-use Rattle.flop_base.specs.declared.key.Chrn.{Chrn}
-use Rattle.flop_base.specs.declared.answers.Code.{Code}
-use Rattle.raw_image.specs.Disk.{Disk, IsDisk}
-use Rattle.track_model.specs.Fields.{content_size}
-use Rattle.flop_base.specs.Bays.{in_bay}
-use Rattle.flop_base.specs.Counters.{DriveCounts, faults_of, CostsUpTo, GoesOn}
-use Rattle.flop_base.specs.Memory.{user_bytes, bytes_from}
-use Rattle.flop_base.proofs.Counted.{goes_on_after, goes_on_itself}
-use Rattle.sector_map.specs.Changes.{Written}
-use Rattle.sector_map.proofs.Writable.{FitsKey}
-use Rattle.sector_model.specs.Stations.{Bay, StationState, bay_of}
+use Rattle.floppy_driver.proofs.Common.{cases_lt, length-take, length-drop, get_or-take, get_or-drop, get_or_past, Chrn, Code, Disk, IsDisk, content_size, in_bay, DriveCounts, faults_of, CostsUpTo, GoesOn, user_bytes, bytes_from, goes_on_after, goes_on_itself, Written, FitsKey, Bay, StationState, bay_of, write_port_accesses, write_time, WritesDrive, written_from, Rig, AreBytes, IsSound, Driver, notes_of, shown, HasAsked, IsSure, CanWrite, TriesWrite}
 use Rattle.sector_model.specs.Asked.{IsAsked}
-use Rattle.sector_model.specs.Lasting.{write_port_accesses, write_time}
-use Rattle.sector_model.specs.Writes.{WritesDrive, written_from}
-use Rattle.floppy_driver.specs.Rigs.{Rig, AreBytes, IsSound}
-use Rattle.floppy_driver.specs.declared.driver.Driver.{Driver}
-use Rattle.floppy_driver.specs.Shown.{notes_of, shown, HasAsked}
-use Rattle.floppy_driver.specs.Attempts.{IsSure}
-use Rattle.floppy_driver.specs.Writings.{CanWrite, TriesWrite}
 use Rattle.floppy_driver.proofs.TriedWrites.{IsWriteStart, HasTriedWrite, BetweenWrites}
 use Rattle.floppy_driver.proofs.Shows.{bay_shown_at, held_bay_shown, noted_at}
 use Rattle.floppy_driver.proofs.WriteSteps.{tried_more}

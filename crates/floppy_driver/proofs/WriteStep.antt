@@ -1,23 +1,7 @@
 -- The order of a write's refusals.
 use Rattle.std.proofs.Common.{◌≡◌, ℕ, Bool, true, false, List, Option, Some, None, MatchOption, Result, refl, sym, ap, ◌∙◌, subst}
 use Rattle.std.specs.Prelude.{not, if◌then◌else◌}
-use Rattle.std.specs.Option.{option_map_or}
-use Rattle.flop_base.specs.declared.key.Chrn.{Chrn}
-use Rattle.flop_base.specs.declared.answers.Code.{Code}
-use Rattle.flop_base.specs.declared.answers.Code.TheVariants.{BadRequest, Changed, Page, Protected}
-use Rattle.raw_image.specs.Disk.{Disk}
-use Rattle.track_model.specs.Fields.{content_size}
-use Rattle.flop_base.specs.Bays.{Two, in_bay}
-use Rattle.flop_base.specs.Counters.{DriveCounts}
-use Rattle.flop_base.proofs.Counted.{goes_on_after}
-use Rattle.floppy_driver.specs.Rigs.{Rig, IsSound, OnlyAsks}
-use Rattle.sector_model.specs.Stations.{Bay, StationState}
-use Rattle.sector_model.specs.Orders.{is_sector_request, crosses_page, is_acknowledged, is_protected, IsRefusedAtOnce}
-use Rattle.sector_model.specs.Writes.{WritesDrive, WritesTo, written_from}
-use Rattle.floppy_driver.specs.declared.driver.Driver.{Driver}
-use Rattle.floppy_driver.specs.Shown.{notes_of, is_held, shown, HasAsked}
-use Rattle.floppy_driver.specs.Attempts.{CanTry}
-use Rattle.floppy_driver.specs.Writings.{CanWrite}
+use Rattle.floppy_driver.proofs.Common.{option_map_or, Chrn, Code, BadRequest, Changed, Page, Protected, Disk, content_size, Two, in_bay, DriveCounts, goes_on_after, Rig, IsSound, OnlyAsks, Bay, StationState, is_sector_request, crosses_page, is_acknowledged, is_protected, IsRefusedAtOnce, WritesDrive, WritesTo, written_from, Driver, notes_of, is_held, shown, HasAsked, CanTry, CanWrite}
 use Rattle.floppy_driver.proofs.Shows.{driven_after, bay_shown_at, attached_asked}
 
 -- one question and then another

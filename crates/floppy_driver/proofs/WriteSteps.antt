@@ -1,30 +1,6 @@
 -- One more attempt at a write, after others.
 use Rattle.std.proofs.Common.{MatchOption, ◌≡◌, ◌≢◌, ℕ, ◌+◌, ◌*◌, ◌⊎◌, List, length, Option, Some, None, Result, Err, refl, sym, ap, ◌∙◌, subst, arith, inl, inr}
-use Rattle.std.proofs.lemmas.Bool.{cases_eq}
-use Rattle.flop_base.specs.declared.key.Chrn.{Chrn}
-use Rattle.flop_base.specs.declared.answers.Rate.{Rate}
-use Rattle.flop_base.specs.declared.answers.Code.{Code}
-use Rattle.raw_image.specs.Disk.{Disk, IsDisk, HasTrack, track_of}
-use Rattle.track_model.specs.Fields.{IsAddressAt}
-use Rattle.track_model.specs.Regular.{IsRegular}
-use Rattle.track_model.specs.Windows.{IsCut, IsTidy}
-use Rattle.flop_base.specs.Counters.{IsUndisturbed, GoesOn, IsDriven}
-use Rattle.flop_base.proofs.Counted.{goes_on_after, faults_go_on}
-use Rattle.sector_map.specs.Met.{met_in}
-use Rattle.sector_map.specs.MetTracks.{MeetsTrack}
-use Rattle.sector_map.specs.Disks.{IsRegularDisk}
-use Rattle.sector_map.specs.Changes.{Change, Written, window_of, IsChange}
-use Rattle.sector_map.specs.KeptDisks.{AreAlike}
-use Rattle.sector_map.specs.ChangedDisks.{HasWritten, IsWholeChange, change_at}
-use Rattle.sector_map.proofs.Writable.{IsSameOrChanged}
-use Rattle.sector_map.proofs.MetTracks.{met_track, length-met_track, met_from_mark, one_met}
-use Rattle.sector_map.proofs.KeptTracks.{still_meets}
-use Rattle.sector_map.proofs.RegularTracks.{window_inside, window_in_disk, key_cylinder}
-use Rattle.sector_map.proofs.Changed.{change_keeps_tracks, change_is_written}
-use Rattle.sector_map.proofs.Rewritten.{rewritten_keeps_tracks, rewritten_keeps_sectors, rewritten_more, rewritten_cylinder, rewritten_whole}
-use Rattle.sector_model.specs.Stations.{Bay, StationState, bay_of, met, IsSteady}
-use Rattle.floppy_driver.specs.Attempts.{IsSure}
-use Rattle.floppy_driver.specs.Writings.{IsMissCause, ChangesBay, TriesWrite, WroteWhole}
+use Rattle.floppy_driver.proofs.Common.{cases_eq, Chrn, Rate, Code, Disk, IsDisk, HasTrack, track_of, IsAddressAt, IsRegular, IsCut, IsTidy, IsUndisturbed, GoesOn, IsDriven, goes_on_after, faults_go_on, met_in, MeetsTrack, IsRegularDisk, Change, Written, window_of, IsChange, AreAlike, HasWritten, IsWholeChange, change_at, IsSameOrChanged, met_track, length-met_track, met_from_mark, one_met, still_meets, window_inside, window_in_disk, key_cylinder, change_keeps_tracks, change_is_written, rewritten_keeps_tracks, rewritten_keeps_sectors, rewritten_more, rewritten_cylinder, rewritten_whole, Bay, StationState, bay_of, met, IsSteady, IsSure, IsMissCause, ChangesBay, TriesWrite, WroteWhole}
 use Rattle.floppy_driver.proofs.TriedWrites.{IsWriteStart, IsSpared, IsSameOrCut, with_change, KeptSoFar, WroteSoFar, IsLastCause, HasTriedWrite}
 use Rattle.floppy_driver.proofs.Shows.{driven_after, undisturbed_faultless}
 use Rattle.floppy_driver.proofs.Attempts.{spoilt_more}

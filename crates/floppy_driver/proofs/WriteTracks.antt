@@ -1,24 +1,9 @@
 -- A regular track after several writes of the same content, and why none of them is refused if it is undisturbed.
 use Rattle.std.proofs.Common.{◌≡◌, ℕ, ◌+◌, ◌≤◌, ◌⊎◌, List, length, max, Option, refl, sym, ap, ◌∙◌, subst, arith, inl, inr}
-use Rattle.flop_base.specs.declared.answers.Code.{Code}
-use Rattle.flop_base.specs.declared.answers.Code.TheVariants.{NoMark, NotFound, Overrun, BadCrc, Seek}
-use Rattle.track_model.specs.declared.Look.{Look}
+use Rattle.floppy_driver.proofs.Common.{Code, NoMark, NotFound, Overrun, BadCrc, Seek, Look, IsAddressAt, content_at, IsRegular, window_place, cut_of, IsCut, IsFieldFor, IsTidy, Counters, IsUndisturbed, GoesOn, HasLook, Change, Written, window_of, HasWritten, FitsKey, spaced_from, window_inside, regular_writable, length-window_of, IsDeviceRefusal, HasOtherContent, IsMissCause, WroteWhole}
 use Rattle.track_model.specs.declared.Look.TheVariants as look
-use Rattle.track_model.specs.Fields.{IsAddressAt, content_at}
 use Rattle.track_model.specs.Kept.{KeepsOthers}
-use Rattle.track_model.specs.Regular.{IsRegular}
-use Rattle.track_model.specs.Windows.{window_place, cut_of, IsCut, IsFieldFor, IsTidy}
 use Rattle.track_model.proofs.Kept as cuts
-use Rattle.flop_base.specs.Counters.{Counters, IsUndisturbed, GoesOn}
-use Rattle.sector_map.specs.Met.{HasLook}
-use Rattle.sector_map.specs.Changes.{Change, Written, window_of}
-use Rattle.sector_map.specs.ChangedDisks.{HasWritten}
-use Rattle.sector_map.proofs.Writable.{FitsKey}
-use Rattle.sector_map.proofs.RegularTracks.{spaced_from, window_inside, regular_writable}
-use Rattle.sector_map.proofs.Changed.{length-window_of}
-use Rattle.sector_model.specs.Orders.{IsDeviceRefusal}
-use Rattle.sector_model.specs.Writes.{HasOtherContent}
-use Rattle.floppy_driver.specs.Writings.{IsMissCause, WroteWhole}
 use Rattle.floppy_driver.proofs.TriedWrites.{IsSameOrCut}
 use Rattle.floppy_driver.proofs.Rising.{quiet_stalls, quiet_lost}
 

@@ -1,12 +1,6 @@
 -- How a bay is acknowledged.
 use Rattle.std.specs.Prelude.{◌≡◌, ℕ, ◌-◌, Bool, true, false, Some, None, IsSome, ◌⊎◌, if◌then◌else◌}
-use Rattle.flop_base.specs.declared.key.Chrn.{Chrn}
-use Rattle.flop_base.specs.declared.answers.Rate.{Rate}
-use Rattle.flop_base.specs.declared.answers.Rate.TheVariants.{R500, R250}
-use Rattle.track_model.specs.Fields.{IsAddress}
-use Rattle.flop_base.specs.Bays.{in_bay}
-use Rattle.flop_base.specs.Counters.{faults_of, FaultsRoseBy, GoesOn, IsDriven}
-use Rattle.sector_map.specs.Met.{HasClearAddress}
+use Rattle.floppy_driver.specs.Common.{Chrn, Rate, R500, R250, IsAddress, in_bay, faults_of, FaultsRoseBy, GoesOn, IsDriven, HasClearAddress}
 use Rattle.floppy_driver.specs.Rigs.{Rig, StaysSpun, HeadsStay, track_under}
 use Rattle.floppy_driver.specs.declared.driver.Notes.{Notes}
 

@@ -1,7 +1,6 @@
 -- How a driver and its machine have to agree between two calls.
 use Rattle.std.specs.Prelude.{◌≡◌, ℕ, ◌<◌, ◌≤◌, Bool, true, Option, Some, None}
-use Rattle.flop_base.specs.Counts.{last_count}
-use Rattle.raw_image.specs.Disk.{Disk}
+use Rattle.floppy_driver.specs.Common.{last_count, Disk}
 use Rattle.floppy_driver.specs.Rigs.{Rig}
 use Rattle.floppy_driver.specs.Shown.{is_held}
 use Rattle.floppy_driver.specs.declared.driver.Notes.{Notes}

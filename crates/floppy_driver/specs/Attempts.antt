@@ -1,6 +1,6 @@
 -- What the attempts of a call have in common.
 use Rattle.std.specs.Prelude.{◌≡◌, ℕ, ◌≤◌, true, ◌⊎◌}
-use Rattle.flop_base.specs.Bays.{in_bay}
+use Rattle.floppy_driver.specs.Common.{in_bay}
 use Rattle.floppy_driver.specs.Rigs.{Rig, IsSound}
 use Rattle.floppy_driver.specs.declared.driver.Driver.{Driver}
 use Rattle.floppy_driver.specs.Shown.{notes_of, is_held}

@@ -1,20 +1,9 @@
 -- A format of a track, attempt by attempt.
 use Rattle.std.specs.Prelude.{◌≡◌, ◌≢◌, ◌↔◌, ◌⊎◌, ℕ, ◌+◌, ◌-◌, ◌*◌, ◌<◌, ◌≤◌, List, length, slice_index, All, Option, Result, Err, IsOk, IsErr, IfErr}
-use Rattle.flop_base.specs.Counts.{RoseBy}
-use Rattle.flop_base.specs.Standard.{sectors_at}
-use Rattle.flop_base.specs.declared.key.Chrn.{Chrn}
-use Rattle.flop_base.specs.declared.answers.Code.{Code}
-use Rattle.flop_base.specs.declared.answers.Code.TheVariants.{NoMark, NotFound, Overrun, BadCrc, Seek}
-use Rattle.raw_image.specs.Disk.{Disk}
+use Rattle.floppy_driver.specs.Common.{RoseBy, sectors_at, Chrn, Code, NoMark, NotFound, Overrun, BadCrc, Seek, Disk, Counters, IsFaultless, IsUndisturbed, DisturbedLess, FaultsRoseBy, GoesOn, IsDriven, Rate, HasClearAddress, Format, Laying, IsFormattable, StationState, Becomes, bay_of, set_bay, IsDeviceRefusal}
 use Rattle.track_format.specs.Reads.{AllFilled}
-use Rattle.flop_base.specs.Counters.{Counters, IsFaultless, IsUndisturbed, DisturbedLess, FaultsRoseBy, GoesOn, IsDriven}
-use Rattle.flop_base.specs.declared.answers.Rate.{Rate}
-use Rattle.sector_map.specs.Met.{HasClearAddress}
 use Rattle.sector_map.specs.MetTracks.{HasNothing}
 use Rattle.sector_map.specs.Standard.{key_of}
-use Rattle.sector_map.specs.Layings.{Format, Laying, IsFormattable}
-use Rattle.sector_model.specs.Stations.{StationState, Becomes, bay_of, set_bay}
-use Rattle.sector_model.specs.Orders.{IsDeviceRefusal}
 use Rattle.sector_model.specs.Formats.{Lays, IsFormatted, IsUnformatted}
 use Rattle.floppy_driver.specs.Rigs.{Rig, HeadsStay, track_under}
 use Rattle.floppy_driver.specs.Reading.{IsReadCode}

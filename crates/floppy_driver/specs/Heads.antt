@@ -1,7 +1,6 @@
 -- Commands that move the heads of a drive.
 use Rattle.std.specs.Prelude.{◌≡◌, ◌≢◌, ℕ, ◌+◌, ◌-◌, ◌≤◌, Bool, true, false, IsSome, None, ◌⊎◌}
-use Rattle.flop_base.specs.Bays.{in_bay, with_bay}
-use Rattle.flop_base.specs.Counters.{FaultsRoseBy, FaultsRoseLess, GoesOn, IsDriven}
+use Rattle.floppy_driver.specs.Common.{in_bay, with_bay, FaultsRoseBy, FaultsRoseLess, GoesOn, IsDriven}
 use Rattle.floppy_driver.specs.Rigs.{Rig, StaysSpun}
 
 -- the heads of one drive were moved, or not. Nothing else changed but its change line, which a pulse clears if a medium

@@ -1,7 +1,6 @@
 -- How an attempt is prepared.
 use Rattle.std.specs.Prelude.{◌≡◌, ℕ, Bool, true, false, Some, None}
-use Rattle.flop_base.specs.Bays.{in_bay}
-use Rattle.flop_base.specs.Counters.{FaultsRoseBy, FaultsRoseLess}
+use Rattle.floppy_driver.specs.Common.{in_bay, FaultsRoseBy, FaultsRoseLess}
 use Rattle.floppy_driver.specs.declared.retry_plan.Prepare.{Prepare}
 use Rattle.floppy_driver.specs.declared.retry_plan.Prepare.TheVariants as prepare
 use Rattle.floppy_driver.specs.Rigs.{Rig}

@@ -1,20 +1,8 @@
 -- Commands that read.
 use Rattle.std.specs.Prelude.{◌≡◌, ℕ, Bool, List, Some, length, Result, IfOk, IfErr, ◌⊎◌}
-use Rattle.flop_base.specs.Counts.{RoseBy}
-use Rattle.flop_base.specs.declared.key.Chrn.{Chrn}
-use Rattle.flop_base.specs.declared.answers.Rate.{Rate}
-use Rattle.flop_base.specs.declared.answers.Code.{Code}
-use Rattle.flop_base.specs.declared.answers.Code.TheVariants.{NoMark, NotFound, Overrun, BadCrc}
-use Rattle.raw_image.specs.Disk.{Disk, HasTrack, track_of}
+use Rattle.floppy_driver.specs.Common.{RoseBy, Chrn, Rate, Code, NoMark, NotFound, Overrun, BadCrc, Disk, HasTrack, track_of, IsAddressAt, IsDataMark, IsWhole, content_size, HasAddressMark, IsSector, IsLone, in_bay, Counters, IsFaultless, IsUndisturbed, GoesOn, IsDriven, SameOutside, HasNoClearMark, HasClearAddress, HasLook}
 use Rattle.track_model.specs.declared.Look.TheVariants as look
-use Rattle.track_model.specs.Fields.{IsAddressAt, IsDataMark, IsWhole, content_size}
-use Rattle.track_model.specs.Looks.{HasAddressMark}
-use Rattle.track_model.specs.Sectors.{IsSector, IsLone}
-use Rattle.flop_base.specs.Bays.{in_bay}
-use Rattle.flop_base.specs.Counters.{Counters, IsFaultless, IsUndisturbed, GoesOn, IsDriven}
 use Rattle.flop_base.specs.Lists.{with_items}
-use Rattle.flop_base.specs.Memory.{SameOutside}
-use Rattle.sector_map.specs.Met.{HasNoClearMark, HasClearAddress, HasLook}
 use Rattle.floppy_driver.specs.Rigs.{Rig, track_under, HeadsStay}
 
 -- what the track has to be for a read to be refused with this code

@@ -1,15 +1,7 @@
 -- Attempts at a read.
 use Rattle.std.specs.Prelude.{◌≡◌, ◌≢◌, ℕ, Bool, length, Result, Err, IfOk, IfErr}
-use Rattle.flop_base.specs.Counts.{RoseBy}
-use Rattle.flop_base.specs.declared.key.Chrn.{Chrn}
-use Rattle.flop_base.specs.declared.answers.Code.{Code}
-use Rattle.flop_base.specs.declared.answers.Code.TheVariants.{Overrun, Seek}
-use Rattle.track_model.specs.Fields.{content_size}
-use Rattle.flop_base.specs.Counters.{IsUndisturbed, FaultsRoseBy, GoesOn, IsDriven}
-use Rattle.flop_base.specs.Memory.{SameOutside}
+use Rattle.floppy_driver.specs.Common.{RoseBy, Chrn, Code, Overrun, Seek, content_size, IsUndisturbed, FaultsRoseBy, GoesOn, IsDriven, SameOutside, StationState, Becomes, bay_of, met, IsDeviceRefusal}
 use Rattle.floppy_driver.specs.Reading.{IsReadReason}
-use Rattle.sector_model.specs.Stations.{StationState, Becomes, bay_of, met}
-use Rattle.sector_model.specs.Orders.{IsDeviceRefusal}
 use Rattle.sector_model.specs.Reads.{IsRead}
 
 -- a field of the key was read, and its content fills the range of memory

@@ -1,12 +1,6 @@
 -- A machine as its driver sees it, between two commands.
 use Rattle.std.specs.Prelude.{◌≡◌, ℕ, ◌+◌, ◌*◌, ◌<◌, ◌≤◌, ◌^◌, Bool, true, List, length, slice_index, Option, IfSome}
-use Rattle.raw_image.specs.Disk.{Disk, IsDisk}
-use Rattle.flop_base.specs.declared.answers.Rate.{Rate}
-use Rattle.flop_base.specs.Bays.{Two, in_bay}
-use Rattle.flop_base.specs.Counters.{CostsUpTo, Counters, GoesOn, IsDriven}
-use Rattle.flop_base.specs.Memory.{user_bytes}
-use Rattle.sector_map.specs.Met.{met_in}
-use Rattle.sector_model.specs.Lasting.{turn_of}
+use Rattle.floppy_driver.specs.Common.{Disk, IsDisk, Rate, Two, in_bay, CostsUpTo, Counters, GoesOn, IsDriven, user_bytes, met_in, turn_of}
 
 pub record Rig : Type 0 where
   -- the medium in each bay

@@ -1,9 +1,6 @@
 -- What a driver and its machine show together.
 use Rattle.std.specs.Prelude.{◌≡◌, ℕ, ◌==◌, ◌&&◌, Bool, false, not, List, Option, Some, None, if◌then◌else◌}
-use Rattle.flop_base.specs.declared.answers.Rate.TheVariants.{R500}
-use Rattle.raw_image.specs.Disk.{Disk}
-use Rattle.flop_base.specs.Counters.{DriveCounts, Counters, GoesOn, IsDriven}
-use Rattle.sector_model.specs.Stations.{Bay, StationState, Stays}
+use Rattle.floppy_driver.specs.Common.{R500, Disk, DriveCounts, Counters, GoesOn, IsDriven, Bay, StationState, Stays}
 use Rattle.floppy_driver.specs.Rigs.{Rig}
 use Rattle.floppy_driver.specs.declared.driver.Notes.{Notes}
 use Rattle.floppy_driver.specs.declared.driver.Driver.{Driver}

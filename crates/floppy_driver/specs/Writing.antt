@@ -1,21 +1,7 @@
 -- Commands that write.
 use Rattle.std.specs.Prelude.{◌≡◌, ℕ, ◌+◌, ◌-◌, ◌≤◌, List, length, Option, Some, Result, IsOk, IfErr, MatchOption, ◌⊎◌}
-use Rattle.flop_base.specs.Counts.{RoseBy}
-use Rattle.flop_base.specs.Standard.{standard_code}
-use Rattle.flop_base.specs.declared.key.Chrn.{Chrn}
-use Rattle.flop_base.specs.declared.answers.Rate.{Rate}
-use Rattle.flop_base.specs.declared.answers.Code.{Code}
-use Rattle.flop_base.specs.declared.answers.Code.TheVariants.{NoMark, NotFound, Overrun}
-use Rattle.raw_image.specs.Disk.{Disk, HasTrack}
-use Rattle.track_model.specs.Fields.{IsAddressAt}
-use Rattle.track_model.specs.Looks.{HasAddressMark}
+use Rattle.floppy_driver.specs.Common.{RoseBy, standard_code, Chrn, Rate, Code, NoMark, NotFound, Overrun, Disk, HasTrack, IsAddressAt, HasAddressMark, window_word, window_words, in_bay, Counters, IsFaultless, IsUndisturbed, GoesOn, IsDriven, HasNoClearMark, HasClearAddress, Change, Written, window_of, IsChange, Format, Laying, IsLaying, format_keys}
 use Rattle.track_model.specs.Layouts.{Fits}
-use Rattle.track_model.specs.Windows.{window_word, window_words}
-use Rattle.flop_base.specs.Bays.{in_bay}
-use Rattle.flop_base.specs.Counters.{Counters, IsFaultless, IsUndisturbed, GoesOn, IsDriven}
-use Rattle.sector_map.specs.Met.{HasNoClearMark, HasClearAddress}
-use Rattle.sector_map.specs.Changes.{Change, Written, window_of, IsChange}
-use Rattle.sector_map.specs.Layings.{Format, Laying, IsLaying, format_keys}
 use Rattle.floppy_driver.specs.Rigs.{Rig, track_under, HeadsStay}
 
 -- one data command that changed no memory but the driver's page, and no medium but that of a bay

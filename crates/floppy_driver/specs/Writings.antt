@@ -1,22 +1,8 @@
 -- An attempt at a write, and what several attempts made.
-use Rattle.std.specs.Option.{option_map_or}
+use Rattle.floppy_driver.specs.Common.{option_map_or, RoseBy, Rate, Code, NoMark, NotFound, Overrun, BadCrc, Seek, Disk, HasTrack, track_of, HasAddressMark, IsSector, IsUnder, window_word, window_words, in_bay, Counters, IsFaultless, FaultsRoseLess, FaultsRoseBy, IsUndisturbed, GoesOn, IsDriven, HasNoClearMark, HasClearAddress, HasLook, Change, Written, IsChange, StationState, Becomes, bay_of, set_bay, met, IsSteady, IsDeviceRefusal}
 use Rattle.std.specs.Prelude.{false, ◌≡◌, ◌≢◌, ℕ, ◌+◌, ◌-◌, ◌<◌, ◌≤◌, List, slice_index, Option, Some, Result, Err, IsOk, IfErr, MatchOption, ◌⊎◌}
-use Rattle.flop_base.specs.Counts.{RoseBy}
-use Rattle.flop_base.specs.declared.answers.Rate.{Rate}
-use Rattle.flop_base.specs.declared.answers.Code.{Code}
-use Rattle.flop_base.specs.declared.answers.Code.TheVariants.{NoMark, NotFound, Overrun, BadCrc, Seek}
-use Rattle.raw_image.specs.Disk.{Disk, HasTrack, track_of}
 use Rattle.track_model.specs.declared.Look.TheVariants as look
-use Rattle.track_model.specs.Looks.{HasAddressMark}
-use Rattle.track_model.specs.Sectors.{IsSector, IsUnder}
-use Rattle.track_model.specs.Windows.{window_word, window_words}
-use Rattle.flop_base.specs.Bays.{in_bay}
-use Rattle.flop_base.specs.Counters.{Counters, IsFaultless, FaultsRoseLess, FaultsRoseBy, IsUndisturbed, GoesOn, IsDriven}
-use Rattle.sector_map.specs.Met.{HasNoClearMark, HasClearAddress, HasLook}
-use Rattle.sector_map.specs.Changes.{Change, Written, IsChange}
 use Rattle.sector_map.specs.ChangedDisks.{IsWholeChange}
-use Rattle.sector_model.specs.Stations.{StationState, Becomes, bay_of, set_bay, met, IsSteady}
-use Rattle.sector_model.specs.Orders.{IsDeviceRefusal}
 use Rattle.floppy_driver.specs.Rigs.{Rig, HeadsStay, track_under}
 use Rattle.floppy_driver.specs.Writing.{ChangesMedium}
 use Rattle.floppy_driver.specs.declared.driver.Driver.{Driver}

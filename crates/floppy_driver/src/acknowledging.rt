@@ -1,7 +1,6 @@
 // Acknowledging a change of the medium.
 ghost use Rattle.std.specs.Prelude.{◌≡◌, ◌≤◌, true, List, ℕ};
-ghost use Rattle.flop_base.specs.Bays.{in_bay};
-ghost use Rattle.flop_base.specs.Counters.{DriveCounts, GoesOn};
+ghost use Rattle.floppy_driver.specs.Common.{in_bay, DriveCounts, GoesOn};
 ghost use Rattle.floppy_driver.specs.Rigs.{CostsFor, IsSound};
 ghost use Rattle.floppy_driver.specs.Acknowledged.{ClearsChange, FindsRate};
 

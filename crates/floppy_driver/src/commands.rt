@@ -1,12 +1,6 @@
 // The machine that a driver works on.
 ghost use Rattle.std.specs.Prelude.{◌≡◌, ◌≤◌, ◌<◌, ◌+◌, ◌-◌, ◌/◌, true, false, slice_index, Option, IsSome};
-ghost use Rattle.std.specs.Option.{option_map_or};
-ghost use Rattle.flop_base.specs.Bays.{in_bay};
-ghost use Rattle.flop_base.specs.Counters.{faults_of};
-ghost use Rattle.flop_base.specs.Memory.{user_bytes, bytes_from};
-ghost use Rattle.track_model.specs.Fields.{IsSizeCode, content_size};
-ghost use Rattle.sector_map.specs.Changes.{Change};
-ghost use Rattle.sector_map.specs.Layings.{Laying};
+ghost use Rattle.floppy_driver.specs.Common.{option_map_or, in_bay, faults_of, user_bytes, bytes_from, IsSizeCode, content_size, Change, Laying};
 ghost use Rattle.floppy_driver.specs.Rigs.{CostsFor, Rig, IsSound, IsReset, OnlyAsks};
 ghost use Rattle.floppy_driver.specs.Heads.{Recalibrates, Seeks};
 ghost use Rattle.floppy_driver.specs.Reading.{ReadsData, ReadsBack, ReadsId};

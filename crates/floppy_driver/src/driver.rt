@@ -1,8 +1,6 @@
 // What a driver notes of each bay.
 ghost use Rattle.std.specs.Prelude.{◌≡◌, ◌≤◌, ◌<◌, List, ℕ, Option, Some, None, not, true, false};
-ghost use Rattle.flop_base.specs.declared.answers.Rate.TheVariants.{R500};
-ghost use Rattle.flop_base.specs.Bays.{in_bay};
-ghost use Rattle.flop_base.specs.Counters.{DriveCounts, GoesOn};
+ghost use Rattle.floppy_driver.specs.Common.{R500, in_bay, DriveCounts, GoesOn};
 
 use crate::Commands;
 use crate::change_line::Gate;

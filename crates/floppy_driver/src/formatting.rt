@@ -1,13 +1,7 @@
 // Formatting a track.
 ghost use Rattle.std.specs.Prelude.{◌≡◌, ◌≤◌, ◌+◌, ◌*◌, ◌↔◌, ◌&&◌, IsTrue, true, nat_le, List, ℕ, if◌then◌else◌};
-ghost use Rattle.flop_base.specs.declared.answers.Rate.TheVariants.{R500};
-ghost use Rattle.sector_model.specs.Orders.{is_bay, is_place};
-ghost use Rattle.flop_base.specs.Standard.{sectors_at};
-ghost use Rattle.track_model.specs.Fields.{IsSizeCode};
-ghost use Rattle.flop_base.specs.Bays.{in_bay};
-ghost use Rattle.flop_base.specs.Counters.{DriveCounts, GoesOn};
+ghost use Rattle.floppy_driver.specs.Common.{R500, is_bay, is_place, sectors_at, IsSizeCode, in_bay, DriveCounts, GoesOn, format_once_port_accesses, format_steps, format_turns};
 ghost use Rattle.floppy_driver.specs.Rigs.{CostsFor, IsSound, track_under};
-ghost use Rattle.sector_model.specs.Lasting.{format_once_port_accesses, format_steps, format_turns};
 ghost use Rattle.floppy_driver.specs.Writings.{CanWrite};
 ghost use Rattle.floppy_driver.specs.Formattings.{format_of, IsValidFormat, FormatsIn, HasOnlyMedium};
 ghost use Rattle.floppy_driver.specs.Formattings.{IsFilled, IsBlankUnder, HoldsRecord, HoldsRecords, ReadsRecords};

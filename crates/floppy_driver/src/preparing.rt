@@ -1,6 +1,6 @@
 // Preparing an attempt: the heads go to the cylinder of the command.
 ghost use Rattle.std.specs.Prelude.{◌≡◌, ◌≤◌, true, IsSome};
-ghost use Rattle.flop_base.specs.Bays.{in_bay};
+ghost use Rattle.floppy_driver.specs.Common.{in_bay};
 ghost use Rattle.floppy_driver.specs.Rigs.{CostsFor, IsSound};
 ghost use Rattle.floppy_driver.specs.Prepared.{GoesToTrack0};
 

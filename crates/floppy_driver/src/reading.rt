@@ -1,7 +1,6 @@
 // Reading a sector.
 ghost use Rattle.std.specs.Prelude.{◌≡◌, ◌≤◌, ◌+◌, ◌-◌, ◌*◌, ◌/◌, List, ℕ};
-ghost use Rattle.track_model.specs.Fields.{content_size};
-ghost use Rattle.flop_base.specs.Counters.{DriveCounts, CostsUpTo, GoesOn};
+ghost use Rattle.floppy_driver.specs.Common.{content_size, DriveCounts, CostsUpTo, GoesOn};
 
 use crate::Commands;
 use crate::driver::Driver;

@@ -1,10 +1,6 @@
 // Writing a sector.
 ghost use Rattle.std.specs.Prelude.{◌≡◌, ◌≤◌, ◌+◌, ◌-◌, ◌*◌, ◌/◌, ◌↔◌, List, ℕ, IsTrue, true, false};
-ghost use Rattle.std.specs.Option.{option_map_or};
-ghost use Rattle.flop_base.specs.Bays.{in_bay};
-ghost use Rattle.flop_base.specs.Counters.{DriveCounts, CostsUpTo, GoesOn};
-ghost use Rattle.flop_base.specs.Memory.{user_bytes, bytes_from};
-ghost use Rattle.track_model.specs.Fields.{content_size};
+ghost use Rattle.floppy_driver.specs.Common.{option_map_or, in_bay, DriveCounts, CostsUpTo, GoesOn, user_bytes, bytes_from, content_size};
 ghost use Rattle.floppy_driver.specs.Rigs.{CostsFor, IsSound};
 ghost use Rattle.sector_model.specs.Asked.{IsAsked};
 ghost use Rattle.floppy_driver.specs.Writings.{AreBytesAlike, WritesChecked};

@@ -1,5 +1,5 @@
 -- Digits of a number, read one by one.
-use Rattle.std.proofs.Common.{◌≡◌, ℕ, ◌+◌, ◌*◌, ◌<◌, ◌≤◌, Bool, false, ◌&&◌, List, [], ◌∷◌, length, nat_le, cond, Option, Some, None, refl, lt-ltb, arith}
+use Rattle.std.proofs.Common.{◌≡◌, ℕ, ◌+◌, ◌*◌, ◌<◌, ◌≤◌, ◌&&◌, List, [], ◌∷◌, length, nat_le, cond, Option, Some, None, refl, lt-ltb, arith}
 use Rattle.std.proofs.Math.Nat.{mul-le-mul_left}
 use Rattle.std.proofs.lemmas.Bool.Decides.{nat_tests}
 use Rattle.std.specs.Char.{digit_value}
@@ -18,9 +18,6 @@ after_not_less base n [] h = omega arith
 after_not_less base n (c ∷ cs) h =
     let next = after_not_less base (n * base + digit_value c) cs h in
     omega (arith, mul-le-mul_left n h, next)
-
-and_false : (a b : Bool) → b ≡ false → (a && b) ≡ false
-and_false a b h = grind (arith, nat_tests)
 
 -- a number that is already too great stays too great
 pub read_on-over : (base least greatest n : ℕ) (rest : List ℕ) → 1 ≤ base → greatest < n → read_on base least greatest n rest ≡ None

@@ -69,9 +69,8 @@ total [] = 0
 total (w ∷ ws) = length w + 1 + total ws
 
 length-join : (ws : List (List ℕ)) → length (join_with_byte 32 ws) ≤ total ws
-length-join [] = omega arith
-length-join (w ∷ []) = omega arith
 length-join (w ∷ v ∷ vs) = omega (arith, length-append w (32 ∷ join_with_byte 32 (v ∷ vs)), length-join (v ∷ vs))
+length-join _ = omega arith
 
 sector-short : (bay : ℕ) (key : Chrn) (address : ℕ) → IsSector bay key address → total (sector_texts bay key address) ≤ 26
 sector-short bay key address h =

@@ -222,12 +222,11 @@ line-valid {T} P spelled each line x h = long (nat_lt 200 (length line)) h
 with_line-valid : {T : Type 0} (P : T → Type 0) (n : ℕ) (o : Option (Option T)) (said : Result (List T) ℕ)
     → ((x : T) → o ≡ Some (Some x) → P x) → ((more : List T) → said ≡ Ok more → AllByRecursion P more)
     → (items : List T) → with_line n o said ≡ Ok items → AllByRecursion P items
-with_line-valid P n None said each rest items h = cc
 with_line-valid P n (Some None) said each rest items h = rest items h
-with_line-valid P n (Some (Some x)) (Err bad) each rest items h = cc
 with_line-valid P n (Some (Some x)) (Ok more) each rest items h =
     let same : x ∷ more ≡ items = cc in
     subst (AllByRecursion P) same (each x refl, rest more refl)
+with_line-valid P n _ _ each rest items h = cc
 
 lines-valid : {T : Type 0} (P : T → Type 0) (spelled : List (List ℕ) → Option T) (each : (words : List (List ℕ)) (x : T) → spelled words ≡ Some x → P x)
     → (most n : ℕ) (lines : List (List ℕ)) (items : List T) → lines_say spelled most n lines ≡ Ok items → AllByRecursion P items

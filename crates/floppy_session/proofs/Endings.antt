@@ -3,7 +3,7 @@ use Rattle.std.proofs.Common.{rules, ◌≡◌, ℕ, ◌<◌, ◌≤◌, List, O
 use Rattle.std.proofs.lemmas.Bool.{lt-leb}
 use Rattle.flop_base.specs.Shelf.{Files, stored}
 use Rattle.flop_base.specs.declared.answers.Code.TheVariants.{BadRequest}
-use Rattle.raw_image.specs.Disk.{Disk}
+use Rattle.floppy_session.proofs.Common.{Disk, in_bay, bay_of, State, IsSame, ChangesMedium, Step, StopsAt, StopCause, StoresMedium, refusal_of, is_loaded, costs_none, goes_on_itself}
 use Rattle.raw_image.specs.Image.{file_of}
 use Rattle.floppy_jobs.specs.declared.request.Request.{Request}
 use Rattle.floppy_jobs.specs.declared.request.Request.TheVariants as request
@@ -11,13 +11,7 @@ use Rattle.sector_model.specs.declared.reply.Reply.{Reply}
 use Rattle.sector_model.specs.declared.reply.Reply.TheVariants as reply
 use Rattle.sector_model.specs.declared.reply.Reason.TheVariants as reason
 use Rattle.sector_model.specs.declared.reply.Stop.{Stop}
-use Rattle.flop_base.specs.Bays.{in_bay}
-use Rattle.sector_model.specs.Stations.{bay_of}
-use Rattle.sector_model.specs.States.{State, IsSame, ChangesMedium}
-use Rattle.sector_model.specs.Steps.{Step, StopsAt, StopCause, StoresMedium, refusal_of, is_loaded}
 use Rattle.sector_model.specs.Runs.{EndsBay, DropsMedium, EndStopsAt, AtSecond, IsEndStop}
-use Rattle.flop_base.proofs.Costs.{costs_none}
-use Rattle.flop_base.proofs.Counted.{goes_on_itself}
 
 -- the step of the request that was asked, if that request is the named one
 pub step_at : (old new : State) (told : Option Files) (asked named : Request) (answer : Reply) → asked ≡ named → Step named old told answer new told → Step asked old told answer new told

@@ -1,16 +1,9 @@
 -- Memory that is set byte by byte.
 use Rattle.std.proofs.Common.{◌≡◌, ℕ, ◌+◌, ◌-◌, ◌<◌, List, [], ◌∷◌, ◌++◌, length, take, drop, min, suc, replicate, get_or, refl, sym, ap, ◌∙◌, subst, arith, append_assoc, slice_set, length-append, length-take, length-drop}
-use Rattle.std.proofs.lemmas.List.{take-append-drop, replicate-append-replicate, length-replicate}
+use Rattle.floppy_session.proofs.Common.{take-append-drop, replicate-append-replicate, length-replicate, user_bytes, StationState, SetsMemory, State, Fills, costs_after, costs_none, goes_on_after, goes_on_itself}
 use Rattle.std.proofs.Math.Seq.{drop-cons, set-append_seam}
 use Rattle.flop_base.specs.Lists.{with_items}
-use Rattle.flop_base.specs.Memory.{user_bytes}
-use Rattle.sector_model.specs.Stations.{StationState}
 use Rattle.flop_base.specs.Counters.{GoesOn}
-use Rattle.sector_model.specs.Calls.{SetsMemory}
-use Rattle.sector_model.specs.States.{State}
-use Rattle.sector_model.specs.Steps.{Fills}
-use Rattle.flop_base.proofs.Costs.{costs_after, costs_none}
-use Rattle.flop_base.proofs.Counted.{goes_on_after, goes_on_itself}
 
 module _ (memory : List ℕ) (address : ℕ) where
   -- setting no bytes changes nothing

@@ -1,24 +1,15 @@
 -- A bay keeps its name and its shape exactly as long as its medium.
 use Rattle.std.proofs.Common.{◌≡◌, ℕ, ◌==◌, Bool, true, false, List, [], ◌∷◌, Option, Some, None, Result, Ok, Err, is_some, if◌then◌else◌, refl, sym, ap, ◌∙◌}
 use Rattle.std.specs.Option.{MatchOption, option_map}
-use Rattle.flop_base.specs.declared.key.Chrn.{Chrn}
+use Rattle.floppy_session.proofs.Common.{Chrn, Code, Disk, IsWithTrack, Two, with_bay, StationState, Bay, Stays, bay_of, read_refusal, write_refusal, format_refusal, rate_refusal, Reads, ReadsDrive, RatesTo, State, IsNamed, IsRunning, state_of}
 use Rattle.flop_base.specs.declared.answers.Rate.{Rate}
-use Rattle.flop_base.specs.declared.answers.Code.{Code}
-use Rattle.raw_image.specs.Disk.{Disk, IsWithTrack}
-use Rattle.flop_base.specs.Bays.{Two, with_bay}
-use Rattle.sector_model.specs.Stations.{StationState, Bay, Stays, bay_of}
-use Rattle.sector_model.specs.Orders.{read_refusal, write_refusal, format_refusal, rate_refusal}
-use Rattle.sector_model.specs.Reads.{Reads, ReadsDrive}
 use Rattle.sector_map.specs.Changes.{Written, Change}
 use Rattle.sector_model.specs.Writes.{WritesTo, Reaches, ChangesDisk}
 use Rattle.sector_map.specs.Layings.{Format, Laying}
 use Rattle.sector_model.specs.Formats.{FormatsTo, Lays, LaysDisk}
-use Rattle.sector_model.specs.Calls.{RatesTo}
-use Rattle.sector_model.specs.States.{State, IsNamed}
 use Rattle.floppy_session.specs.declared.shape.Shape.{Shape}
 use Rattle.floppy_session.specs.Shapes.{shape_of, shape_in, AreShapes}
 use Rattle.floppy_session.specs.declared.labels.Labels.{Labels}
-use Rattle.floppy_session.specs.Session.{IsRunning, state_of}
 
 -- each bay has a medium of the same shape as before, or none if it had none
 pub record KeepsShapes (old new : Two Bay) : Type 0 where

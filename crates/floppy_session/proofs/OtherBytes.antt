@@ -1,15 +1,8 @@
 -- A read of a sector changes no bytes of memory but those of the sector.
 use Rattle.std.proofs.Common.{◌≡◌, ℕ, ◌+◌, ◌-◌, ◌*◌, ◌^◌, ◌<◌, ◌≤◌, Bool, List, ◌++◌, length, take, drop, get_or, refl, sym, ap, ◌∙◌, subst, arith, inl, inr, Result, Ok, Err, length-append, length-take, length-drop}
-use Rattle.std.proofs.lemmas.List.{get_or-take, get_or-drop, get_or_append_left, get_or-append-add}
+use Rattle.floppy_session.proofs.Common.{get_or-take, get_or-drop, get_or_append_left, get_or-append-add, Chrn, Code, track_of, SameOutside, StationState, read_refusal, Reads, ReadsDrive}
 use Rattle.std.proofs.lemmas.List.FromFn.{length-map-range_with_len}
-use Rattle.flop_base.specs.declared.key.Chrn.{Chrn}
-use Rattle.flop_base.specs.declared.answers.Code.{Code}
-use Rattle.raw_image.specs.Disk.{track_of}
 use Rattle.flop_base.specs.Lists.{with_items}
-use Rattle.flop_base.specs.Memory.{SameOutside}
-use Rattle.sector_model.specs.Stations.{StationState}
-use Rattle.sector_model.specs.Orders.{read_refusal}
-use Rattle.sector_model.specs.Reads.{Reads, ReadsDrive}
 use Rattle.floppy_session.proofs.Named.{by_refusal}
 
 module _ (memory : List ℕ) (a : ℕ) (bytes : List ℕ) (fits : a + length bytes ≤ length memory) where

@@ -1,18 +1,11 @@
 -- Runs of subcommands (forms), by what was read of the arguments (words).
-use Rattle.std.proofs.Common.{◌≡◌, ℕ, false, List, [], refl, ap, ◌∙◌, sym, subst, Option, Some, None}
+use Rattle.std.proofs.Common.{◌≡◌, ℕ, List, [], refl, ap, ◌∙◌, sym, subst, Option, Some, None}
 use Rattle.std.specs.Prelude.{IsSome}
 use Rattle.flop_base.specs.declared.answers.Status.TheVariants as status
-use Rattle.flop_base.specs.declared.answers.Status.{Status}
+use Rattle.floppy_tools.proofs.Common.{Status, Taken, World, Tells, TellsAlone, Plays, bad_words_text, Reads, Form, Runs, DoesForm, AsAsked, StarvesWords, Does}
 use Rattle.std.specs.Prelude.{Result, Ok, Err}
-use Rattle.sector_model.specs.Runs.{Taken}
-use Rattle.sector_model.specs.Plays.{World, Tells, TellsAlone, Plays}
-use Rattle.commands.specs.LastLines.{bad_words_text}
 use Rattle.flop_base.specs.declared.answers.NoMemory.{NoMemory}
-use Rattle.floppy_words.specs.Forms.{Reads}
-use Rattle.floppy_words.specs.declared.form.Form.{Form}
 use Rattle.floppy_words.specs.declared.form.Form.TheVariants as form
-use Rattle.commands.specs.Leading.{Runs}
-use Rattle.floppy_tools.specs.Programs.{DoesForm, AsAsked, StarvesWords, Does}
 use Rattle.std.proofs.lemmas.Bool.{true≢false}
 
 -- a play of a batch job is what its subcommand asks for

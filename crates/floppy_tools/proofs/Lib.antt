@@ -1,3 +1,4 @@
+mod Common
 pub mod OnFiles
 pub mod FormRuns
 pub mod Tied

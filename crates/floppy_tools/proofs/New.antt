@@ -1,15 +1,10 @@
 -- Runs on a new machine.
 use Rattle.std.proofs.Common.{◌≡◌, ℕ, List, [], ◌∷◌, ap, subst, Option, Some, None}
 use Rattle.std.specs.Prelude.{IfSome, IsSomeAnd, Ok}
-use Rattle.flop_base.specs.Shelf.{Files, file_at}
-use Rattle.flop_base.specs.declared.answers.Status.{Status}
-use Rattle.drive_model.specs.Drive.{DriveState}
+use Rattle.floppy_tools.proofs.Common.{Files, file_at, Status, DriveState, Plan, plan_spelled, all_counts, Outside}
 use Rattle.drive_model.specs.ScriptDrive.{script_state}
 use Rattle.drive_model.specs.declared.script.ScriptDrive.{ScriptDrive}
-use Rattle.fault_plan.specs.Plan.{Plan, plan_spelled}
 use Rattle.pc_bus.specs.declared.machine.MachineOf.{MachineOf}
-use Rattle.machine_commands.specs.StationShown.{all_counts}
-use Rattle.archive_commands.specs.Files.{Outside}
 use Rattle.floppy_tools.specs.Runs.{parts_of, RunsNew, RunsPlanned}
 
 -- what is counted of two spare drives

@@ -1,12 +1,8 @@
 -- What is proved of a run over a machine.
 use Rattle.std.proofs.Common.{◌≡◌, List, refl, sym, subst}
 use Rattle.flop_base.specs.Counters.{DriveCounts}
-use Rattle.pc_bus.specs.Boards.{Board}
+use Rattle.floppy_tools.proofs.Common.{Board, State, start_of, ShowsStation, Starts, IsSetUp}
 use Rattle.sector_model.specs.Stations.{StationState, IsFresh}
-use Rattle.sector_model.specs.States.{State, start_of}
-use Rattle.machine_commands.specs.StationShown.{ShowsStation}
-use Rattle.machine_commands.specs.Started.{Starts}
-use Rattle.floppy_tools.specs.Machines.{IsSetUp}
 
 pub set_up_shown : (board : Board) (spares : List DriveCounts) (state : State) (station : StationState) → state ≡ start_of station → IsFresh station → Starts board spares station → IsSetUp board spares state
 set_up_shown board spares state station is fresh starts =

@@ -1,10 +1,7 @@
 -- Port accesses on the machine that is handed in.
 use Rattle.std.proofs.Common.{◌≡◌, ◌∙◌, ℕ, List, Option, Some, None, ap, false}
 use Rattle.std.specs.Prelude.{IsSome}
-use Rattle.drive_model.specs.Drive.{DriveState, with_motor}
-use Rattle.pc_bus.specs.Boards.{Board, IsEmpty}
-use Rattle.machine_commands.specs.Started.{IsFreshBoard}
-use Rattle.text_commands.specs.Benches.{IsBare}
+use Rattle.floppy_tools.proofs.Common.{DriveState, with_motor, Board, IsEmpty, IsFreshBoard, IsBare}
 
 -- a drive that was put into a new machine empty is empty
 made : (bay drive : DriveState) → IsEmpty bay → drive ≡ with_motor false bay → drive.medium ≡ None

@@ -1,19 +1,13 @@
 -- What a subcommand (form) counts.
 use Rattle.std.proofs.Common.{arith, ◌≡◌, ℕ, ◌+◌, ◌≤◌, List, [], Option, Some, None, refl, ap, sym, subst}
-use Rattle.flop_base.specs.declared.answers.Status.{Status}
+use Rattle.floppy_tools.proofs.Common.{Status, State, Taken, World, bad_words_text, Form, DoesForm, DoesOrStarves, AsAsked, StarvesWords, Does}
 use Rattle.flop_base.specs.declared.answers.Status.TheVariants as status
 use Rattle.floppy_jobs.specs.declared.request.Request.{Request}
-use Rattle.sector_model.specs.States.{State}
-use Rattle.sector_model.specs.Runs.{Taken}
-use Rattle.sector_model.specs.Plays.{World}
 use Rattle.sector_model.specs.Ties.{TiesCounts, IsJob, accesses_of_job}
 use Rattle.sector_model.proofs.PlayTies.{play_ties, alone_ties, play_accesses, ran_ties}
-use Rattle.commands.specs.LastLines.{bad_words_text}
-use Rattle.floppy_words.specs.declared.form.Form.{Form}
 use Rattle.floppy_words.specs.declared.form.Form.TheVariants as form
 use Rattle.commands.proofs.Running.{script_ties}
 use Rattle.text_commands.proofs.RanCalls.{calls_ties}
-use Rattle.floppy_tools.specs.Programs.{DoesForm, DoesOrStarves, AsAsked, StarvesWords, Does}
 
 abbrev Ties : World → List Taken → World → Type 0
 Ties old course new = TiesCounts old.state.station.counters course new.state.station.counters
@@ -27,19 +21,14 @@ nothing_ties old course new nothing same =
 
 form_ties : (asked : Form) (old : World) (course : List Taken) (new : World) (ended : Status) → DoesForm asked old course new ended → Ties old course new
 form_ties (form.Play job) old course new ended does = play_ties old new job course ended does
-form_ties (form.Format name cylinders) old course new ended does = script_ties _ old course new ended does
-form_ties (form.FormatDd name cylinders) old course new ended does = script_ties _ old course new ended does
-form_ties (form.Copy from to) old course new ended does = script_ties _ old course new ended does
-form_ties (form.Verify name) old course new ended does = script_ties _ old course new ended does
 form_ties (form.FromImd imd name) old course new ended does = nothing_ties old course new does.nothing does.state
 form_ties (form.ToImd name imd) old course new ended does = nothing_ties old course new does.nothing does.state
 form_ties (form.Survey name) old course new ended does = nothing_ties old course new does.nothing does.state
 form_ties (form.Remaster from to) old course new ended does = nothing_ties old course new does.nothing does.state
 form_ties (form.Import flat name) old course new ended does = script_ties _ old course new ended does.2
-form_ties (form.Export name flat) old course new ended does = script_ties _ old course new ended does
-form_ties (form.Exercise seed count) old course new ended does = script_ties _ old course new ended does
 form_ties (form.Int13 calls) old course new ended does = calls_ties old new calls course ended does
 form_ties (form.Rescue from to log) old course new ended does = script_ties _ old course new ended does.2
+form_ties _ old course new ended does = script_ties _ old course new ended does
 
 asked_ties : (asked : Form) (old : World) (course : List Taken) (new : World) (ended : Status) → DoesOrStarves asked old course new ended → Ties old course new
 asked_ties asked old course new ended (AsAsked does) = form_ties asked old course new ended does

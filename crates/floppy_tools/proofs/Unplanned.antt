@@ -2,12 +2,9 @@
 use Rattle.std.proofs.Common.{◌≡◌, ℕ, List, ap, sym, ◌∙◌, subst, Option, Some, None}
 use Rattle.std.specs.Prelude.{Vec, IfSome, Result, Ok, Err}
 use Rattle.std.specs.declared.alloc.Global.{Global}
-use Rattle.flop_base.specs.Shelf.{Files, Loads, file_at}
-use Rattle.flop_base.specs.declared.answers.Status.{Status}
-use Rattle.fault_plan.specs.Plan.{ReadsPlan, plan_spelled}
+use Rattle.floppy_tools.proofs.Common.{Files, Loads, file_at, Status, ReadsPlan, plan_spelled, most_plan_bytes, EndsWithoutPlan, Unread, TellsUnread}
 use Rattle.fault_plan.specs.declared.error.PlanError.{PlanError}
 use Rattle.fault_plan.specs.declared.plan.FaultPlan.{FaultPlan}
-use Rattle.floppy_tools.specs.Plans.{most_plan_bytes, EndsWithoutPlan, Unread, TellsUnread}
 
 -- a text that was loaded is the text of the told file
 there : (told : Option Files) (name text : List ℕ) (bytes : Vec ℕ Global) → text ≡ bytes.items → IfSome told (λ files. Loads files name most_plan_bytes (Ok bytes)) → IfSome told (λ files. file_at files name ≡ Some text)

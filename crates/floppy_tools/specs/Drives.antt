@@ -1,8 +1,6 @@
 -- Pairs of drives.
 use Rattle.std.specs.Prelude.{[], ◌∷◌}
-use Rattle.drive_model.specs.Drive.{DriveState}
-use Rattle.pc_bus.specs.Boards.{IsEmpty}
-use Rattle.irq_events.specs.declared.pace.Pace.{Pace}
+use Rattle.floppy_tools.specs.Common.{DriveState, IsEmpty, Pace}
 use Rattle.floppy_tools.specs.Runs.{Parts}
 use Rattle.floppy_tools.specs.declared.drives.Drives.{Drives}
 

@@ -1,3 +1,4 @@
+pub mod Common
 pub mod Programs
 pub mod Machines
 pub mod Performed

@@ -1,16 +1,6 @@
 -- The program over a machine, from the driver's set-up to the machine that comes back.
 use Rattle.std.specs.Prelude.{◌≡◌, List, Option, None}
-use Rattle.flop_base.specs.declared.answers.Status.{Status}
-use Rattle.flop_base.specs.Bays.{both}
-use Rattle.flop_base.specs.Counters.{DriveCounts}
-use Rattle.pc_bus.specs.Boards.{Board}
-use Rattle.sector_model.specs.Stations.{IsFresh}
-use Rattle.sector_model.specs.States.{State}
-use Rattle.machine_commands.specs.StationShown.{ShowsStation}
-use Rattle.machine_commands.specs.Started.{Starts}
-use Rattle.floppy_words.specs.declared.form.Form.{Form}
-use Rattle.commands.specs.Leading.{Runs}
-use Rattle.archive_commands.specs.Files.{Outside}
+use Rattle.floppy_tools.specs.Common.{Status, both, DriveCounts, Board, IsFresh, State, ShowsStation, Starts, Form, Runs, Outside}
 use Rattle.text_commands.specs.JobRounds.{world}
 use Rattle.floppy_tools.specs.Programs.{Does}
 

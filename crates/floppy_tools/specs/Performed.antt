@@ -1,18 +1,7 @@
 -- What the top call does with its arguments (words).
 use Rattle.std.specs.Prelude.{◌≡◌, ℕ, List, Option, None, Some}
-use Rattle.flop_base.specs.Shelf.{Files}
-use Rattle.flop_base.specs.declared.answers.Status.{Status}
+use Rattle.floppy_tools.specs.Common.{Files, Status, DriveCounts, DriveState, Board, board, MachineOf, Blames, Form, form_of, ports_file_of, Outside, FaultyOutside, faulty_outside_of, Names, no_names, RunsPorts}
 use Rattle.flop_base.specs.declared.answers.Status.TheVariants as status
-use Rattle.flop_base.specs.Counters.{DriveCounts}
-use Rattle.drive_model.specs.Drive.{DriveState}
-use Rattle.pc_bus.specs.Boards.{Board, board}
-use Rattle.pc_bus.specs.declared.machine.MachineOf.{MachineOf}
-use Rattle.sector_model.specs.Faults.{Blames}
-use Rattle.floppy_words.specs.declared.form.Form.{Form}
-use Rattle.floppy_words.specs.Forms.{form_of, ports_file_of}
-use Rattle.archive_commands.specs.Files.{Outside, FaultyOutside, faulty_outside_of}
-use Rattle.text_commands.specs.Benches.{Names, no_names}
-use Rattle.text_commands.specs.PortGuards.{RunsPorts}
 use Rattle.text_commands.specs.PortPlays.{World}
 use Rattle.floppy_tools.specs.Machines.{RunsOver}
 

@@ -3,14 +3,9 @@ use Rattle.std.specs.Prelude.{ℕ, List, [], ◌∷◌, codes, Option, Result, O
 use Rattle.std.specs.declared.alloc.Global.{Global}
 use Rattle.std.specs.declared.env.VarError.{VarError}
 use Rattle.std.specs.declared.env.VarError.TheVariants as variable
-use Rattle.flop_base.specs.declared.answers.Status.{Status}
+use Rattle.floppy_tools.specs.Common.{Status, plain_state, MachineOf, absent_text, Prints, Outside, FaultyOutside}
 use Rattle.flop_base.specs.declared.answers.Status.TheVariants as status
-use Rattle.drive_model.specs.PlainDrive.{plain_state}
 use Rattle.drive_model.specs.declared.plain.PlainDrive.{PlainDrive}
-use Rattle.pc_bus.specs.declared.machine.MachineOf.{MachineOf}
-use Rattle.sector_model.specs.Texts.{absent_text}
-use Rattle.sector_model.specs.Plays.{Prints}
-use Rattle.archive_commands.specs.Files.{Outside, FaultyOutside}
 use Rattle.floppy_tools.specs.Runs.{EndsRun, LacksPlan, plain_parts, RunsNew, RunsPlanned, Starves}
 use Rattle.floppy_tools.specs.declared.plan_variable.ProgramEnded.{ProgramEnded}
 use Rattle.floppy_tools.specs.declared.plan_variable.ProgramEnded.TheVariants as ended

@@ -1,14 +1,10 @@
 -- How the program ends if the plan that the environment names wasn't loaded or wasn't read.
 use Rattle.std.specs.Prelude.{◌≡◌, ℕ, ◌++◌, List, [], ◌∷◌, codes, Option, Some, Err, IfSome}
 use Rattle.std.specs.Fmt.{decimal}
-use Rattle.flop_base.specs.Shelf.{Files, Loads, file_at}
-use Rattle.flop_base.specs.declared.answers.Status.{Status}
+use Rattle.floppy_tools.specs.Common.{Files, Loads, file_at, Status, absent_text, Prints, ReadsPlan, plan_spelled}
 use Rattle.flop_base.specs.declared.answers.Status.TheVariants as status
 use Rattle.flop_base.specs.declared.answers.LoadError.{LoadError}
 use Rattle.flop_base.specs.declared.answers.LoadError.TheVariants as load
-use Rattle.sector_model.specs.Texts.{absent_text}
-use Rattle.sector_model.specs.Plays.{Prints}
-use Rattle.fault_plan.specs.Plan.{ReadsPlan, plan_spelled}
 use Rattle.fault_plan.specs.declared.error.PlanError.{PlanError}
 use Rattle.fault_plan.specs.declared.error.PlanError.TheVariants as plan
 

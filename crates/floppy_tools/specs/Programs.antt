@@ -1,25 +1,14 @@
 -- What the program does with its arguments (words).
 use Rattle.std.specs.Prelude.{◌≡◌, ℕ, List, [], Option, Some, None}
 use Rattle.flop_base.specs.declared.answers.Rate.TheVariants.{R500, R250}
-use Rattle.flop_base.specs.declared.answers.Status.{Status}
+use Rattle.floppy_tools.specs.Common.{Status, Two, Files, Blames, StationState, State, start_of, Taken, World, Plays, TellsAlone, IsIdle, Form, form_of, Runs, Outside, FaultyOutside}
 use Rattle.flop_base.specs.declared.answers.Status.TheVariants as status
-use Rattle.flop_base.specs.Bays.{Two}
-use Rattle.flop_base.specs.Shelf.{Files}
-use Rattle.sector_model.specs.Faults.{Blames}
-use Rattle.sector_model.specs.Stations.{StationState}
-use Rattle.sector_model.specs.States.{State, start_of}
-use Rattle.sector_model.specs.Runs.{Taken}
-use Rattle.sector_model.specs.Plays.{World, Plays, TellsAlone, IsIdle}
 use Rattle.commands.specs.LastLines.{bad_words_text}
-use Rattle.floppy_words.specs.declared.form.Form.{Form}
 use Rattle.floppy_words.specs.declared.form.Form.TheVariants as form
-use Rattle.floppy_words.specs.Forms.{form_of}
 use Rattle.commands.specs.Scripts.{RunsScript}
-use Rattle.commands.specs.Leading.{Runs}
 use Rattle.disk_commands.specs.Format.{format_script}
 use Rattle.disk_commands.specs.Verify.{verify_script}
 use Rattle.disk_commands.specs.Copy.{copy_script}
-use Rattle.archive_commands.specs.Files.{Outside, FaultyOutside}
 use Rattle.archive_commands.specs.Making.{FromImd, ToImd, Remaster}
 use Rattle.archive_commands.specs.Surveys.{Surveys}
 use Rattle.disk_commands.specs.Import.{Imports}

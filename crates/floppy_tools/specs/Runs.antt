@@ -1,21 +1,10 @@
 -- Runs of the top call on a machine that was made for it.
 use Rattle.std.specs.Prelude.{◌≡◌, ◌⊎◌, ℕ, List, [], ◌∷◌, Option, None, Some, Ok, IfSome, IsSomeAnd}
-use Rattle.flop_base.specs.Shelf.{file_at}
-use Rattle.flop_base.specs.declared.answers.Status.{Status}
+use Rattle.floppy_tools.specs.Common.{file_at, Status, DriveState, at_rest, script_state, told, Plan, plan_spelled, Pace, Board, board, IsNew, MachineOf, all_counts, Blames, Outside, FaultyOutside}
 use Rattle.flop_base.specs.declared.answers.Status.TheVariants as status
-use Rattle.drive_model.specs.Drive.{DriveState}
 use Rattle.drive_model.specs.Fault.{total_left}
-use Rattle.drive_model.specs.Mechanics.{at_rest}
-use Rattle.drive_model.specs.ScriptDrive.{script_state, told}
 use Rattle.drive_model.specs.declared.fault.Fault.{Fault}
 use Rattle.drive_model.specs.declared.script.ScriptDrive.{ScriptDrive}
-use Rattle.fault_plan.specs.Plan.{Plan, plan_spelled}
-use Rattle.irq_events.specs.declared.pace.Pace.{Pace}
-use Rattle.pc_bus.specs.Boards.{Board, board, IsNew}
-use Rattle.pc_bus.specs.declared.machine.MachineOf.{MachineOf}
-use Rattle.machine_commands.specs.StationShown.{all_counts}
-use Rattle.sector_model.specs.Faults.{Blames}
-use Rattle.archive_commands.specs.Files.{Outside, FaultyOutside}
 use Rattle.floppy_tools.specs.Performed.{DoesWords}
 use Rattle.floppy_tools.specs.Plans.{EndsWithoutPlan, Silent}
 

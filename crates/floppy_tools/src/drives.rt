@@ -1,9 +1,6 @@
 // The drives of the program, and machines with them.
 ghost use Rattle.std.specs.Prelude.{◌≡◌, [], ◌∷◌, Some, IfOk};
-ghost use Rattle.pc_bus.specs.Boards.{board, IsNew};
-ghost use Rattle.drive_model.specs.Mechanics.{at_rest};
-ghost use Rattle.drive_model.specs.PlainDrive.{plain_state};
-ghost use Rattle.drive_model.specs.ScriptDrive.{script_of, script_state};
+ghost use Rattle.floppy_tools.specs.Common.{board, IsNew, at_rest, plain_state, script_of, script_state};
 ghost use Rattle.floppy_tools.specs.Runs.{planned_drive};
 
 use drive_model::{Drive, Fault, PlainDrive, ScriptDrive};

@@ -1,12 +1,7 @@
 // The arguments (words) of the program, done over a session.
 ghost use Rattle.std.specs.Prelude.{◌≡◌, Option, None, Ok, map, string_bytes};
-ghost use Rattle.sector_model.specs.Faults.{Blames};
-ghost use Rattle.sector_model.specs.Stations.{IsFresh};
-ghost use Rattle.floppy_words.specs.declared.form.Form.{Form};
-ghost use Rattle.floppy_words.specs.Forms.{form_of, Reads};
+ghost use Rattle.floppy_tools.specs.Common.{Blames, IsFresh, Form, form_of, Reads, Ran, Runs, faulty_outside_of};
 ghost use Rattle.commands.specs.Hands.{hand_of};
-ghost use Rattle.commands.specs.Leading.{Ran, Runs};
-ghost use Rattle.archive_commands.specs.Files.{faulty_outside_of};
 ghost use Rattle.floppy_tools.specs.Programs.{Does, DoesForm, RanWords, world_of};
 
 use archive_commands::{from_imd, remaster_disk, survey_disk, to_imd};

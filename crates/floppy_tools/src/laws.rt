@@ -1,11 +1,8 @@
 // What a run of the program over any station counts. The bodies are empty.
 ghost use Rattle.std.specs.Prelude.{◌≤◌, ◌+◌, List, Option, Some};
-ghost use Rattle.flop_base.specs.declared.answers.Status.{Status};
+ghost use Rattle.floppy_tools.specs.Common.{Status, Taken, World, Form};
 ghost use Rattle.floppy_jobs.specs.declared.request.Request.{Request};
-ghost use Rattle.sector_model.specs.Runs.{Taken};
-ghost use Rattle.sector_model.specs.Plays.{World};
 ghost use Rattle.sector_model.specs.Ties.{TiesCounts, IsJob, accesses_of_job};
-ghost use Rattle.floppy_words.specs.declared.form.Form.{Form};
 ghost use Rattle.floppy_words.specs.declared.form.Form.TheVariants as form;
 ghost use Rattle.floppy_tools.specs.Programs.{Does};
 

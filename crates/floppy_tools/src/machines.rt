@@ -1,8 +1,6 @@
 // A session over a new machine, and the machine that it leaves.
 ghost use Rattle.std.specs.Prelude.{All};
-ghost use Rattle.pc_bus.specs.Boards.{board, IsEmpty};
-ghost use Rattle.machine_commands.specs.StationShown.{all_counts, ShowsStation};
-ghost use Rattle.machine_commands.specs.Started.{IsFreshBoard};
+ghost use Rattle.floppy_tools.specs.Common.{board, IsEmpty, all_counts, ShowsStation, IsFreshBoard};
 ghost use Rattle.floppy_tools.specs.Machines.{IsSetUp};
 
 use drive_model::Drive;

@@ -1,9 +1,6 @@
 // The plan of faults and delays that the environment names.
 ghost use Rattle.std.specs.Prelude.{◌≡◌, ◌≢◌, ◌∷◌, [], IfErr, IfOk, IfSome, IsErrOf, IsSomeAnd, Ok, OnOk, string_bytes};
-ghost use Rattle.flop_base.specs.Shelf.{file_at};
-ghost use Rattle.sector_model.specs.Faults.{Blames};
-ghost use Rattle.sector_model.specs.Plays.{Prints};
-ghost use Rattle.fault_plan.specs.Plan.{lists_of, plan_spelled};
+ghost use Rattle.floppy_tools.specs.Common.{file_at, Blames, Prints, lists_of, plan_spelled};
 ghost use Rattle.floppy_tools.specs.Plans.{bad_plan_text, EndsWithoutPlan, TellsUnloaded, TellsUnread};
 
 use commands::{put_last_absent, put_last_line};

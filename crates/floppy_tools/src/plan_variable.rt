@@ -1,9 +1,6 @@
 // The program, by what the environment variable gave that names a plan.
 ghost use Rattle.std.specs.Prelude.{◌≡◌, ◌≢◌, ◌∷◌, [], codes, map, string_bytes};
-ghost use Rattle.sector_model.specs.Plays.{Prints};
-ghost use Rattle.sector_model.specs.Texts.{absent_text};
-ghost use Rattle.sector_model.specs.Faults.{Blames};
-ghost use Rattle.archive_commands.specs.Files.{faulty_outside_of};
+ghost use Rattle.floppy_tools.specs.Common.{Prints, absent_text, Blames, faulty_outside_of};
 ghost use Rattle.floppy_tools.specs.PlanVariable.{EndsProgram, status_of};
 
 use crate::run::{Ended, run_plain, run_planned};

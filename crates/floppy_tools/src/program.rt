@@ -1,11 +1,7 @@
 // The top call.
 ghost use Rattle.std.specs.Prelude.{All, None, Some, map, string_bytes};
-ghost use Rattle.pc_bus.specs.Boards.{board, IsEmpty};
-ghost use Rattle.machine_commands.specs.StationShown.{all_counts};
-ghost use Rattle.machine_commands.specs.Started.{IsFreshBoard};
-ghost use Rattle.text_commands.specs.Benches.{no_names};
+ghost use Rattle.floppy_tools.specs.Common.{board, IsEmpty, all_counts, IsFreshBoard, no_names, RunsBare};
 ghost use Rattle.text_commands.specs.PortFaults.{Ran, faulty_of};
-ghost use Rattle.text_commands.specs.PortGuards.{RunsBare};
 ghost use Rattle.floppy_tools.specs.Performed.{Performed, stand_of};
 
 use crate::forms::run_asked;

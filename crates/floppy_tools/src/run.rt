@@ -1,9 +1,6 @@
 // The machine of the program, and what the program does with the arguments (words).
 ghost use Rattle.std.specs.Prelude.{◌≡◌, [], map, string_bytes};
-ghost use Rattle.drive_model.specs.PlainDrive.{plain_state};
-ghost use Rattle.drive_model.specs.ScriptDrive.{script_state};
-ghost use Rattle.fault_plan.specs.Plan.{lists_of};
-ghost use Rattle.archive_commands.specs.Files.{faulty_outside_of};
+ghost use Rattle.floppy_tools.specs.Common.{plain_state, script_state, lists_of, faulty_outside_of};
 ghost use Rattle.floppy_tools.specs.Drives.{AreEmpty, parts_with};
 ghost use Rattle.floppy_tools.specs.Runs.{parts_of, plain_parts, RunsNew, RunsPlanned, EndsRun, Starves, LacksPlan};
 

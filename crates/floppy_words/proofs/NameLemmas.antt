@@ -20,7 +20,5 @@ two_names (Some from) (Some to) = refl
 -- the arguments of a copy are two names
 pub copy_names : (words : List (List ℕ)) → copy_of words ≡ (names_of words >>= λ names. Some (form.Copy names.0 names.1))
 unfolding copy_of names_of
-copy_names [] = refl
-copy_names (one ∷ []) = refl
 copy_names (one ∷ other ∷ []) = two_names (name_of one) (name_of other)
-copy_names (one ∷ other ∷ more ∷ rest) = refl
+copy_names _ = refl

@@ -1,28 +1,11 @@
 -- The file that is written of an image is read as that image.
 use Rattle.std.proofs.Common.{◌≡◌, ℕ, zero, suc, ◌+◌, ◌*◌, ◌^◌, ◌%◌, ◌≤◌, ◌<◌, Bool, true, false, not, ◌&&◌, eqb, ltb, cond, List, [], ◌∷◌, ◌++◌, length, get_or, replicate, Option, Some, None, Result, Ok, refl, sym, ap, ◌∙◌, append_assoc, length-append, arith, All}
 use Rattle.std.specs.Prelude.{IfSome}
-use Rattle.std.specs.List.{list_any, flat_map}
-use Rattle.std.proofs.lemmas.Bool.{eqb-true, le-ltb, le-leb}
-use Rattle.std.proofs.lemmas.List.{take_at, drop_at, get_or-map}
-use Rattle.std.proofs.lemmas.List.Concat.{flat_map-cons}
-use Rattle.std.proofs.lemmas.List.Folds.{list_any_at}
-use Rattle.flop_base.specs.declared.answers.Rate.{Rate}
-use Rattle.flop_base.specs.declared.answers.Rate.TheVariants.{R500, R250}
-use Rattle.flop_base.specs.declared.key.Chrn.{Chrn}
-use Rattle.raw_image.specs.declared.error.ImageError.{ImageError}
+use Rattle.imagedisk.proofs.Common.{list_any, flat_map, eqb-true, le-ltb, le-leb, take_at, drop_at, get_or-map, flat_map-cons, list_any_at, Rate, R500, R250, Chrn, ImageError, ImdKind, Absent, Good, Deleted, Bad, BadDeleted, ImdSector, ImdTrack, KeyPart, Cylinder, Head, Number, kept_size, IsImdSector, IsImdTrack, Rest, part, mode_byte, rate_of, cylinder_of, size_code_of, head_of, has_track, new_head_of, map_at, key_at, kind_of, part_of, map_of, differs, needed_map, head_byte, is_all, sector_bytes}
 use Rattle.raw_image.specs.Header.{◌>>=◌, field}
 use Rattle.imagedisk.specs.declared.header.Header.{Header}
-use Rattle.imagedisk.specs.declared.sector.ImdKind.{ImdKind}
-use Rattle.imagedisk.specs.declared.sector.ImdKind.TheVariants.{Absent, Good, Deleted, Bad, BadDeleted}
-use Rattle.imagedisk.specs.declared.sector.ImdSector.{ImdSector}
-use Rattle.imagedisk.specs.declared.track.ImdTrack.{ImdTrack}
-use Rattle.imagedisk.specs.declared.writing.KeyPart.{KeyPart}
-use Rattle.imagedisk.specs.declared.writing.KeyPart.TheVariants.{Cylinder, Head, Number}
-use Rattle.imagedisk.specs.Images.{kept_size, IsImdSector, IsImdTrack}
-use Rattle.imagedisk.specs.Left.{Rest, part}
-use Rattle.imagedisk.specs.Headers.{mode_byte, rate_of, cylinder_of, size_code_of, head_of, has_track, new_head_of, header_at}
-use Rattle.imagedisk.specs.Reading.{map_at, key_at, kind_of, content_at, sector_at, sectors_at}
-use Rattle.imagedisk.specs.Writing.{part_of, map_of, differs, needed_map, head_byte, is_all, sector_bytes}
+use Rattle.imagedisk.specs.Headers.{header_at}
+use Rattle.imagedisk.specs.Reading.{content_at, sector_at, sectors_at}
 
 -- the bytes that are left, which begin at this offset
 abbrev pub left_at : ℕ → List ℕ → Rest

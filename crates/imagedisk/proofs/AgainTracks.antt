@@ -2,24 +2,8 @@
 use Rattle.std.proofs.Common.{◌≡◌, ℕ, zero, suc, ◌+◌, ◌≤◌, ◌<◌, Bool, true, false, ◌&&◌, eqb, List, [], ◌∷◌, ◌++◌, length, get_or, Option, Some, None, Ok, refl, sym, ap, subst, ◌∙◌, append_assoc, length-append, arith, ltb, All, AllPairs}
 use Rattle.std.specs.Prelude.{IfSome}
 use Rattle.std.specs.Option.{unwrap_or}
-use Rattle.std.specs.List.{flat_map}
-use Rattle.std.proofs.lemmas.Bool.{eqb-true, lt-ltb}
-use Rattle.std.proofs.lemmas.List.{get_or_append_left, append-nil}
-use Rattle.std.proofs.Math.Seq.{get_or-append_seam}
-use Rattle.std.proofs.lemmas.List.Concat.{flat_map-cons}
-use Rattle.std.proofs.lemmas.List.Folds.{list_any_none}
-use Rattle.flop_base.specs.declared.answers.Rate.{Rate}
-use Rattle.flop_base.specs.declared.answers.Rate.TheVariants.{R500}
-use Rattle.imagedisk.specs.declared.sector.ImdSector.{ImdSector}
-use Rattle.imagedisk.specs.declared.track.ImdTrack.{ImdTrack}
-use Rattle.imagedisk.specs.declared.image.ImdImage.{ImdImage}
-use Rattle.imagedisk.specs.declared.writing.KeyPart.{KeyPart}
-use Rattle.imagedisk.specs.declared.writing.KeyPart.TheVariants.{Cylinder, Head, Number}
-use Rattle.imagedisk.specs.Images.{IsImdTrack, IsImdImage, AreApart}
-use Rattle.imagedisk.specs.Left.{part}
-use Rattle.imagedisk.specs.Headers.{has_track, header_at}
-use Rattle.imagedisk.specs.Reading.{map_at, key_at, sectors_at, track_at, tracks_at, image_with, tracks_begin, image_of}
-use Rattle.imagedisk.specs.Writing.{text, map_of, differs, needed_map, sector_bytes, track_bytes, file_of}
+use Rattle.imagedisk.proofs.Common.{flat_map, eqb-true, lt-ltb, get_or_append_left, append-nil, get_or-append_seam, flat_map-cons, list_any_none, Rate, R500, ImdSector, ImdTrack, ImdImage, KeyPart, Cylinder, Head, Number, IsImdTrack, IsImdImage, AreApart, part, has_track, header_at, map_at, key_at, sectors_at, image_with, tracks_begin, text, map_of, differs, needed_map, sector_bytes, track_bytes, file_of}
+use Rattle.imagedisk.specs.Reading.{track_at, tracks_at, image_of}
 use Rattle.imagedisk.proofs.Loops.{opened}
 use Rattle.imagedisk.proofs.Again.{left_at, then, part_again, five_of, header_for, header_again, map_again, sectors_again, keys_are}
 
@@ -66,8 +50,7 @@ some_bytes rate track = omega arith
 
 both_differ : (a b c d : ℕ) (s t : Bool) → eqb a c ≡ s → eqb b d ≡ t → (a ≡ c → b ≡ d → ⊥) → (s && t) ≡ false
 both_differ a b c d true true e f apart = absurd (apart (eqb-true a c e) (eqb-true b d f))
-both_differ a b c d true false e f apart = refl
-both_differ a b c d false t e f apart = refl
+both_differ a b c d _ _ e f apart = refl
 
 is_fresh : (front : List ImdTrack) (track : ImdTrack) (tracks : List ImdTrack) → AllPairs AreApart (front ++ track ∷ tracks) → has_track front track.c track.h ≡ false
 is_fresh front track tracks apart =

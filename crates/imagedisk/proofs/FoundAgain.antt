@@ -1,30 +1,10 @@
 -- The sectors of an image are found on the track that the image makes.
 use Rattle.std.proofs.Common.{◌≡◌, ◌≢◌, ◌↔◌, ℕ, zero, suc, ◌+◌, ◌-◌, ◌/◌, ◌^◌, ◌≤◌, ◌<◌, Bool, true, false, List, [], ◌∷◌, length, get_or, replicate, refl, sym, ap, subst, ◌∙◌, arith, All, inl, inr}
-use Rattle.std.proofs.lemmas.Bool.{cases_lt}
-use Rattle.std.proofs.lemmas.List.{get_or-map, get_or-replicate, get_or_past, length-replicate}
-use Rattle.flop_base.specs.declared.answers.Rate.{Rate}
-use Rattle.flop_base.specs.declared.key.Chrn.{Chrn}
-use Rattle.flop_base.specs.Standard.{standard_fill, words_at}
-use Rattle.track_model.specs.declared.Look.TheVariants.{Found, NoData, BadCrc}
-use Rattle.track_model.specs.Fields.{IsAddressAt, content_at, content_size}
-use Rattle.track_model.specs.Looks.{LookAt}
+use Rattle.imagedisk.proofs.Common.{cases_lt, get_or-map, get_or-replicate, get_or_past, length-replicate, Rate, Chrn, standard_fill, words_at, Found, NoData, BadCrc, IsAddressAt, content_at, content_size, LookAt, window_place, window_words, damaged_window, empty_window, cut_of, IsFieldFor, lay, laid_words, Fits, sector_place, IsKey, length-window, empty_overlay, length-empty_window, own_none, KeepsFields, whole_fields, window_overlay, damaged_overlay, whole_found, whole_content, whole_bad, damaged_all, read_fields, read_parted, ImdKind, Absent, Good, Deleted, Bad, BadDeleted, ImdSector, ImdTrack, kept_size, IsImdSector, IsImdTrack, keys_of, window_of, laid_track, empty_words, IsMadeTrack, IsFoundAs, HasSectors}
 use Rattle.track_model.specs.Writing.{window}
-use Rattle.track_model.specs.Windows.{window_place, window_words, damaged_window, empty_window, cut_of, IsFieldFor}
-use Rattle.track_model.specs.Layouts.{lay, laid_words, Fits}
-use Rattle.track_model.specs.LaidFields.{sector_place, IsKey}
-use Rattle.track_model.proofs.Written.{length-window}
 use Rattle.track_model.proofs.Parted.{IsParted}
-use Rattle.track_model.proofs.EmptyWindow.{empty_overlay, length-empty_window, own_none}
-use Rattle.track_model.proofs.Kept.{KeepsFields, whole_fields, window_overlay, damaged_overlay, whole_found, whole_content, whole_bad, damaged_all}
 use Rattle.track_format.specs.Gaps.{Suits}
-use Rattle.track_format.proofs.Read.{read_fields, read_parted}
-use Rattle.imagedisk.specs.declared.sector.ImdKind.{ImdKind}
-use Rattle.imagedisk.specs.declared.sector.ImdKind.TheVariants.{Absent, Good, Deleted, Bad, BadDeleted}
-use Rattle.imagedisk.specs.declared.sector.ImdSector.{ImdSector}
-use Rattle.imagedisk.specs.declared.track.ImdTrack.{ImdTrack}
-use Rattle.imagedisk.specs.Images.{kept_size, IsImdSector, IsImdTrack}
-use Rattle.imagedisk.specs.Made.{keys_of, window_of, with_sectors, laid_track, empty_words, IsMadeTrack}
-use Rattle.imagedisk.specs.Found.{IsFoundAs, HasSectors}
+use Rattle.imagedisk.specs.Made.{with_sectors}
 use Rattle.imagedisk.proofs.Windowed.{laid_before}
 
 -- ---- one window
@@ -80,8 +60,7 @@ kept_found track after p q key Good content kept other here found =
     (found.0, (kept.looks q key (Found false found.0) other here).0 found.1, found.2 ∙ kept.contents q key false found.0 other here found.1)
 kept_found track after p q key Deleted content kept other here found =
     (found.0, (kept.looks q key (Found true found.0) other here).0 found.1, found.2 ∙ kept.contents q key true found.0 other here found.1)
-kept_found track after p q key Bad content kept other here found = (kept.looks q key BadCrc other here).0 found
-kept_found track after p q key BadDeleted content kept other here found = (kept.looks q key BadCrc other here).0 found
+kept_found track after p q key _ content kept other here found = (kept.looks q key BadCrc other here).0 found
 
 -- ---- windows one after the other
 

@@ -1,26 +1,10 @@
 -- What the looks at the address fields of a track find.
-use Rattle.std.proofs.Common.{◌≡◌, ℕ, ◌+◌, ◌*◌, ◌^◌, ◌<◌, Bool, List, [], ◌∷◌, ◌++◌, length, get_or, replicate, refl, sym, ap, subst, ◌∙◌, arith, Contains, inl, inr}
-use Rattle.std.proofs.lemmas.Bool.{cases_lt}
-use Rattle.std.proofs.lemmas.List.{get_or_append_left, get_or_default, get_or_past, get_or-replicate, length-replicate}
-use Rattle.std.proofs.Math.Seq.{get_or-append_seam}
+use Rattle.std.proofs.Common.{◌≡◌, ℕ, ◌+◌, ◌*◌, ◌^◌, ◌<◌, Bool, List, [], ◌∷◌, ◌++◌, length, get_or, refl, sym, ap, subst, ◌∙◌, arith, Contains, inl, inr}
+use Rattle.imagedisk.proofs.Common.{cases_lt, get_or_append_left, get_or_default, get_or_past, get_or-append_seam, Chrn, Field, Look, Found, NoData, BadCrc, byte_at, bytes_at, IsKey, IsAddressAt, AreAddresses, content_size, content_at, IsFirstDataMark, LookAt, one_first, ImdKind, Absent, Bad, BadDeleted, ImdSector, kept_size, AreBytes, IsImdSector, Holds, IsSectorAt, AreUniform, IsFit, HasNoAddress}
 use Rattle.std.proofs.lemmas.List.FromFn.{length-map-range_with_len, map-range_with_len_more, get_or-map-range_with_len}
-use Rattle.flop_base.specs.declared.key.Chrn.{Chrn}
-use Rattle.track_model.specs.declared.Field.{Field}
-use Rattle.track_model.specs.declared.Look.{Look}
-use Rattle.track_model.specs.declared.Look.TheVariants.{Found, NoMark, NoSector, NoData, BadCrc}
-use Rattle.track_model.specs.Bytes.{byte_at, bytes_at}
 use Rattle.track_model.specs.Cells.{IsInside, cell}
-use Rattle.track_model.specs.LaidFields.{IsKey}
-use Rattle.track_model.specs.Fields.{IsAddressAt, AreAddresses, content_size, content_at}
-use Rattle.track_model.specs.Looks.{IsFirstDataMark, LookAt}
 use Rattle.track_model.proofs.Numbers.{number_below}
 use Rattle.track_model.proofs.Places.{cell-lt}
-use Rattle.track_model.proofs.Unique.{one_first}
-use Rattle.imagedisk.specs.declared.sector.ImdKind.{ImdKind}
-use Rattle.imagedisk.specs.declared.sector.ImdKind.TheVariants.{Absent, Good, Deleted, Bad, BadDeleted}
-use Rattle.imagedisk.specs.declared.sector.ImdSector.{ImdSector}
-use Rattle.imagedisk.specs.Images.{kept_size, AreBytes, IsImdSector}
-use Rattle.imagedisk.specs.Taken.{Holds, IsSectorAt, AreUniform, IsFit, HasNoAddress}
 
 pub one_more_byte : (track : List ℕ) (p i : ℕ) → bytes_at track p (i + 1) ≡ bytes_at track p i ++ byte_at track (p + 16 * i) ∷ []
 one_more_byte track p i = map-range_with_len_more (λ j. byte_at track (p + 16 * j)) 0 i i (omega arith)
@@ -39,20 +23,18 @@ has_mark track p n look = (look.0, look.1.0, look.1.1.first)
 
 pub is_absent : (track : List ℕ) (p n : ℕ) (look : Look) → LookAt track p n look → ((deleted : Bool) (place : ℕ) → look ≡ Found deleted place → ⊥) → (look ≡ BadCrc → ⊥) → LookAt track p n NoData
 is_absent track p n (Found deleted place) is not_found not_bad = absurd (not_found deleted place refl)
-is_absent track p n NoMark is not_found not_bad = absurd is
-is_absent track p n NoSector is not_found not_bad = absurd is
 is_absent track p n NoData is not_found not_bad = is
 is_absent track p n BadCrc is not_found not_bad = absurd (not_bad refl)
+is_absent track p n _ is not_found not_bad = absurd is
 
 content_length : (track : List ℕ) (place n : ℕ) (content : List ℕ) → content ≡ content_at track place n → length content ≡ content_size n
 content_length track place n content is = ap length is ∙ length-map-range_with_len (λ i. byte_at track (place + 16 * i)) 0 (content_size n)
 
 pub held_size : (track : List ℕ) (p n : ℕ) (kind : ImdKind) (content : List ℕ) → Holds track p n kind content → length content ≡ kept_size kind n
 held_size track p n Absent content held = ap length held.1
-held_size track p n Good content held = content_length track held.0 n content held.2
-held_size track p n Deleted content held = content_length track held.0 n content held.2
 held_size track p n Bad content held = content_length track (held.1 + 64) n content held.3
 held_size track p n BadDeleted content held = content_length track (held.1 + 64) n content held.3
+held_size track p n _ content held = content_length track held.0 n content held.2
 
 -- ---- bytes
 
@@ -71,19 +53,11 @@ content_bytes track place n content is j =
 pub no_bytes : AreBytes []
 no_bytes j = omega arith
 
-pub filled_bytes : (count fill : ℕ) → fill < 2 ^ 8 → AreBytes (replicate count fill)
-filled_bytes count fill small j =
-    elim (cases_lt j count) [
-      | inl lt ↦ subst (λ (b : ℕ). b < 2 ^ 8) (sym (get_or-replicate count j fill 0 lt)) small
-      | inr past ↦ subst (λ (b : ℕ). b < 2 ^ 8) (sym (get_or_past (replicate count fill) j 0 (omega (arith, length-replicate count fill)))) (omega arith)
-    ]
-
 pub held_bytes : (track : List ℕ) (p n : ℕ) (kind : ImdKind) (content : List ℕ) → Holds track p n kind content → AreBytes content
 held_bytes track p n Absent content held = subst AreBytes (sym held.1) no_bytes
-held_bytes track p n Good content held = content_bytes track held.0 n content held.2
-held_bytes track p n Deleted content held = content_bytes track held.0 n content held.2
 held_bytes track p n Bad content held = content_bytes track (held.1 + 64) n content held.3
 held_bytes track p n BadDeleted content held = content_bytes track (held.1 + 64) n content held.3
+held_bytes track p n _ content held = content_bytes track held.0 n content held.2
 
 pub key_bytes : (track : List ℕ) (p : ℕ) (key : Chrn) → IsAddressAt track p key → IsKey key
 key_bytes track p key at = record {

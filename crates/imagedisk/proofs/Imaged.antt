@@ -1,28 +1,13 @@
 -- Diskettes that have the sectors of an image.
 use Rattle.std.proofs.Common.{◌≡◌, ℕ, zero, suc, ◌<◌, ◌⊎◌, true, false, eqb, List, [], ◌∷◌, length, get_or, refl, sym, ap, subst, ◌∙◌, arith, eq-eqb, inl, inr}
-use Rattle.std.proofs.lemmas.Bool.{eqb-true}
-use Rattle.std.proofs.lemmas.List.{get_or_default}
-use Rattle.flop_base.specs.declared.key.Chrn.{Chrn}
-use Rattle.raw_image.specs.Disk.{Disk, HasTrack, track_of}
-use Rattle.track_model.specs.declared.Field.{Field}
-use Rattle.track_model.specs.Fields.{IsAddressAt}
-use Rattle.imagedisk.specs.declared.sector.ImdKind.{ImdKind}
-use Rattle.imagedisk.specs.declared.sector.ImdKind.TheVariants.{Absent, Good, Deleted, Bad, BadDeleted}
-use Rattle.imagedisk.specs.declared.track.ImdTrack.{ImdTrack}
-use Rattle.imagedisk.specs.declared.image.ImdImage.{ImdImage}
-use Rattle.imagedisk.specs.Images.{IsImdImage}
-use Rattle.imagedisk.specs.Taken.{Holds, IsTrackOf, HasTrackAt, IsImageOf}
-use Rattle.imagedisk.specs.Made.{IsMediumOf}
-use Rattle.imagedisk.specs.Found.{IsFoundAs, HasSectors, HasImage, SharesSectors}
+use Rattle.imagedisk.proofs.Common.{eqb-true, get_or_default, Chrn, Disk, HasTrack, track_of, Field, IsAddressAt, ImdKind, Good, Deleted, ImdTrack, ImdImage, IsImdImage, Holds, IsTrackOf, HasTrackAt, IsImageOf, IsMediumOf, IsFoundAs, HasSectors, HasImage, SharesSectors}
 use Rattle.imagedisk.proofs.FoundAgain.{made_has, empty_has}
 use Rattle.imagedisk.proofs.OnMedium.{has_track}
 
 held_found : (track : List ℕ) (p n : ℕ) (kind : ImdKind) (content : List ℕ) → Holds track p n kind content → IsFoundAs track p n kind content
-held_found track p n Absent content held = held.0
 held_found track p n Good content held = held
 held_found track p n Deleted content held = held
-held_found track p n Bad content held = held.0
-held_found track p n BadDeleted content held = held.0
+held_found track p n _ content held = held.0
 
 no_field : Field
 no_field = record { place = 0; key = record { c = 0; h = 0; r = 0; n = 0 } }

@@ -1,3 +1,4 @@
+mod Common
 pub mod Loops
 pub mod Again
 pub mod AgainTracks

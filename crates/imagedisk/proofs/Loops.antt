@@ -1,37 +1,20 @@
 -- Sectors and tracks are read one after the other, as the loops do.
 use Rattle.std.proofs.Common.{◌≡◌, ℕ, zero, suc, ◌-◌, ◌+◌, ◌≤◌, ◌<◌, Bool, true, false, eqb, List, [], ◌∷◌, ◌++◌, length, get_or, ◌&&◌, eq-eqb, Option, Some, None, Result, Ok, Err, refl, sym, ap, ◌∙◌, append_assoc, arith}
-use Rattle.std.proofs.lemmas.List.{append-nil}
-use Rattle.std.proofs.lemmas.Bool.{eqb-true}
-use Rattle.std.proofs.lemmas.List.Folds.{list_any_at}
-use Rattle.flop_base.specs.declared.answers.Rate.{Rate}
-use Rattle.flop_base.specs.declared.key.Chrn.{Chrn}
-use Rattle.raw_image.specs.declared.error.ImageError.{ImageError}
-use Rattle.raw_image.specs.declared.error.ImageError.TheVariants.{TooShort, BadMagic, BadField, Trailing, NoMemory}
+use Rattle.imagedisk.proofs.Common.{append-nil, eqb-true, list_any_at, Rate, Chrn, ImageError, ImdSector, ImdTrack, ImdImage, AreApart, has_track, Rest, tracks_begin, sector_at, track_at, image_with}
+use Rattle.raw_image.specs.declared.error.ImageError.TheVariants.{NoMemory}
 use Rattle.raw_image.specs.Header.{◌>>=◌}
 use Rattle.raw_image.specs.Image.{OrNoMemory}
-use Rattle.imagedisk.specs.declared.sector.ImdSector.{ImdSector}
-use Rattle.imagedisk.specs.declared.track.ImdTrack.{ImdTrack}
-use Rattle.imagedisk.specs.declared.image.ImdImage.{ImdImage}
-use Rattle.imagedisk.specs.Images.{AreApart}
-use Rattle.imagedisk.specs.Headers.{has_track}
-use Rattle.imagedisk.specs.Left.{Rest}
-use Rattle.imagedisk.specs.Reading.{tracks_begin, sector_at, sectors_at, track_at, tracks_at, image_with, image_of}
+use Rattle.imagedisk.specs.Reading.{sectors_at, tracks_at, image_of}
 
 -- ---- if a part fails, the whole fails
 
 pub fails : {A B : Type 0} (e : ImageError) (read : Result A ImageError) (f : A → Result B ImageError) → OrNoMemory e (read ≡ Err e) → OrNoMemory e ((read >>= f) ≡ Err e)
 fails NoMemory read f h = tt
-fails (TooShort need have) read f h = rw h refl
-fails BadMagic read f h = rw h refl
-fails (BadField offset) read f h = rw h refl
-fails (Trailing offset) read f h = rw h refl
+fails _ read f h = rw h refl
 
 pub or-same : {A : Type 0} (e : ImageError) (one two : Result A ImageError) → one ≡ two → OrNoMemory e (one ≡ Err e) → OrNoMemory e (two ≡ Err e)
 or-same NoMemory one two same h = tt
-or-same (TooShort need have) one two same h = sym same ∙ h
-or-same BadMagic one two same h = sym same ∙ h
-or-same (BadField offset) one two same h = sym same ∙ h
-or-same (Trailing offset) one two same h = sym same ∙ h
+or-same _ one two same h = sym same ∙ h
 
 -- ---- sectors
 

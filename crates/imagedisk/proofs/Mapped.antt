@@ -1,20 +1,6 @@
 -- The map of a diskette that has the sectors of an image.
 use Rattle.std.proofs.Common.{◌≡◌, ℕ, zero, suc, ◌+◌, ◌≤◌, ◌<◌, ◌⊎◌, Bool, true, false, cond, eqb, ◌&&◌, List, [], ◌∷◌, ◌++◌, length, get_or, refl, sym, ap, subst, ◌∙◌, arith, eq-eqb, inl, inr}
-use Rattle.std.proofs.lemmas.Bool.{eqb-true, cases_lt}
-use Rattle.flop_base.specs.declared.key.Chrn.{Chrn}
-use Rattle.raw_image.specs.Disk.{Disk, track_of}
-use Rattle.track_model.specs.declared.Look.{Look}
-use Rattle.track_model.specs.declared.Look.TheVariants.{Found, NoData, BadCrc}
-use Rattle.track_model.specs.Fields.{IsAddressAt}
-use Rattle.track_model.specs.Looks.{LookAt}
-use Rattle.track_model.proofs.Unique.{one_key, one_look_at}
-use Rattle.imagedisk.specs.declared.sector.ImdKind.{ImdKind}
-use Rattle.imagedisk.specs.declared.sector.ImdKind.TheVariants.{Absent, Good, Deleted, Bad, BadDeleted}
-use Rattle.imagedisk.specs.declared.sector.ImdSector.{ImdSector}
-use Rattle.imagedisk.specs.declared.track.ImdTrack.{ImdTrack}
-use Rattle.imagedisk.specs.declared.image.ImdImage.{ImdImage}
-use Rattle.imagedisk.specs.Taken.{HasNoAddress}
-use Rattle.imagedisk.specs.Found.{IsFoundAs, HasSectors, HasImage}
+use Rattle.imagedisk.proofs.Common.{eqb-true, cases_lt, Chrn, Disk, track_of, Look, Found, NoData, BadCrc, IsAddressAt, LookAt, one_key, one_look_at, ImdKind, Absent, Bad, BadDeleted, ImdSector, ImdTrack, ImdImage, HasNoAddress, IsFoundAs, HasSectors, HasImage}
 use Rattle.imagedisk.proofs.Imaged.{no_track}
 use Rattle.imagedisk.specs.Maps.{Entry, IsBare, IsMapFrom, entry_of, entries_of, sectors_on, HasMapOf}
 
@@ -89,11 +75,10 @@ skip track low p entries from before here map =
 -- the map of a sector and of those behind it on the track
 map_with : (track : List ℕ) (low p : ℕ) (key : Chrn) (kind : ImdKind) (content : List ℕ) (entries : List Entry) → low ≤ p → ((q : ℕ) → low ≤ q → q < p → IsBare track q)
     → IsAddressAt track p key → IsFoundAs track p key.n kind content → IsMapFrom track (p + 1) entries → IsMapFrom track low (entry_of key kind content ++ entries)
-map_with track low p key Good content entries from bare here found map = (p, from, bare, record { address = here; data_are = found }, map)
-map_with track low p key Deleted content entries from bare here found map = (p, from, bare, record { address = here; data_are = found }, map)
 map_with track low p key Absent content entries from bare here found map = skip track low p entries from bare (bare_by track p key NoData here found (λ deleted place e. absurd cc)) map
 map_with track low p key Bad content entries from bare here found map = skip track low p entries from bare (bare_by track p key BadCrc here found (λ deleted place e. absurd cc)) map
 map_with track low p key BadDeleted content entries from bare here found map = skip track low p entries from bare (bare_by track p key BadCrc here found (λ deleted place e. absurd cc)) map
+map_with track low p key _ content entries from bare here found map = (p, from, bare, record { address = here; data_are = found }, map)
 
 mapped : (track : List ℕ) (low : ℕ) (sectors : List ImdSector) → HasOn track low sectors → IsMapFrom track low (entries_of sectors)
 mapped track low [] on = λ p from entry at. let found = on.only p entry.key from at.address in let within = found.1 in omega (arith, within)
@@ -133,8 +118,7 @@ later_on track tracks c h other (inr none) =
 here_on : (track : ImdTrack) (tracks : List ImdTrack) (c h : ℕ) (s t : Bool) → eqb track.c c ≡ s → eqb track.h h ≡ t → (s && t) ≡ true → IsOn (track ∷ tracks) c h
 here_on track tracks c h true true e f both =
     (0, omega arith, λ d. (eqb-true track.c c e, eqb-true track.h h f, rw (e, f) refl))
-here_on track tracks c h true false e f both = absurd cc
-here_on track tracks c h false t e f both = absurd cc
+here_on track tracks c h _ _ e f both = absurd cc
 
 on_or_not : (tracks : List ImdTrack) (c h : ℕ) → IsOn tracks c h ⊎ IsNot tracks c h
 on_or_not [] c h = inr (λ i d lt same_c same_h. absurd (omega arith), refl)

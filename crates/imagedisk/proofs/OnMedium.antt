@@ -1,21 +1,8 @@
 -- The tracks of an image on the medium of the image.
 use Rattle.std.proofs.Common.{◌≡◌, ℕ, zero, suc, ◌+◌, ◌-◌, ◌*◌, ◌≤◌, ◌<◌, Bool, true, false, cond, eqb, List, [], ◌∷◌, ◌++◌, length, get_or, take, drop, replicate, Err, refl, sym, ap, subst, ◌∙◌, arith, eq-eqb, inl, inr}
 use Rattle.std.specs.Prelude.{max}
-use Rattle.std.specs.List.{list_any}
-use Rattle.std.proofs.lemmas.Bool.{cases_lt}
-use Rattle.std.proofs.lemmas.List.{drop_all, get_or_default, append-nil, length-take, take-replicate, drop-replicate}
-use Rattle.std.proofs.Math.Nat.{mul-le-mul_right}
-use Rattle.std.proofs.lemmas.List.Folds.{list_any_at}
-use Rattle.flop_base.specs.declared.answers.Rate.{Rate}
-use Rattle.flop_base.specs.Standard.{words_at}
-use Rattle.raw_image.specs.Disk.{Disk, IsDisk, HasTrack, IsWithTrack, track_of, track_start, blank_disk}
-use Rattle.imagedisk.specs.declared.track.ImdTrack.{ImdTrack}
-use Rattle.imagedisk.specs.declared.image.ImdImage.{ImdImage}
-use Rattle.imagedisk.specs.Images.{IsImdImage}
-use Rattle.imagedisk.specs.declared.error.ImdError.{ImdError}
-use Rattle.imagedisk.specs.declared.error.ImdError.TheVariants.{Unfit, NoMemory}
+use Rattle.imagedisk.proofs.Common.{list_any, cases_lt, drop_all, get_or_default, append-nil, length-take, take-replicate, drop-replicate, mul-le-mul_right, list_any_at, Rate, words_at, Disk, IsDisk, HasTrack, IsWithTrack, track_of, track_start, blank_disk, ImdTrack, ImdImage, IsImdImage, ImdError, Unfit, NoMemory, IsMadeTrack, IsCrowded, MakesTrack, cylinder_count, head_count, HasShape, HasFirst, IsRoomy, PutsTrack}
 use Rattle.imagedisk.proofs.Places.{last_number}
-use Rattle.imagedisk.specs.Made.{IsMadeTrack, IsCrowded, MakesTrack, cylinder_count, head_count, HasShape, HasFirst, IsRoomy, PutsTrack}
 
 -- ---- how many cylinders and heads
 

@@ -1,30 +1,16 @@
 -- Tracks of a disk by their numbers, by cylinder, then head.
 use Rattle.std.proofs.Common.{◌≡◌, ℕ, zero, suc, ◌+◌, ◌*◌, ◌/◌, ◌%◌, ◌≤◌, ◌<◌, ◌⊎◌, List, [], ◌∷◌, ◌++◌, length, get_or, refl, sym, ap, subst, ◌∙◌, arith, cond, eqb, Some, Ok, Err, All, AllPairs, inl, inr, length-append}
-use Rattle.std.proofs.lemmas.Bool.{cases_lt}
-use Rattle.std.proofs.lemmas.List.{get_or_append_left}
-use Rattle.std.proofs.lemmas.List.Elements.{All-push}
-use Rattle.std.proofs.lemmas.List.Quantifiers.{all_pairs_push}
-use Rattle.std.proofs.Math.Seq.{get_or-append_seam}
-use Rattle.flop_base.specs.declared.answers.Rate.{Rate}
-use Rattle.flop_base.specs.declared.answers.Rate.TheVariants.{R500}
-use Rattle.raw_image.specs.Disk.{Disk, HasTrack, track_of}
-use Rattle.imagedisk.specs.declared.track.ImdTrack.{ImdTrack}
-use Rattle.imagedisk.specs.Images.{IsImdTrack, AreApart, IsImdImage}
-use Rattle.imagedisk.specs.declared.error.ImdError.{ImdError}
-use Rattle.imagedisk.specs.declared.error.ImdError.TheVariants.{Unfit, NoMemory}
-use Rattle.imagedisk.specs.Taken.{IsFit, IsUnfit, HasNoAddress, IsTrackOf, IsBefore, HasTrackAt, IsFirstUnfit, IsTakenBelow, AreTakenBelow, TakesTrack, TakesPlace, TakesDisk}
+use Rattle.imagedisk.proofs.Common.{cases_lt, get_or_append_left, All-push, all_pairs_push, get_or-append_seam, Rate, R500, Disk, HasTrack, track_of, ImdTrack, IsImdTrack, AreApart, IsImdImage, ImdError, Unfit, NoMemory, IsFit, IsUnfit, HasNoAddress, IsTrackOf, IsBefore, HasTrackAt, IsFirstUnfit, IsTakenBelow, AreTakenBelow, TakesTrack, TakesPlace, TakesDisk}
 
 pub same_place : (heads b g c h : ℕ) → (1 ≤ heads) × (heads ≤ 2) → g < heads → h < heads → b * heads + g ≡ c * heads + h → (b ≡ c) × (g ≡ h)
-same_place zero b g c h one g_in h_in e = absurd (omega arith)
 same_place (suc zero) b g c h one g_in h_in e = (omega arith, omega arith)
 same_place (suc (suc zero)) b g c h one g_in h_in e = (omega arith, omega arith)
-same_place (suc (suc (suc more))) b g c h one g_in h_in e = absurd (omega arith)
+same_place _ b g c h one g_in h_in e = absurd (omega arith)
 
 ordered_by : (heads b g c h : ℕ) → (1 ≤ heads) × (heads ≤ 2) → g < heads → h < heads → b * heads + g < c * heads + h → c ≤ b → (b ≡ c) × (g < h)
-ordered_by zero b g c h one g_in h_in lt le = absurd (omega arith)
 ordered_by (suc zero) b g c h one g_in h_in lt le = (omega arith, omega arith)
 ordered_by (suc (suc zero)) b g c h one g_in h_in lt le = (omega arith, omega arith)
-ordered_by (suc (suc (suc more))) b g c h one g_in h_in lt le = absurd (omega arith)
+ordered_by _ b g c h one g_in h_in lt le = absurd (omega arith)
 
 pub comes_before : (heads b g c h : ℕ) → (1 ≤ heads) × (heads ≤ 2) → g < heads → h < heads → b * heads + g < c * heads + h → IsBefore b g c h
 comes_before heads b g c h one g_in h_in lt =
@@ -34,10 +20,9 @@ comes_before heads b g c h one g_in h_in lt =
     ]
 
 less_by : (heads b g c h : ℕ) → (1 ≤ heads) × (heads ≤ 2) → g < heads → b < c → b * heads + g < c * heads + h
-less_by zero b g c h one g_in lt = absurd (omega arith)
 less_by (suc zero) b g c h one g_in lt = omega arith
 less_by (suc (suc zero)) b g c h one g_in lt = omega arith
-less_by (suc (suc (suc more))) b g c h one g_in lt = absurd (omega arith)
+less_by _ b g c h one g_in lt = absurd (omega arith)
 
 pub number_before : (heads b g c h : ℕ) → (1 ≤ heads) × (heads ≤ 2) → g < heads → IsBefore b g c h → b * heads + g < c * heads + h
 number_before heads b g c h one g_in (inl less) = less_by heads b g c h one g_in less
@@ -47,10 +32,9 @@ pub last_number : (heads cylinders c h : ℕ) → (1 ≤ heads) × (heads ≤ 2)
 last_number heads cylinders c h one c_in h_in = let less = less_by heads c h cylinders 0 one h_in c_in in omega (arith, less)
 
 pub split_place : (heads cylinders place : ℕ) → (1 ≤ heads) × (heads ≤ 2) → place < cylinders * heads → (place / heads < cylinders) × (place % heads < heads) × (place / heads * heads + place % heads ≡ place)
-split_place zero cylinders place one within = absurd (omega arith)
 split_place (suc zero) cylinders place one within = (omega arith, omega arith, omega arith)
 split_place (suc (suc zero)) cylinders place one within = (omega arith, omega arith, omega arith)
-split_place (suc (suc (suc more))) cylinders place one within = absurd (omega arith)
+split_place _ cylinders place one within = absurd (omega arith)
 
 pub none_taken : (disk : Disk) → AreTakenBelow disk 0 []
 none_taken disk = record {

@@ -1,21 +1,8 @@
 -- The windows of sectors, and the places where they are put.
 use Rattle.std.proofs.Common.{◌≡◌, ℕ, suc, ◌+◌, ◌*◌, ◌≤◌, ◌<◌, Bool, true, false, List, [], ◌∷◌, ◌++◌, length, get_or, drop, refl, sym, ap, ◌∙◌, append_assoc, arith}
-use Rattle.std.proofs.lemmas.List.{append-nil, drop_more, drop_all}
-use Rattle.std.proofs.Math.Nat.{mul-le-mul_right}
-use Rattle.track_model.specs.Bytes.{last_bit, legal}
-use Rattle.track_model.specs.Fields.{content_size}
-use Rattle.track_model.specs.Layouts.{laid_words}
-use Rattle.track_model.specs.LaidFields.{sector_place}
-use Rattle.track_model.specs.Windows.{window_word, window_words, cut_of}
+use Rattle.imagedisk.proofs.Common.{append-nil, drop_more, drop_all, mul-le-mul_right, last_bit, legal, content_size, laid_words, sector_place, window_word, window_words, cut_of, length-window, damaged_all, length-empty_window, ImdKind, Absent, Good, Deleted, Bad, BadDeleted, ImdSector, kept_size, window_of, sector_window}
 use Rattle.track_model.proofs.Legals.{legal-cons, legal-nil}
-use Rattle.track_model.proofs.Written.{length-window}
-use Rattle.track_model.proofs.Kept.{damaged_all}
-use Rattle.track_model.proofs.EmptyWindow.{length-empty_window}
-use Rattle.imagedisk.specs.declared.sector.ImdKind.{ImdKind}
-use Rattle.imagedisk.specs.declared.sector.ImdKind.TheVariants.{Absent, Good, Deleted, Bad, BadDeleted}
-use Rattle.imagedisk.specs.declared.sector.ImdSector.{ImdSector}
-use Rattle.imagedisk.specs.Images.{kept_size}
-use Rattle.imagedisk.specs.Made.{window_of, sector_window, with_sectors}
+use Rattle.imagedisk.specs.Made.{with_sectors}
 
 -- one more byte was pushed, and the others go on from there
 pub pushed : (words more bytes : List ℕ) (last : Bool) (i cells : ℕ) → i < length bytes → more ≡ words ++ cells ∷ [] → cells ∷ [] ≡ legal last (get_or bytes i 0 ∷ [])

@@ -1,15 +1,11 @@
 -- What is found on a track that an ImageDisk image made.
 use Rattle.std.specs.Prelude.{◌≡◌, ℕ, ◌<◌, true, false, List, length, slice_index_or, All, ◌⊎◌}
-use Rattle.flop_base.specs.declared.key.Chrn.{Chrn}
-use Rattle.track_model.specs.declared.Look.TheVariants.{Found, NoData, BadCrc}
-use Rattle.track_model.specs.Fields.{IsAddressAt, content_at}
-use Rattle.track_model.specs.Looks.{LookAt}
+use Rattle.imagedisk.specs.Common.{Chrn, Found, NoData, BadCrc, IsAddressAt, content_at, LookAt, Disk, HasTrack, track_of}
 use Rattle.imagedisk.specs.declared.sector.ImdKind.{ImdKind}
 use Rattle.imagedisk.specs.declared.sector.ImdKind.TheVariants.{Absent, Good, Deleted, Bad, BadDeleted}
 use Rattle.imagedisk.specs.declared.sector.ImdSector.{ImdSector}
 use Rattle.imagedisk.specs.declared.track.ImdTrack.{ImdTrack}
 use Rattle.imagedisk.specs.declared.image.ImdImage.{ImdImage}
-use Rattle.raw_image.specs.Disk.{Disk, HasTrack, track_of}
 use Rattle.imagedisk.specs.Taken.{HasTrackAt, HasNoAddress}
 
 -- The answer of the look at the address field at p, for data of this kind. Good and deleted data are found, bad data

@@ -1,9 +1,6 @@
 -- The five bytes that a track begins with.
 use Rattle.std.specs.Prelude.{ℕ, ◌+◌, ◌%◌, Bool, ◌&&◌, List, ◌==◌, nat_le, slice_index, if◌then◌else◌, Option, Some, None, Result, Ok}
-use Rattle.std.specs.List.{list_any}
-use Rattle.flop_base.specs.declared.answers.Rate.{Rate}
-use Rattle.flop_base.specs.declared.answers.Rate.TheVariants.{R500, R250}
-use Rattle.raw_image.specs.declared.error.ImageError.{ImageError}
+use Rattle.imagedisk.specs.Common.{list_any, Rate, R500, R250, ImageError}
 use Rattle.raw_image.specs.Header.{◌>>=◌, field}
 use Rattle.imagedisk.specs.declared.header.HeadByte.{HeadByte}
 use Rattle.imagedisk.specs.declared.header.Header.{Header}

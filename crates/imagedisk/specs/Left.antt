@@ -1,7 +1,6 @@
 -- What is left of a file while its parts are read in order.
 use Rattle.std.specs.Prelude.{◌≡◌, ℕ, ◌+◌, List, length, take, drop, nat_lt, if◌then◌else◌, Result, Ok, Err}
-use Rattle.raw_image.specs.declared.error.ImageError.{ImageError}
-use Rattle.raw_image.specs.declared.error.ImageError.TheVariants.{TooShort}
+use Rattle.imagedisk.specs.Common.{ImageError, TooShort}
 use Rattle.raw_image.specs.Image.{OrNoMemory}
 use Rattle.imagedisk.specs.declared.left.Left.{Left}
 

@@ -1,3 +1,4 @@
+pub mod Common
 pub mod Images
 pub mod Left
 pub mod Headers

@@ -1,16 +1,8 @@
 -- The diskette that an ImageDisk image makes.
 use Rattle.std.specs.Prelude.{◌≡◌, ℕ, suc, ◌+◌, ◌<◌, ◌≤◌, Bool, true, false, max, List, [], ◌∷◌, length, map, replicate, slice_index_or, Result, Ok, Err, ◌⊎◌, ◌==◌, if◌then◌else◌}
-use Rattle.std.specs.List.{list_any}
+use Rattle.imagedisk.specs.Common.{list_any, Rate, Chrn, standard_fill, words_at, gap_at, Disk, IsDisk, HasTrack, track_of, window_words, damaged_window, empty_window, cut_of, lay, sector_place, Suits, IsLargestGap}
 use Rattle.std.specs.Global.{Vec}
-use Rattle.flop_base.specs.declared.answers.Rate.{Rate}
-use Rattle.flop_base.specs.declared.key.Chrn.{Chrn}
-use Rattle.flop_base.specs.Standard.{standard_fill, words_at, gap_at}
-use Rattle.raw_image.specs.Disk.{Disk, IsDisk, HasTrack, track_of}
 use Rattle.track_model.specs.Writing.{window}
-use Rattle.track_model.specs.Windows.{window_words, damaged_window, empty_window, cut_of}
-use Rattle.track_model.specs.Layouts.{lay}
-use Rattle.track_model.specs.LaidFields.{sector_place}
-use Rattle.track_format.specs.Gaps.{Suits, IsLargestGap}
 use Rattle.imagedisk.specs.declared.sector.ImdKind.{ImdKind}
 use Rattle.imagedisk.specs.declared.sector.ImdKind.TheVariants.{Absent, Good, Deleted, Bad, BadDeleted}
 use Rattle.imagedisk.specs.declared.sector.ImdSector.{ImdSector}

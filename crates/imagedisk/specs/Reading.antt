@@ -1,13 +1,8 @@
 -- The parts of an ImageDisk file in order, and the error for the first part that is cut short or has a byte that isn't
 -- allowed there.
 use Rattle.std.specs.Prelude.{ℕ, zero, suc, ◌+◌, ◌*◌, ◌^◌, ◌%◌, Bool, List, [], ◌∷◌, ◌++◌, length, drop, replicate, ◌==◌, nat_eq, nat_le, codes, slice_index, slice_index_or, position, if◌then◌else◌, Option, Some, None, Result, Ok, Err}
-use Rattle.std.specs.List.{starts_with}
+use Rattle.imagedisk.specs.Common.{starts_with, Rate, R500, Chrn, ImageError, TooShort, BadMagic}
 use Rattle.std.specs.Option.{ok_or, unwrap_or}
-use Rattle.flop_base.specs.declared.answers.Rate.{Rate}
-use Rattle.flop_base.specs.declared.answers.Rate.TheVariants.{R500}
-use Rattle.flop_base.specs.declared.key.Chrn.{Chrn}
-use Rattle.raw_image.specs.declared.error.ImageError.{ImageError}
-use Rattle.raw_image.specs.declared.error.ImageError.TheVariants.{TooShort, BadMagic}
 use Rattle.raw_image.specs.Header.{◌>>=◌, field}
 use Rattle.imagedisk.specs.declared.header.Header.{Header}
 use Rattle.imagedisk.specs.declared.sector.ImdKind.{ImdKind}

@@ -1,13 +1,7 @@
 -- What an ImageDisk image takes from a diskette.
 use Rattle.std.specs.Prelude.{◌≡◌, ℕ, ◌+◌, ◌*◌, ◌<◌, ◌≤◌, Bool, true, false, List, [], length, slice_index_or, All, AllPairs, Option, Some, None, Result, Ok, Err, ◌⊎◌, if◌then◌else◌, ◌==◌}
-use Rattle.flop_base.specs.declared.answers.Rate.{Rate}
-use Rattle.flop_base.specs.declared.answers.Rate.TheVariants.{R500}
-use Rattle.flop_base.specs.declared.key.Chrn.{Chrn}
-use Rattle.raw_image.specs.Disk.{Disk, HasTrack, track_of}
+use Rattle.imagedisk.specs.Common.{Rate, R500, Chrn, Disk, HasTrack, track_of, Found, NoData, BadCrc, IsAddressAt, IsSizeCode, AreAddresses, content_at, IsFirstDataMark, LookAt}
 use Rattle.track_model.specs.declared.Field.{Field}
-use Rattle.track_model.specs.declared.Look.TheVariants.{Found, NoData, BadCrc}
-use Rattle.track_model.specs.Fields.{IsAddressAt, IsSizeCode, AreAddresses, content_at}
-use Rattle.track_model.specs.Looks.{IsFirstDataMark, LookAt}
 use Rattle.imagedisk.specs.declared.sector.ImdKind.{ImdKind}
 use Rattle.imagedisk.specs.declared.sector.ImdKind.TheVariants.{Absent, Good, Deleted, Bad, BadDeleted}
 use Rattle.imagedisk.specs.declared.sector.ImdSector.{ImdSector}

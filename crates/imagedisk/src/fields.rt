@@ -1,10 +1,6 @@
 // The sectors of a track: its address fields and the data behind them.
 ghost use Rattle.std.specs.Prelude.{◌≡◌, ◌+◌, ◌*◌, ◌<◌, ◌≤◌, ℕ, List, All, OnOk, IfOk, MatchOption, length};
-ghost use Rattle.flop_base.specs.declared.key.Chrn.{Chrn};
-ghost use Rattle.track_model.specs.Cells.{IsTrackSized, IsInside};
-ghost use Rattle.track_model.specs.Fields.{IsAddressAt, IsSizeCode, AreAddresses, content_size, content_at};
-ghost use Rattle.track_model.specs.Looks.{LookAt};
-ghost use Rattle.track_model.specs.declared.Look.TheVariants.{BadCrc};
+ghost use Rattle.imagedisk.specs.Common.{Chrn, IsTrackSized, IsInside, IsAddressAt, IsSizeCode, AreAddresses, content_size, content_at, LookAt, BadCrc};
 ghost use Rattle.imagedisk.specs.Images.{IsImdSector};
 ghost use Rattle.imagedisk.specs.Taken.{intact_kind, damaged_kind, Holds, IsSectorAt, AreSectorsAt, AreUniform};
 

@@ -1,6 +1,6 @@
 // The diskette of an image.
 ghost use Rattle.std.specs.Prelude.{◌≡◌, ◌<◌, ◌≤◌, ℕ, All, IfOk, length};
-ghost use Rattle.raw_image.specs.Disk.{HasTrack, IsWithTrack};
+ghost use Rattle.imagedisk.specs.Common.{HasTrack, IsWithTrack};
 ghost use Rattle.imagedisk.specs.Images.{IsImdTrack, IsImdImage};
 ghost use Rattle.imagedisk.specs.Found.{HasImage};
 ghost use Rattle.imagedisk.specs.Made.{cylinder_count, has_other_side, head_count, HasShape, HasFirst, PutsTrack, MakesDisk};

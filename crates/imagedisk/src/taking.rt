@@ -1,7 +1,6 @@
 // The image of a diskette.
 ghost use Rattle.std.specs.Prelude.{◌≡◌, ◌*◌, ◌<◌, ◌≤◌, IfOk};
-ghost use Rattle.raw_image.specs.Disk.{HasTrack, track_of};
-ghost use Rattle.track_model.specs.Cells.{IsTrackSized};
+ghost use Rattle.imagedisk.specs.Common.{HasTrack, track_of, IsTrackSized};
 ghost use Rattle.imagedisk.specs.Images.{IsImdTrack, IsImdImage};
 ghost use Rattle.imagedisk.specs.Found.{HasImage};
 ghost use Rattle.imagedisk.specs.Taken.{told_rate, AreTakenBelow, TakesTrack, TakesPlace, TakesDisk};

@@ -1,12 +1,6 @@
 // The words of a track of an image.
 ghost use Rattle.std.specs.Prelude.{◌≡◌, ◌+◌, ◌≤◌, All, OnOk, IfOk, length};
-ghost use Rattle.flop_base.specs.declared.key.Chrn.{Chrn};
-ghost use Rattle.flop_base.specs.Standard.{standard_fill, words_at};
-ghost use Rattle.track_model.specs.Cells.{IsTrackSized};
-ghost use Rattle.track_model.specs.Layouts.{laid_words, lay, Fits};
-ghost use Rattle.track_model.specs.LaidFields.{sector_place};
-ghost use Rattle.track_model.specs.Windows.{window_word, window_words, cut_of};
-ghost use Rattle.track_format.specs.Gaps.{Suits};
+ghost use Rattle.imagedisk.specs.Common.{Chrn, standard_fill, words_at, IsTrackSized, laid_words, lay, Fits, sector_place, window_word, window_words, cut_of, Suits};
 ghost use Rattle.imagedisk.specs.Images.{IsImdSector, IsImdTrack};
 ghost use Rattle.imagedisk.specs.Made.{keys_of, sector_window, laid_track, with_sectors, MakesTrack};
 

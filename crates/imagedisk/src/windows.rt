@@ -1,7 +1,7 @@
 // The words that are put in place of a data field.
 ghost use Rattle.std.specs.Prelude.{◌≡◌, ◌++◌, ◌≤◌, OnOk, IfOk, length};
 ghost use Rattle.track_model.specs.Bytes.{legal};
-ghost use Rattle.track_model.specs.Windows.{window_words, damaged_window};
+ghost use Rattle.imagedisk.specs.Common.{window_words, damaged_window};
 ghost use Rattle.imagedisk.specs.Images.{IsImdSector};
 ghost use Rattle.imagedisk.specs.Made.{sector_window};
 

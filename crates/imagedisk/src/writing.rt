@@ -1,6 +1,6 @@
 // Writing an ImageDisk file.
 ghost use Rattle.std.specs.Prelude.{◌≡◌, ◌++◌, ◌≤◌, Ok, OnOk, IfOk, length};
-ghost use Rattle.std.specs.List.{flat_map};
+ghost use Rattle.imagedisk.specs.Common.{flat_map};
 ghost use Rattle.imagedisk.specs.Images.{IsImdTrack, IsImdImage};
 ghost use Rattle.imagedisk.specs.Reading.{image_of};
 ghost use Rattle.imagedisk.specs.Writing.{part_of, map_of, differs, needed_map, head_byte, full_type, is_all, sector_bytes, track_bytes, file_of};

@@ -1,6 +1,6 @@
 -- Device steps in which no spurious interrupt comes.
 use Rattle.std.proofs.Common.{◌≡◌, ◌≤◌, ◌-◌, ℕ, zero, suc, Bool, false, List, [], ◌∷◌, refl, sym, ap, ◌∙◌, arith, nat_le, subst, Option, Some, None, if◌then◌else◌}
-use Rattle.std.proofs.lemmas.Bool.{leb-false, lt-leb}
+use Rattle.std.proofs.lemmas.Bool.{lt-leb}
 use Rattle.irq_events.specs.Entries.{strays_after, strays_later, AreQuiet, coming}
 
 -- fewer steps are quiet too
@@ -34,17 +34,6 @@ quiet_left : (count steps : ℕ) (rest : List ℕ) → nat_le steps 1 ≡ false 
     → AreQuiet count ((steps - 1) ∷ rest)
 quiet_left count steps rest far quiet =
     subst (λ (b : Bool). AreQuiet count (if b then rest else (steps - 1) ∷ rest)) far quiet
-
--- no more steps than those are quiet
-pub quiet_few : (count steps : ℕ) (rest : List ℕ) → AreQuiet count (steps ∷ rest) → count ≤ steps - 1
-unfolding AreQuiet
-quiet_few zero steps rest quiet = omega arith
-quiet_few (suc count) steps rest quiet =
-    let far : nat_le steps 1 ≡ false = quiet.0 in
-    let more = leb-false steps 1 far in
-    let left : AreQuiet count ((steps - 1) ∷ rest) = quiet_left count steps rest far quiet.1 in
-    let few = quiet_few count (steps - 1) rest left in
-    omega (arith, more, few)
 
 pub later_some : (count steps : ℕ) (rest : List ℕ) → AreQuiet count (steps ∷ rest) → strays_later count (steps ∷ rest) ≡ (steps - count) ∷ rest
 unfolding strays_later AreQuiet

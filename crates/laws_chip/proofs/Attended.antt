@@ -1,28 +1,9 @@
 -- A whole command of a sound chip: it is done, begun or held, and the chip stays sound.
 use Rattle.std.proofs.Common.{◌≡◌, inl, inr, ℕ, ◌*◌, ◌<◌, ◌%◌, Bool, true, false, ◌&&◌, ◌==◌, if◌then◌else◌, Option, Some, None, [], is_some, bit_and, slice_index, refl, sym, ◌∙◌, ap, subst, arith}
-use Rattle.std.proofs.lemmas.Bool.{and_parts, or_parts}
-use Rattle.fdc_commands.specs.Seeking.{pulses_within, seek_bits, with_motion}
-use Rattle.fdc_commands.specs.declared.command.Command.{Command}
+use Rattle.laws_chip.proofs.Common.{and_parts, or_parts, pulses_within, seek_bits, with_motion, Command, Motion, Outward, Toward, is_idle, Fdc, Front, GivesCommand, GivesTransfer, with_controller, recalibrated_at, recalibrated_outside, size_of, ChipState, KeepsRest, code_of, AttendsIf, AttendsTo, Begins, BeginsReadId, FormatsIf, GivesOn, MovesIf, Obeys, Transfers, TransfersIf, absent_key, configured, configuring, drained, formatting, identifying, implies, is_moving, is_size, moves_heads, moving, needs_heads, no_key, reading_one, ready, relative_target, sectors_verified, track_begun, transfer_sent, verifying, with_keys, with_last, cylinder_of, ChipOpcode, ReadTrack, Recalibrate, ReadId, FormatTrack, Seek, RelativeSeek, Configure, Verify, Order, Ready, ChipTask, IsOfFour, ExecutesBehind, IsBusyWith, IsSound, RestsBehind, ServesBehind}
 use Rattle.fdc_commands.specs.declared.command.Command.TheVariants as command
-use Rattle.fdc_commands.specs.declared.motion.Motion.{Motion}
-use Rattle.fdc_commands.specs.declared.motion.Motion.TheVariants.{Outward, Toward}
-use Rattle.fdc_core.specs.Whole.{is_idle}
-use Rattle.fdc_core.specs.declared.controller.Fdc.{Fdc}
-use Rattle.fdc_sequencer.specs.Fronts.{Front, GivesCommand, GivesTransfer, with_controller}
-use Rattle.fdc_sequencer.specs.Senses.{recalibrated_at, recalibrated_outside}
-use Rattle.fdc_sequencer.specs.Transfers.{size_of}
-use Rattle.fdc_chip.specs.Chips.{ChipState, KeepsRest}
-use Rattle.fdc_chip.specs.Codes.{code_of}
-use Rattle.fdc_chip.specs.Doing.{AttendsIf, AttendsTo, Begins, BeginsReadId, FormatsIf, GivesOn, MovesIf, Obeys, Transfers, TransfersIf, absent_key, configured, configuring, drained, formatting, identifying, implies, is_moving, is_size, moves_heads, moving, needs_heads, no_key, reading_one, ready, relative_target, sectors_verified, track_begun, transfer_sent, verifying, with_keys, with_last}
-use Rattle.fdc_chip.specs.Interrupts.{cylinder_of}
-use Rattle.fdc_chip.specs.declared.code.ChipOpcode.{ChipOpcode}
-use Rattle.fdc_chip.specs.declared.code.ChipOpcode.TheVariants.{ReadTrack, Specify, SenseDrive, Transfer, Recalibrate, SenseInterrupt, ReadId, FormatTrack, DumpRegisters, Seek, RelativeSeek, Version, Perpendicular, Configure, Lock, Verify}
-use Rattle.fdc_chip.specs.declared.order.Order.{Order}
-use Rattle.fdc_chip.specs.declared.stage.ChipStage.TheVariants.{Ready}
-use Rattle.fdc_chip.specs.declared.stage.ChipTask.{ChipTask}
+use Rattle.fdc_chip.specs.declared.code.ChipOpcode.TheVariants.{Transfer}
 use Rattle.fdc_chip.specs.declared.stage.ChipTask.TheVariants as task
-use Rattle.laws_chip.specs.Beginning.{IsOfFour}
-use Rattle.laws_chip.specs.Sound.{ExecutesBehind, IsBusyWith, IsSound, RestsBehind, ServesBehind}
 use Rattle.laws_chip.proofs.CommandsBegun.{IsSent, begins_sent, configured_stands, sought_sent}
 use Rattle.laws_chip.proofs.FirstSectors.{IsBase}
 use Rattle.laws_chip.proofs.Rests.{IsResting, base_on, base_same, drained_rests, stands_rests}
@@ -171,13 +152,6 @@ sectors_sound mfm what order old new basis stands sized busy transfers =
 -- ---- all commands
 
 obeys_sound : (code : ChipOpcode) (old new : ChipState) → IsBasis old → RestsBehind old.front → code_of old.order.code ≡ Some code → (needs_heads code && is_moving old) ≡ false → Obeys code old new → IsSound new
-obeys_sound Specify old new basis rests found free is = done_sound old _ new basis rests (record { front = refl; count = refl; order = refl }) refl is
-obeys_sound SenseInterrupt old new basis rests found free is = done_sound old _ new basis rests (record { front = refl; count = refl; order = refl }) refl is
-obeys_sound Version old new basis rests found free is = done_sound old _ new basis rests (record { front = refl; count = refl; order = refl }) refl is
-obeys_sound Perpendicular old new basis rests found free is = done_sound old _ new basis rests (record { front = refl; count = refl; order = refl }) refl is
-obeys_sound DumpRegisters old new basis rests found free is = done_sound old _ new basis rests (record { front = refl; count = refl; order = refl }) refl is
-obeys_sound (Lock on) old new basis rests found free is = done_sound old _ new basis rests (record { front = refl; count = refl; order = refl }) refl is
-obeys_sound SenseDrive old new basis rests found free is = done_sound old _ new basis rests (record { front = refl; count = refl; order = refl }) refl is
 obeys_sound Recalibrate old new basis rests found free moves = moves_sound old.paced None old new basis rests (free_stands old basis rests free) moves
 obeys_sound Seek old new basis rests found free moves = moves_sound old.paced (Some old.order.key.c) old new basis rests (free_stands old basis rests free) moves
 obeys_sound (RelativeSeek inward) old new basis rests found free moves =
@@ -192,6 +166,7 @@ obeys_sound (Verify mfm) old new basis rests found free obeys =
     sectors_sound mfm (task.Verify (sectors_verified old.order * size_of old.order.key.n)) (verifying old.order) old new basis (free_stands old basis rests free) (λ sized. sized) (λ serves. serves) obeys
 obeys_sound (ReadTrack mfm) old new basis rests found free obeys =
     sectors_sound mfm (task.Track (track_begun (implies old) old.order)) (reading_one (absent_key old.order.key.c) old.order) old new basis (free_stands old basis rests free) (λ sized. refl) (λ serves. serves) obeys
+obeys_sound _ old new basis rests found free is = done_sound old _ new basis rests (record { front = refl; count = refl; order = refl }) refl is
 
 attends_by : (b : Bool) (code : ChipOpcode) (old new : ChipState) → IsBasis old → RestsBehind old.front → code_of old.order.code ≡ Some code → (needs_heads code && is_moving old) ≡ b → AttendsIf b code old new → IsSound new
 attends_by true code old new basis rests found moves is = done_sound old _ new basis rests (record { front = refl; count = refl; order = refl }) refl is

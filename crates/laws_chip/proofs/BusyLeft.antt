@@ -1,31 +1,11 @@
 -- How many device steps are left of a command that is executed: each call leaves fewer, by the device step that it is.
 use Rattle.std.proofs.Common.{◌≡◌, ◌⊎◌, inl, inr, ℕ, ◌+◌, ◌-◌, ◌*◌, ◌<◌, ◌≤◌, Bool, true, false, not, ◌&&◌, ◌==◌, Option, Some, None, option_map, [], ◌∷◌, bit_and, if◌then◌else◌, refl, sym, ◌∙◌, ap, subst, arith}
-use Rattle.std.proofs.lemmas.Bool.{and_right, false≢true}
-use Rattle.flop_base.specs.declared.key.Chrn.{Chrn}
-use Rattle.fdc_registers.specs.St1.{missing_mark}
-use Rattle.fdc_commands.specs.declared.results.Results.{Results}
+use Rattle.laws_chip.proofs.Common.{and_right, false≢true, Chrn, missing_mark, Results, Front, results_taken, StepsFront, is_under_way, ChipState, with_front, is_size, EndsAddress, EndsAddressIf, EndsAs, EndsAt, EndsData, EndsIndex, EndsSent, MayEnd, as_done, done_if, has_key, has_room, is_not_found, is_over, judged, looks_for_cylinder, results_judged, says_cut, verified, without_one, Follows, StepsChip, Place, Index, Address, Data, Busy, ChipTask, Track, has_command, Call, Does, IsServing, is_reset, is_step, steps_of, is_read_id, IsTracking, IsVerifying, ExecutesBehind, IsSound, ServesBehind}
 use Rattle.fdc_core.specs.Steps.{steps_left}
-use Rattle.fdc_sequencer.specs.Fronts.{Front, results_taken}
-use Rattle.fdc_sequencer.specs.Moves.{StepsFront}
 use Rattle.laws_chip.specs.SectorCalls as behind
-use Rattle.laws_chip.specs.SectorLasting.{is_under_way}
 use Rattle.laws_chip.proofs.Lasted.{Lasts, call_lasts, calls_last}
-use Rattle.fdc_chip.specs.Chips.{ChipState, with_front}
-use Rattle.fdc_chip.specs.Doing.{is_size}
-use Rattle.fdc_chip.specs.Ending.{EndsAddress, EndsAddressIf, EndsAs, EndsAt, EndsData, EndsIndex, EndsSent, MayEnd, as_done, done_if, has_key, has_room, is_not_found, is_over, judged, looks_for_cylinder, results_judged, says_cut, verified, without_one}
-use Rattle.fdc_chip.specs.Steps.{Follows, StepsChip}
-use Rattle.fdc_chip.specs.declared.stage.Place.{Place}
-use Rattle.fdc_chip.specs.declared.stage.Place.TheVariants.{Index, Address, Data}
-use Rattle.fdc_chip.specs.declared.stage.ChipStage.TheVariants.{Busy}
-use Rattle.fdc_chip.specs.declared.stage.ChipTask.{ChipTask}
 use Rattle.fdc_chip.specs.declared.stage.ChipTask.TheVariants as task
-use Rattle.fdc_chip.specs.declared.stage.Track.{Track}
-use Rattle.laws_chip.specs.Bounds.{has_command}
 use Rattle.laws_chip.specs.Calls as made
-use Rattle.laws_chip.specs.Calls.{Call, Does, IsServing, is_reset, is_step, steps_of}
-use Rattle.laws_chip.specs.Identifying.{is_read_id}
-use Rattle.laws_chip.specs.Lasting.{IsTracking, IsVerifying}
-use Rattle.laws_chip.specs.Sound.{ExecutesBehind, IsSound, ServesBehind}
 use Rattle.laws_chip.proofs.FormatsEnd.{FormatsOn, formats, formats_step}
 use Rattle.laws_chip.proofs.NextStages.{KeepsTask, call_keeps, works_quiet, is_change}
 use Rattle.laws_chip.proofs.PassedOn.{all_passed, call_serving, none_wait}

@@ -1,14 +1,8 @@
 -- What is served, through calls one after the other.
 use Rattle.std.proofs.Common.{◌≡◌, inl, inr, ℕ, zero, suc, ◌&&◌, Bool, true, false, ◌||◌, List, [], ◌∷◌, ◌++◌, replicate, refl, sym, ◌∙◌, ap, subst, append_assoc}
-use Rattle.laws_chip.specs.SectorCalls.{AreWithin, Behind, Call, Changes, Counts, Does, Gives, Grows, Steps, Takes, Writes, is_count, is_counted, passed_by, passed_in_all}
-use Rattle.fdc_core.specs.Ports.{resets}
-use Rattle.fdc_core.specs.Whole.{mark_of}
-use Rattle.fdc_sequencer.specs.Fronts.{Front, KeepsFront}
-use Rattle.fdc_sequencer.specs.Moves.{FollowsStep, RunsFrontWith, StepsFront}
-use Rattle.laws_chip.specs.Serving.{GoesOn, History, KeepsServing, Serves, ServesAt, ServesUnless, all_bytes, hears_count, history_counted, history_given, history_stepped, history_taken}
-use Rattle.fdc_sequencer.specs.declared.opcode.Operation.{Operation}
-use Rattle.fdc_sequencer.specs.declared.stage.FrontStage.TheVariants.{Through}
-use Rattle.fdc_sequencer.specs.declared.transfer.Transfer.{Transfer}
+use Rattle.laws_chip.proofs.Common.{AreWithin, Behind, Changes, Counts, Gives, Grows, Steps, Takes, is_count, is_counted, passed_in_all, resets, mark_of, Front, KeepsFront, FollowsStep, StepsFront, GoesOn, History, KeepsServing, Serves, ServesAt, ServesUnless, all_bytes, hears_count, history_counted, history_given, history_stepped, history_taken, Operation, Through, Transfer}
+use Rattle.laws_chip.specs.SectorCalls.{Call, Does, Writes, passed_by}
+use Rattle.fdc_sequencer.specs.Moves.{RunsFrontWith}
 use Rattle.laws_chip.proofs.Courses.{none_more}
 use Rattle.laws_chip.proofs.Given.{ignored, served_on}
 use Rattle.laws_chip.proofs.Served.{counts_serve, gives_serve, none_told, same_front, steps_serve, takes_serve, writes_serve}

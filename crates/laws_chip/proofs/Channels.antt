@@ -1,33 +1,11 @@
 -- What the inner controller executes, through the channel, the terminal count, ports and media.
 use Rattle.std.proofs.Common.{◌≡◌, ◌⊎◌, inl, inr, ℕ, ◌-◌, Bool, true, false, ◌==◌, if◌then◌else◌, Option, Some, None, [], refl, sym, ◌∙◌, ap, subst}
-use Rattle.std.proofs.lemmas.Bool.{eqb-true, false≢true}
-use Rattle.fdc_commands.specs.Seeking.{seek_bits}
-use Rattle.fdc_phases.specs.Dma.{phase_told}
-use Rattle.fdc_phases.specs.Rates.{rate_chosen}
-use Rattle.fdc_phases.specs.declared.phases.Phase.{Phase}
-use Rattle.fdc_phases.specs.declared.phases.Phase.TheVariants.{Command as Taking, Execute, Result}
-use Rattle.fdc_phases.specs.declared.phases.Task.{Task}
+use Rattle.laws_chip.proofs.Common.{eqb-true, false≢true, seek_bits, phase_told, rate_chosen, Phase, Taking, Execute, Task, taken_in, taken_out, told_count, Writes, dor_resets, dsr_resets, resets, is_held, reset, IsCounted, Fdc, Lines, lines_at, Front, GivesAt, GivesFront, KeepsFront, TakesAt, TakesFront, WritesFront, count_told, passed_one, told_front, told_if, MovingSector, FrontStage, Through, Seeking, Moving, Telling, is_under_way, KeepsServing, ServesUnless, history_counted, history_given, history_taken, Place, Address, ChipTask, ExecutesBehind, IsBusyAt, IsBusyWith, ServesBehind, WaitsForHeads, executes_single, is_single}
 use Rattle.fdc_phases.specs.declared.phases.Task.TheVariants as task
-use Rattle.fdc_core.specs.Dma.{taken_in, taken_out, told_count}
-use Rattle.fdc_core.specs.Ports.{Writes, dor_resets, dsr_resets, resets}
-use Rattle.fdc_core.specs.State.{is_held, reset}
-use Rattle.fdc_core.specs.Steps.{IsCounted}
-use Rattle.fdc_core.specs.declared.controller.Fdc.{Fdc}
-use Rattle.fdc_core.specs.declared.controller.Lines.{Lines}
-use Rattle.fdc_sequencer.specs.Adapters.{Gives, Takes, lines_at}
-use Rattle.fdc_sequencer.specs.Fronts.{Front, GivesAt, GivesFront, KeepsFront, TakesAt, TakesFront, WritesFront, count_told, passed_one, told_front, told_if}
-use Rattle.fdc_sequencer.specs.declared.stage.Moving.{Moving as MovingSector}
-use Rattle.fdc_sequencer.specs.declared.stage.FrontStage.{FrontStage}
-use Rattle.fdc_sequencer.specs.declared.stage.FrontStage.TheVariants.{Through, Seeking, Moving, Telling}
-use Rattle.laws_chip.specs.SectorLasting.{is_under_way}
-use Rattle.laws_chip.specs.Serving.{KeepsServing, ServesUnless, history_counted, history_given, history_taken}
+use Rattle.fdc_sequencer.specs.Adapters.{Gives, Takes}
 use Rattle.laws_chip.proofs.Called.{media_serve}
 use Rattle.laws_chip.proofs.Served.{counts_serve, gives_serve, takes_serve, writes_serve}
-use Rattle.fdc_chip.specs.declared.stage.Place.{Place}
-use Rattle.fdc_chip.specs.declared.stage.Place.TheVariants.{Index, Address, Data}
-use Rattle.fdc_chip.specs.declared.stage.ChipTask.{ChipTask}
 use Rattle.fdc_chip.specs.declared.stage.ChipTask.TheVariants as chip
-use Rattle.laws_chip.specs.Sound.{ExecutesBehind, IsBusyAt, IsBusyWith, ServesBehind, WaitsForHeads, executes_single, is_single}
 use Rattle.laws_chip.proofs.FirstSectors.{IsBase}
 use Rattle.laws_chip.proofs.ServedSteps.{TellsBehind}
 use Rattle.laws_chip.proofs.Singles.{WaitsBehind}
@@ -39,17 +17,15 @@ IsOverBehind front = TellsBehind front ⊎ WaitsBehind front
 
 -- what is executed for a task goes on, if both kinds of it do
 keep_at : (place : Place) (old new : Front) → (ServesBehind old → ServesBehind new) → (ExecutesBehind old → ExecutesBehind new) → IsBusyAt place old → IsBusyAt place new
-keep_at Index old new serves executes busy = serves busy
 keep_at Address old new serves executes busy = executes busy
-keep_at Data old new serves executes busy = serves busy
+keep_at _ old new serves executes busy = serves busy
 
 pub keep_with : (what : ChipTask) (old new : Front) → (ServesBehind old → ServesBehind new) → (ExecutesBehind old → ExecutesBehind new) → IsBusyWith what old → IsBusyWith what new
 keep_with chip.Sent old new serves executes (inl busy) = inl (serves busy)
 keep_with chip.Sent old new serves executes (inr busy) = inr (executes busy)
-keep_with (chip.Sought first) old new serves executes busy = executes busy
-keep_with (chip.Refused unit key mfm) old new serves executes busy = executes busy
 keep_with (chip.Verify left) old new serves executes busy = serves busy
 keep_with (chip.Track track) old new serves executes busy = keep_at track.place old new serves executes busy
+keep_with _ old new serves executes busy = executes busy
 
 -- ---- the controller
 
@@ -99,20 +75,17 @@ waits_alike old new stage alike was =
     record { through = stage ∙ was.through; ending = was.ending; results = was.results; at = alike.phase ∙ was.at; rests = ap seek_bits alike.seeks ∙ was.rests }
 
 single_told : (begins : Task) → is_single begins ≡ true → executes_single (phase_told (Execute (record { head_drive = 0; steps = 0; task = begins }))) ≡ true
-single_told (task.ReadId search) single = refl
-single_told (task.Format formatting) single = refl
 single_told (task.Read reading) single = absurd (false≢true single)
 single_told (task.Write writing) single = absurd (false≢true single)
+single_told _ single = refl
 
 phase_single : (phase : Phase) → executes_single phase ≡ true → executes_single (phase_told phase) ≡ true
-phase_single Taking single = absurd (false≢true single)
-phase_single (Result ended) single = absurd (false≢true single)
 phase_single (Execute execution) single = single_told execution.task single
+phase_single _ single = absurd (false≢true single)
 
 told_counted : (phase : Phase) → IsCounted phase → IsCounted (phase_told phase)
-told_counted Taking counted = tt
-told_counted (Result ended) counted = tt
 told_counted (Execute execution) counted = counted
+told_counted _ counted = tt
 
 executes_told : (old : Front) → ExecutesBehind old → ExecutesBehind (record old { adapter = told_if true old.adapter })
 executes_told old was = record {
@@ -166,11 +139,10 @@ gives_base (Moving moving) byte true old new none (up, is) =
     (passed_base moving (taken_in byte old.adapter.controller) old (record { dor = refl; non_dma = refl; command = none }))
 
 counts_base : (stage : FrontStage) (old new : Front) → old.adapter.controller.command ≡ [] → new ≡ count_told stage old → IsBase old.adapter.controller new.adapter.controller
-counts_base Through old new none is = subst (λ (front : Front). IsBase old.adapter.controller front.adapter.controller) (sym is) (told_base old.adapter.controller none)
 counts_base (Seeking transfer counted) old new none is =
     subst (λ (front : Front). IsBase old.adapter.controller front.adapter.controller) (sym is) (record { dor = refl; non_dma = refl; command = none })
-counts_base (Moving moving) old new none is = subst (λ (front : Front). IsBase old.adapter.controller front.adapter.controller) (sym is) (told_base old.adapter.controller none)
 counts_base (Telling results) old new none is = same_base old new is none
+counts_base _ old new none is = subst (λ (front : Front). IsBase old.adapter.controller front.adapter.controller) (sym is) (told_base old.adapter.controller none)
 
 -- while the heads seek first, the controller goes on waiting
 waits_same : (old new : Front) → new ≡ old → WaitsForHeads old.stage old.adapter.controller.phase → WaitsForHeads new.stage new.adapter.controller.phase

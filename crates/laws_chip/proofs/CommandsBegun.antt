@@ -1,31 +1,15 @@
 -- How the chip begins a command in the inner controller: the inner controller is free for it, what LOCK kept is given
 -- again, and the command is given.
 use Rattle.std.proofs.Common.{◌≡◌, ℕ, ◌<◌, Bool, true, false, not, ◌||◌, ◌==◌, Option, Some, List, [], ◌∷◌, ◌++◌, bit_and, refl, sym, ◌∙◌, ap, subst}
-use Rattle.std.proofs.lemmas.Bool.{agree_below_at, eqb-true}
-use Rattle.fdc_commands.specs.declared.results.Results.{Results}
+use Rattle.laws_chip.proofs.Common.{agree_below_at, eqb-true, Results, seek_bits, is_held, Fdc, Front, GivesTransfer, Transfer, ChipState, code_of, Begins, Obeys, RemembersIf, TransfersIf, begun, configuring, implies, is_size, sought_if, transfer_sent, with_last, StepsChip, ChipOpcode, TransferCode, Busy, ChipTask, IsBegun, IsFreeBehind, IsServed, spelled_opcode, AreServed, Call}
 use Rattle.fdc_commands.specs.declared.command.Command.TheVariants.{Configure}
-use Rattle.fdc_commands.specs.Seeking.{seek_bits}
 use Rattle.fdc_core.specs.Commands.{configured}
-use Rattle.fdc_core.specs.State.{is_held}
-use Rattle.fdc_core.specs.declared.controller.Fdc.{Fdc}
-use Rattle.fdc_sequencer.specs.Fronts.{Front, GivesTransfer}
 use Rattle.fdc_sequencer.specs.Opcodes.{opcode_of}
 use Rattle.fdc_sequencer.specs.declared.stage.FrontStage.TheVariants as behind
-use Rattle.fdc_sequencer.specs.declared.transfer.Transfer.{Transfer}
 use Rattle.laws_chip.specs.SectorCalls as call
 use Rattle.laws_chip.proofs.Called.{both_within}
 use Rattle.laws_chip.proofs.Whole.{command_served}
-use Rattle.fdc_chip.specs.Chips.{ChipState}
-use Rattle.fdc_chip.specs.Codes.{code_of}
-use Rattle.fdc_chip.specs.Doing.{Begins, Obeys, RemembersIf, TransfersIf, begun, configuring, implies, is_size, sought_if, transfer_sent, with_last}
-use Rattle.fdc_chip.specs.Steps.{StepsChip}
-use Rattle.fdc_chip.specs.declared.code.ChipOpcode.{ChipOpcode}
-use Rattle.fdc_chip.specs.declared.code.ChipOpcode.TheVariants.{Transfer as TransferCode}
-use Rattle.fdc_chip.specs.declared.stage.ChipStage.TheVariants.{Busy}
-use Rattle.fdc_chip.specs.declared.stage.ChipTask.{ChipTask}
 use Rattle.fdc_chip.specs.declared.stage.ChipTask.TheVariants.{Sent}
-use Rattle.laws_chip.specs.Beginning.{IsBegun, IsFreeBehind, IsServed, spelled_opcode}
-use Rattle.laws_chip.specs.Calls.{AreServed, Call}
 use Rattle.laws_chip.proofs.FirstSectors.{IsBase, first_begins}
 use Rattle.laws_chip.proofs.PassedOn.{all_passed}
 use Rattle.laws_chip.proofs.Standing.{IsObeyed, Stands, given_obeyed, stands_free}

@@ -1,21 +1,7 @@
 -- From sector to sector: the sectors that are over, and the bytes that passed.
 use Rattle.std.proofs.Common.{◌≡◌, inl, inr, ℕ, zero, suc, ◌+◌, ◌-◌, ◌<◌, nat_lt, Bool, true, false, not, ◌||◌, ◌==◌, if◌then◌else◌, Option, Some, None, List, [], ◌∷◌, ◌++◌, length, replicate, refl, sym, ◌∙◌, ap, subst, arith, append_assoc, append-nil, length-append}
-use Rattle.std.proofs.lemmas.Bool.{and_parts, eq-eqb, eqb-false, eqb-true, false≢true, ltb-true, ne_eqb, not-true}
-use Rattle.std.proofs.lemmas.List.{flat_map_more, length-replicate, nil_from_length}
+use Rattle.laws_chip.proofs.Common.{and_parts, eq-eqb, eqb-false, eqb-true, false≢true, ltb-true, ne_eqb, not-true, flat_map_more, length-replicate, nil_from_length, IsSizeCode, content_size, Past, new_past, Done, WritesWhole, Sent, told_in, IsContent, goes_on, has_met_other, would_go_on, Accounts, AreLeft, AreMoved, History, IsFieldDone, IsMoved, IsMovedWhole, IsOfOther, IsPassedOver, IsWholeField, Means, Part, all_bytes, bytes_moved, bytes_of_parts, has_other, sector_after, sent_of, is_last, is_other, is_skipping, next_cylinder, next_of, next_record, other_head, size_of, Operation, Read, Write, MovingSector, Transfer}
 use Rattle.std.proofs.lemmas.List.Folds.{list_any-append}
-use Rattle.track_model.specs.Fields.{IsSizeCode, content_size}
-use Rattle.fdc_stages.specs.History.{Past, begun as new_past}
-use Rattle.fdc_stages.specs.declared.ending.Ending.TheVariants.{Done}
-use Rattle.fdc_stages.specs.Writings.{WritesWhole}
-use Rattle.fdc_phases.specs.Heard.{Sent, told_in}
-use Rattle.fdc_phases.specs.Written.{IsContent}
-use Rattle.fdc_sequencer.specs.Moves.{goes_on, has_met_other, would_go_on}
-use Rattle.laws_chip.specs.Serving.{Accounts, AreLeft, AreMoved, History, IsFieldDone, IsMoved, IsMovedWhole, IsOfOther, IsPassedOver, IsWholeField, Means, Part, all_bytes, bytes_moved, bytes_of_parts, has_other, sector_after, sent_of}
-use Rattle.fdc_sequencer.specs.Transfers.{is_last, is_other, is_skipping, next_cylinder, next_of, next_record, other_head, size_of}
-use Rattle.fdc_sequencer.specs.declared.opcode.Operation.{Operation}
-use Rattle.fdc_sequencer.specs.declared.opcode.Operation.TheVariants.{Read, Write}
-use Rattle.fdc_sequencer.specs.declared.stage.Moving.{Moving as MovingSector}
-use Rattle.fdc_sequencer.specs.declared.transfer.Transfer.{Transfer}
 use Rattle.laws_chip.proofs.Known.{MarkGoes, either_way}
 use Rattle.laws_chip.proofs.Started.{size_is, size_some}
 

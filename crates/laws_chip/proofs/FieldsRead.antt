@@ -1,13 +1,7 @@
 -- A sector whose address field has just passed is served from then on.
 use Rattle.std.proofs.Common.{◌≡◌, ℕ, true, false, [], refl, sym, ◌∙◌, ap, subst}
-use Rattle.flop_base.specs.declared.key.Chrn.{Chrn}
-use Rattle.fdc_core.specs.Fields.{address_words, heard_words}
-use Rattle.fdc_sequencer.specs.Fronts.{Front, ReadsSector, sector_alone}
-use Rattle.laws_chip.specs.SectorLasting.{is_under_way}
-use Rattle.laws_chip.specs.Serving.{History, Serves}
+use Rattle.laws_chip.proofs.Common.{Chrn, address_words, heard_words, Front, ReadsSector, sector_alone, is_under_way, History, Serves, is_size, ServesBehind, WaitsForHeads}
 use Rattle.laws_chip.proofs.Started.{field_carries, in_range}
-use Rattle.fdc_chip.specs.Doing.{is_size}
-use Rattle.laws_chip.specs.Sound.{ServesBehind, WaitsForHeads}
 use Rattle.laws_chip.proofs.FirstSectors.{IsBase}
 use Rattle.laws_chip.proofs.Standing.{Stands}
 

@@ -1,36 +1,14 @@
 -- A sector of a command of several sectors begins, or the seek before it: what the beginning leaves of the inner
 -- controller. The sequencer serves a command that it is given.
 use Rattle.std.proofs.Common.{◌≡◌, ℕ, nat_le, Bool, true, false, ◌&&◌, if◌then◌else◌, [], refl, sym, ◌∙◌, ap, subst}
-use Rattle.std.proofs.lemmas.Bool.{and_from, le-leb}
-use Rattle.flop_base.specs.declared.key.Chrn.{Chrn}
-use Rattle.track_model.specs.Fields.{IsSizeCode}
-use Rattle.fdc_registers.specs.declared.drive_lines.Dor.{Dor}
-use Rattle.fdc_commands.specs.declared.bytes.Accepted.TheVariants.{Invalid, Ready}
-use Rattle.fdc_commands.specs.declared.command.Command.{Command}
-use Rattle.fdc_commands.specs.declared.command.Command.TheVariants.{ReadData, WriteData, WriteDeleted}
-use Rattle.fdc_core.specs.Commands.{BeginsData, Obeys, TakesAs, seeking}
-use Rattle.fdc_core.specs.Ports.{is_taking}
-use Rattle.fdc_core.specs.State.{is_gated, is_held}
-use Rattle.fdc_core.specs.Whole.{TakesWhole, is_idle}
-use Rattle.fdc_core.specs.declared.controller.Fdc.{Fdc}
-use Rattle.fdc_core.specs.declared.controller.Lines.{Lines}
-use Rattle.fdc_sequencer.specs.Adapters.{AdapterState, lines_at}
-use Rattle.fdc_sequencer.specs.Fronts.{BeginsSector, Front, GivesTransfer, SeeksFirst, Starts, StartsIf, TransfersIf, begun_if, moving_of, told_if}
-use Rattle.fdc_sequencer.specs.Transfers.{command_for}
-use Rattle.fdc_sequencer.specs.declared.opcode.Operation.{Operation}
-use Rattle.fdc_sequencer.specs.declared.opcode.Operation.TheVariants.{Read, Write}
-use Rattle.fdc_sequencer.specs.declared.stage.FrontStage.{FrontStage}
-use Rattle.fdc_sequencer.specs.declared.stage.FrontStage.TheVariants.{Through, Moving, Seeking}
-use Rattle.fdc_sequencer.specs.declared.transfer.Transfer.{Transfer}
+use Rattle.laws_chip.proofs.Common.{and_from, le-leb, Chrn, IsSizeCode, Dor, Invalid, Command, ReadData, WriteData, WriteDeleted, BeginsData, TakesAs, seeking, is_taking, is_gated, is_held, TakesWhole, is_idle, Fdc, Lines, AdapterState, lines_at, BeginsSector, Front, GivesTransfer, SeeksFirst, Starts, StartsIf, begun_if, moving_of, told_if, command_for, Operation, Read, Write, FrontStage, Through, Moving, Seeking, Transfer, is_under_way, IsFree, is_size, BeginsBehind, WaitsForHeads}
+use Rattle.fdc_commands.specs.declared.bytes.Accepted.TheVariants.{Ready}
+use Rattle.fdc_core.specs.Commands.{Obeys}
+use Rattle.fdc_sequencer.specs.Fronts.{TransfersIf}
 use Rattle.laws_chip.specs.SectorCalls.{Begins}
-use Rattle.laws_chip.specs.SectorLasting.{is_under_way}
-use Rattle.laws_chip.specs.Serving.{IsFree}
 use Rattle.laws_chip.proofs.Free.{free_executes}
 use Rattle.laws_chip.proofs.Started.{in_range}
 use Rattle.laws_chip.proofs.Whole.{begins_served}
-use Rattle.fdc_chip.specs.Doing.{is_size}
-use Rattle.laws_chip.specs.Beginning.{BeginsBehind}
-use Rattle.laws_chip.specs.Sound.{WaitsForHeads}
 use Rattle.laws_chip.proofs.Standing.{Stands, stands_ready, stands_taking}
 use Rattle.laws_chip.proofs.UnderWay.{not_through}
 

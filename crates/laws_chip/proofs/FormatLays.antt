@@ -1,68 +1,19 @@
 -- FORMAT TRACK over a medium at speed: the sector IDs that were given are laid.
 use Rattle.std.proofs.Common.{◌≡◌, inl, inr, ℕ, zero, suc, ◌+◌, ◌%◌, ◌≤◌, Bool, true, false, not, ◌&&◌, ◌==◌, if◌then◌else◌, Option, Some, None, List, [], ◌∷◌, ◌++◌, length, refl, sym, ◌∙◌, ap, subst, arith, length-append}
-use Rattle.std.proofs.lemmas.Bool.{and_parts, eqb-true, false≢true}
-use Rattle.raw_image.specs.Disk.{IsDisk}
-use Rattle.drive_model.specs.Drive.{DriveState, is_protected, rate_of}
-use Rattle.fdc_registers.specs.declared.drive_lines.Dor.{Dor}
-use Rattle.fdc_registers.specs.Fifo.{Fifo, emptied}
-use Rattle.fdc_commands.specs.Seeking.{with_polls}
+use Rattle.laws_chip.proofs.Common.{and_parts, eqb-true, false≢true, IsDisk, DriveState, is_protected, rate_of, Dor, Fifo, emptied, with_polls, IsAtPart, Numbers, is_first, is_next, Past, new_past, heard, kept_out, wrote, FormatNext, IsFormattingTrack, task_asks, stepped, told_in, head_of, is_reading, rate_fits, IsFormattingOn, MayFormatIn, MayFormatTask, took, Phase, Taking, Execute, Result, Task, DataRate, Formatting, BeginsData, taken_in, to_memory_of, told_count, Outset, IsTurningIn, IsAtDrive, FormatDoes, after_laid, is_executing, asks, is_gated, is_held, polled, IsHeardTime, IsTime, KeptOut, Saw, Stopped, WordTime, Wrote, after_time, WritesIn, WritesTask, MayFormat, Fdc, in_formats, told_formats, format_tells, lays_track, drive_less, kept_on, saw_on, still_unprotected, stopped_on, wrote_on, AdapterState, StepsAdapter, drive_at, selected_at, Front, GivesAt, GivesFront, TakesAt, TakesFront, told_front, told_if, with_controller, GivesCommand, StepsFront, Through, ChipState, passes_by_channel, passes_by_port, with_front, FormatsIf, Obeys, is_size, with_keys, with_last, GivesChipIf, GivesIf, ReadsAt, ReadsIf, TakesByte, TakesIf, StepsChip, Busy, passed_in, IsFreeBehind, Call, Does, AreAt, ExecutesBehind, IsSound, executes_single}
 use Rattle.fdc_commands.specs.declared.command.Command.TheVariants.{FormatTrack}
-use Rattle.fdc_stages.specs.Formats.{IsAtPart, Numbers, is_first, is_next}
-use Rattle.fdc_stages.specs.History.{Past, begun as new_past, heard, kept_out, wrote}
-use Rattle.fdc_stages.specs.declared.formatting.FormatNext.{FormatNext}
 use Rattle.fdc_stages.specs.declared.formatting.FormatNext.TheVariants as next
 use Rattle.fdc_stages.specs.declared.formatting.FormatPart.{FormatPart}
 use Rattle.fdc_stages.specs.declared.formatting.FormatPart.TheVariants.{Await, Due, Lay, Barred}
-use Rattle.fdc_phases.specs.Commands.{IsFormattingTrack}
-use Rattle.fdc_phases.specs.Dma.{task_asks}
 use Rattle.fdc_phases.specs.Formatting.{is_ended}
-use Rattle.fdc_phases.specs.Heard.{stepped, told_in}
-use Rattle.fdc_phases.specs.Phases.{head_of, is_reading}
-use Rattle.fdc_phases.specs.Rates.{rate_fits}
-use Rattle.fdc_phases.specs.Written.{IsFormattingOn, MayFormatIn, MayFormatTask, took}
-use Rattle.fdc_phases.specs.declared.phases.Phase.{Phase}
-use Rattle.fdc_phases.specs.declared.phases.Phase.TheVariants.{Command as Taking, Execute, Result}
-use Rattle.fdc_phases.specs.declared.phases.Task.{Task}
 use Rattle.fdc_phases.specs.declared.phases.Task.TheVariants as task
-use Rattle.fdc_phases.specs.declared.rates.DataRate.{DataRate}
-use Rattle.fdc_phases.specs.declared.transfers.Formatting.{Formatting}
-use Rattle.fdc_core.specs.Commands.{BeginsData}
-use Rattle.fdc_core.specs.Dma.{taken_in, to_memory_of, told_count}
-use Rattle.fdc_core.specs.Drives.Hearing.{Outset}
-use Rattle.fdc_core.specs.Drives.Spinning.{IsTurningIn}
-use Rattle.fdc_core.specs.Drives.Writing.{IsAtDrive}
-use Rattle.fdc_core.specs.Formatting.{FormatDoes, after_laid}
-use Rattle.fdc_core.specs.Listening.{is_executing}
-use Rattle.fdc_core.specs.State.{asks, is_gated, is_held}
-use Rattle.fdc_core.specs.Steps.{polled}
-use Rattle.fdc_core.specs.Times.{IsHeardTime, IsTime, KeptOut, Saw, Stopped, WordTime, Wrote, after_time}
-use Rattle.fdc_core.specs.Writes.{WritesIn, WritesTask}
-use Rattle.fdc_core.specs.Written.{MayFormat}
-use Rattle.fdc_core.specs.declared.controller.Fdc.{Fdc}
-use Rattle.fdc_core.proofs.MayWrite.{in_formats, told_formats}
-use Rattle.fdc_core.proofs.Tellings.{format_tells, lays_track}
-use Rattle.fdc_core.proofs.drives.Writing.{drive_less, kept_on, saw_on, still_unprotected, stopped_on, wrote_on}
-use Rattle.fdc_sequencer.specs.Adapters.{AdapterState, StepsAdapter, drive_at, selected_at}
-use Rattle.fdc_sequencer.specs.Fronts.{Front, GivesAt, GivesFront, TakesAt, TakesFront, told_front, told_if, with_controller, GivesCommand}
 use Rattle.fdc_sequencer.specs.Fronts as fronts
-use Rattle.fdc_sequencer.specs.Moves.{StepsFront}
-use Rattle.fdc_sequencer.specs.declared.stage.FrontStage.TheVariants.{Through}
-use Rattle.fdc_chip.specs.Chips.{ChipState, passes_by_channel, passes_by_port, with_front}
-use Rattle.fdc_chip.specs.Doing.{FormatsIf, Obeys, is_size, with_keys, with_last}
 use Rattle.fdc_chip.specs.Ports as ports
-use Rattle.fdc_chip.specs.Ports.{GivesChipIf, GivesIf, ReadsAt, ReadsIf, TakesByte, TakesIf}
-use Rattle.fdc_chip.specs.Steps.{StepsChip}
 use Rattle.fdc_chip.specs.declared.code.ChipOpcode.TheVariants as code
-use Rattle.fdc_chip.specs.declared.stage.ChipStage.TheVariants.{Busy}
 use Rattle.fdc_chip.specs.declared.stage.ChipTask.TheVariants.{Sent}
-use Rattle.laws_chip.specs.Serving.{passed_in}
 use Rattle.laws_chip.proofs.LateWriting.{window_none}
-use Rattle.laws_chip.specs.Beginning.{IsFreeBehind}
 use Rattle.laws_chip.specs.Calls as made
-use Rattle.laws_chip.specs.Calls.{Call, Does}
 use Rattle.laws_chip.specs.FormatTracks.{GiveAll, GivesAs, GivesByte, IsFormatBegun, LaysKeys, LetDrives, TurnsAtSpeed, lets_drives, numbers_of}
-use Rattle.laws_chip.specs.Lasting.{AreAt}
-use Rattle.laws_chip.specs.Sound.{ExecutesBehind, IsSound, executes_single}
 use Rattle.laws_chip.proofs.Channels.{counts_executes, gives_executes}
 use Rattle.laws_chip.proofs.CommandsBegun.{begins_sent}
 use Rattle.laws_chip.proofs.PassedOn.{no_results, other_read, step_same}
@@ -427,8 +378,7 @@ module _ (outset : Outset) (bay unit : ℕ) (numbers : Numbers) where
   call_on (made.Writes port value) given old new few valid head lets sound at stays does was =
       write_on (passes_by_port old) given value old new (subst (λ stage. TakesByte stage value old new) at (does.bytes (eqb-true port 0x3F5 lets))) was
   call_on made.Changes given old new few valid head lets sound at stays does was = absurd (false≢true lets)
-  call_on (made.Straps on) given old new few valid head lets sound at stays does was = ([], refl, none_given given old new (ap (λ (chip : ChipState). chip.front) does) was)
-  call_on (made.StrapsSteps on) given old new few valid head lets sound at stays does was = ([], refl, none_given given old new (ap (λ (chip : ChipState). chip.front) does) was)
+  call_on _ given old new few valid head lets sound at stays does was = ([], refl, none_given given old new (ap (λ (chip : ChipState). chip.front) does) was)
 
   -- the same of all calls
   record AllGiven (given : List ℕ) (calls : List Call) (old new : ChipState) (at : AreAt (Busy Sent) calls old new) : Type 0 where

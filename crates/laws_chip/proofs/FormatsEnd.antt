@@ -1,38 +1,10 @@
 -- A FORMAT TRACK of the inner controller goes on through device steps, and never reports a sector that isn't found.
-use Rattle.std.proofs.Common.{◌≡◌, inl, inr, ℕ, ◌+◌, Bool, true, false, ◌==◌, Option, refl, sym, ap, subst}
-use Rattle.std.proofs.lemmas.Bool.{false≢true}
-use Rattle.flop_base.specs.declared.key.Chrn.{Chrn}
-use Rattle.drive_model.specs.Drive.{DriveState, at_index}
-use Rattle.fdc_registers.specs.Fifo.{Fifo, emptied}
-use Rattle.fdc_stages.specs.declared.ending.Ending.{Ending}
-use Rattle.fdc_stages.specs.declared.ending.Ending.TheVariants.{Done, NoMark, NoSector, NoField, BadCheck, Overrun, NoCount, Protected, Late}
-use Rattle.fdc_stages.specs.declared.formatting.FormatNext.{FormatNext}
+use Rattle.std.proofs.Common.{◌≡◌, inl, inr, ℕ, ◌+◌, Bool, true, false, Option, refl, sym, ap, subst}
+use Rattle.laws_chip.proofs.Common.{false≢true, Chrn, DriveState, Fifo, emptied, Ending, NoSector, Late, FormatNext, EndsWell, FailsWell, Numbers, IsFormattingTrack, phase_told, Long, Phase, Execute, Result, Task, Formatting, FormatDoes, after_laid, finished, polled, FormatsNowhere, StepsNowhere, TaskStepsNowhere, WordTime, Wrote, Stopped, WritesIn, WritesTask, Stops, without_byte, Fdc, AdapterState, StepsAdapter, selected_at, Front, StepsFront, Through, is_not_found}
 use Rattle.fdc_stages.specs.declared.formatting.FormatNext.TheVariants as laid
-use Rattle.fdc_stages.specs.Formats.{EndsWell, FailsWell, Numbers}
 use Rattle.fdc_phases.specs.Answers.{no_key}
-use Rattle.fdc_phases.specs.Commands.{IsFormattingTrack}
-use Rattle.fdc_phases.specs.Dma.{phase_told}
-use Rattle.fdc_phases.specs.Phases.{is_listening}
-use Rattle.fdc_phases.specs.declared.answers.Answer.TheVariants.{Long, Short}
-use Rattle.fdc_phases.specs.declared.phases.Phase.{Phase}
-use Rattle.fdc_phases.specs.declared.phases.Phase.TheVariants.{Command as Taking, Execute, Result}
-use Rattle.fdc_phases.specs.declared.phases.Task.{Task}
 use Rattle.fdc_phases.specs.declared.phases.Task.TheVariants as task
-use Rattle.fdc_phases.specs.declared.transfers.Formatting.{Formatting}
-use Rattle.fdc_core.specs.Formatting.{FormatDoes, after_laid}
-use Rattle.fdc_core.specs.State.{finished}
-use Rattle.fdc_core.specs.Steps.{polled}
-use Rattle.fdc_core.specs.Tasks.{FormatsNowhere, StepsNowhere, TaskStepsNowhere}
-use Rattle.fdc_core.specs.Times.{WordTime, Saw, KeptOut, Wrote, Stopped}
-use Rattle.fdc_core.specs.Writes.{WritesIn, WritesTask}
-use Rattle.fdc_core.specs.Writing.{Stops, without_byte}
-use Rattle.fdc_core.specs.declared.controller.Fdc.{Fdc}
-use Rattle.fdc_sequencer.specs.Adapters.{AdapterState, StepsAdapter, selected_at}
-use Rattle.fdc_sequencer.specs.Fronts.{Front}
-use Rattle.fdc_sequencer.specs.Moves.{StepsFront}
-use Rattle.fdc_sequencer.specs.declared.stage.FrontStage.TheVariants.{Through}
 use Rattle.laws_chip.proofs.Known.{which_drive}
-use Rattle.fdc_chip.specs.Ending.{is_not_found}
 use Rattle.laws_chip.proofs.Rests.{through_step}
 
 -- the controller executes a FORMAT TRACK

@@ -1,51 +1,12 @@
 -- Which command for a sector is refused: none, if the controller is free for it. What keeps the controller free.
 use Rattle.std.proofs.Common.{◌≡◌, inl, inr, ℕ, zero, suc, ◌+◌, nat_le, Bool, true, false, not, ◌&&◌, ◌==◌, if◌then◌else◌, Option, Some, None, List, length, refl, sym, ◌∙◌, ap, subst, slice_set}
-use Rattle.std.proofs.lemmas.Bool.{and_from, false≢true, le-leb}
-use Rattle.flop_base.specs.declared.key.Chrn.{Chrn}
-use Rattle.track_model.specs.Fields.{IsSizeCode}
-use Rattle.drive_model.specs.Drive.{DriveState, at_index}
-use Rattle.fdc_registers.specs.Fifo.{Fifo}
-use Rattle.fdc_commands.specs.Seeking.{Seeking, has_ended_seek, seek_bits, with_polls, without_ended}
+use Rattle.laws_chip.proofs.Common.{and_from, false≢true, le-leb, Chrn, IsSizeCode, DriveState, at_index, Fifo, has_ended_seek, seek_bits, with_polls, without_ended, Invalid, Command, ReadData, WriteData, WriteDeleted, Past, ReadOutcome, needs_byte, Ending, Overrun, WriteNext, On, MayReadIn, MayReadTask, Sent, ending_of, is_listening, MayWriteIn, MayWriteTask, Phase, Taking, Execute, Result, Task, ReadTask, WriteTask, Reading, Writing, BeginsData, TakesAs, ExecutesIn, ExecutesTask, StepsOn, is_executing, Writes, resets, after_heard, at_stage, gone_on_reading, is_full, over_or_on, pushed, finished, is_held, polled, StepsNowhere, TaskStepsNowhere, WritesNowhere, WordTime, Saw, KeptOut, Wrote, Stopped, TakesWhole, ending_told, given_up, given_up_if, without_seek, WritesIn, WritesTask, WriteDoes, after_next, without_byte, Fdc, Lines, AdapterState, StepsAdapter, selected_at, command_for, command_of, next_cylinder, next_of, next_record, other_head, Operation, Read, Write, Transfer, IsFree, MayMove, sector_after}
+use Rattle.fdc_commands.specs.Seeking.{Seeking}
 use Rattle.fdc_commands.specs.declared.motion.Seek.{Seek}
-use Rattle.fdc_commands.specs.declared.bytes.Accepted.TheVariants.{Ready, Invalid}
-use Rattle.fdc_commands.specs.declared.command.Command.{Command}
-use Rattle.fdc_commands.specs.declared.command.Command.TheVariants.{ReadData, WriteData, WriteDeleted}
-use Rattle.fdc_stages.specs.History.{Past}
-use Rattle.fdc_stages.specs.Readings.{ReadOutcome}
+use Rattle.fdc_commands.specs.declared.bytes.Accepted.TheVariants.{Ready}
 use Rattle.fdc_stages.specs.Readings as heard
-use Rattle.fdc_stages.specs.Writings.{needs_byte}
-use Rattle.fdc_stages.specs.declared.ending.Ending.{Ending}
-use Rattle.fdc_stages.specs.declared.ending.Ending.TheVariants.{Overrun}
-use Rattle.fdc_stages.specs.declared.writing.WriteNext.{WriteNext}
-use Rattle.fdc_stages.specs.declared.writing.WriteNext.TheVariants.{On, Ended}
-use Rattle.fdc_phases.specs.Heard.{MayReadIn, MayReadTask, Sent}
-use Rattle.fdc_phases.specs.Phases.{ending_of, is_listening}
-use Rattle.fdc_phases.specs.Written.{MayWriteIn, MayWriteTask}
-use Rattle.fdc_phases.specs.declared.phases.Phase.{Phase}
-use Rattle.fdc_phases.specs.declared.phases.Phase.TheVariants.{Command as Taking, Execute, Result}
-use Rattle.fdc_phases.specs.declared.phases.Task.{Task}
-use Rattle.fdc_phases.specs.declared.phases.Task.TheVariants.{Read as ReadTask, Write as WriteTask}
-use Rattle.fdc_phases.specs.declared.transfers.Reading.{Reading}
-use Rattle.fdc_phases.specs.declared.transfers.Writing.{Writing}
-use Rattle.fdc_core.specs.Commands.{BeginsData, Obeys, TakesAs}
-use Rattle.fdc_core.specs.Listening.{ExecutesIn, ExecutesTask, StepsOn, is_executing}
-use Rattle.fdc_core.specs.Ports.{Writes, resets}
-use Rattle.fdc_core.specs.Reading.{after_heard, at_stage, gone_on_reading, is_full, over_or_on, pushed}
-use Rattle.fdc_core.specs.State.{finished, is_held}
-use Rattle.fdc_core.specs.Steps.{polled}
-use Rattle.fdc_core.specs.Tasks.{StepsNowhere, TaskStepsNowhere, WritesNowhere}
-use Rattle.fdc_core.specs.Times.{WordTime, Saw, KeptOut, Wrote, Stopped}
-use Rattle.fdc_core.specs.Whole.{TakesWhole, ending_told, given_up, given_up_if, without_seek}
-use Rattle.fdc_core.specs.Writes.{WritesIn, WritesTask}
-use Rattle.fdc_core.specs.Writing.{WriteDoes, after_next, without_byte}
-use Rattle.fdc_core.specs.declared.controller.Fdc.{Fdc}
-use Rattle.fdc_core.specs.declared.controller.Lines.{Lines}
-use Rattle.fdc_sequencer.specs.Adapters.{AdapterState, StepsAdapter, selected_at}
-use Rattle.fdc_sequencer.specs.Transfers.{command_for, command_of, next_cylinder, next_of, next_record, other_head}
-use Rattle.fdc_sequencer.specs.declared.opcode.Operation.{Operation}
-use Rattle.fdc_sequencer.specs.declared.opcode.Operation.TheVariants.{Read, Write}
-use Rattle.fdc_sequencer.specs.declared.transfer.Transfer.{Transfer}
-use Rattle.laws_chip.specs.Serving.{IsFree, MayMove, sector_after}
+use Rattle.fdc_stages.specs.declared.writing.WriteNext.TheVariants.{Ended}
+use Rattle.fdc_core.specs.Commands.{Obeys}
 use Rattle.laws_chip.proofs.Known.{port_same, which_drive}
 use Rattle.laws_chip.proofs.Started.{without_bytes}
 

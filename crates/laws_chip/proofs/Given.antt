@@ -1,15 +1,8 @@
 -- How a command is given: only where the controller takes one, and not while one of several sectors is served.
-use Rattle.std.proofs.Common.{◌≡◌, true, false, ap, refl, subst}
-use Rattle.std.proofs.lemmas.Bool.{false≢true}
-use Rattle.fdc_commands.specs.declared.command.Command.{Command}
-use Rattle.fdc_core.specs.Whole.{is_idle}
-use Rattle.fdc_core.specs.declared.controller.Fdc.{Fdc}
-use Rattle.fdc_sequencer.specs.Fronts.{CommandsIf, Front, GivesTransfer, Starts, TransfersIf, is_ready, is_ready_at, taken_at}
-use Rattle.fdc_sequencer.specs.declared.stage.FrontStage.{FrontStage}
-use Rattle.fdc_sequencer.specs.declared.stage.FrontStage.TheVariants.{Through, Seeking, Moving, Telling}
-use Rattle.fdc_sequencer.specs.declared.transfer.Transfer.{Transfer}
-use Rattle.laws_chip.specs.SectorCalls.{Call, Commands, Does, Ends, Reads, Transfers}
-use Rattle.laws_chip.specs.Serving.{History, Serves, ServesAt}
+use Rattle.std.proofs.Common.{◌≡◌, true, ap, refl, subst}
+use Rattle.laws_chip.proofs.Common.{false≢true, Command, is_idle, Fdc, CommandsIf, Front, GivesTransfer, Starts, is_ready, is_ready_at, taken_at, FrontStage, Through, Telling, Transfer, Reads, History, Serves, ServesAt}
+use Rattle.fdc_sequencer.specs.Fronts.{TransfersIf}
+use Rattle.laws_chip.specs.SectorCalls.{Call, Commands, Does, Ends, Transfers}
 
 -- ---- a command starts
 
@@ -36,9 +29,8 @@ no_transfer transfer stage old new on is = is
 -- where results are taken, each access is the controller's again
 none_taken : (stage : FrontStage) (old new : Front) → (stage ≡ Through → ⊥) → (new.stage ≡ Through → ⊥) → new ≡ taken_at stage old → new ≡ old
 none_taken Through old new on stays is = absurd (on refl)
-none_taken (Seeking at counted) old new on stays is = is
-none_taken (Moving moving) old new on stays is = is
 none_taken (Telling results) old new on stays is = absurd (stays (ap (λ front. front.stage) is))
+none_taken _ old new on stays is = is
 
 abbrev pub IsIgnored : Call → Type 0
 IsIgnored (Reads port) = Unit {0}

@@ -1,35 +1,12 @@
 -- Seeks that give a pulse in each device step: they go on, and end by INT.
 use Rattle.std.proofs.Common.{◌≡◌, ◌⊎◌, inl, inr, ℕ, zero, suc, ◌+◌, ◌-◌, ◌≤◌, nat_lt, Bool, true, false, not, ◌&&◌, ◌||◌, ◌==◌, if◌then◌else◌, Option, Some, None, List, [], ◌∷◌, length, slice_index, slice_set, unwrap_or, refl, sym, ◌∙◌, ap, subst, arith}
-use Rattle.std.specs.Option.{option_map_or}
+use Rattle.laws_chip.proofs.Common.{option_map_or, and_from, or_parts, or_right, nat_tests, DriveState, Dor, ended, has_ended, is_seeking, neighbour, recalibrated, sought, stepped_seek, with_motion, with_polls, Motion, Outward, Toward, Ended, DriveSeek, Taking, is_gated, is_held, Rests, polled, seek_stepped, Fdc, AdapterState, StepsAdapter, lines_at, selected_at, Front, interrupts_at, interrupts_outside, StepsFront, Through, ChipState, interrupts_chip, with_front, drained, drained_one, is_told, moves_heads, Interrupting, with_result, StepsChip, PacedSeek, ChipStage, Ready, EndsBySignal, GoesTo, HeadsGo, HeadsStand, SeeksBehind, status_at_end, steps_left, IsSound}
 use Rattle.std.specs.Prelude.{bit_and}
-use Rattle.std.proofs.lemmas.Bool.{and_from, or_parts, or_right}
-use Rattle.std.proofs.lemmas.Bool.Decides.{nat_tests}
-use Rattle.drive_model.specs.Drive.{DriveState}
 use Rattle.fdc_registers.specs.St0.{seek_end}
-use Rattle.fdc_registers.specs.declared.drive_lines.Dor.{Dor}
-use Rattle.fdc_commands.specs.Seeking.{Seeking, ended, has_ended, is_seeking, neighbour, recalibrated, sought, stepped, stepped_seek, with_motion, with_polls}
-use Rattle.fdc_commands.specs.declared.motion.Motion.{Motion}
-use Rattle.fdc_commands.specs.declared.motion.Motion.TheVariants.{Outward, Toward, Ended}
-use Rattle.fdc_commands.specs.declared.motion.Seek.{Seek as DriveSeek}
-use Rattle.fdc_phases.specs.declared.phases.Phase.TheVariants.{Command as Taking}
+use Rattle.fdc_commands.specs.Seeking.{Seeking, stepped}
 use Rattle.fdc_core.specs.Drives.Lines.{absent_lines, lines_of_drive, lines_of_selected}
-use Rattle.fdc_core.specs.State.{is_gated, is_held}
-use Rattle.fdc_core.specs.Steps.{Rests, polled, seek_stepped}
-use Rattle.fdc_core.specs.declared.controller.Fdc.{Fdc}
-use Rattle.fdc_sequencer.specs.Adapters.{AdapterState, StepsAdapter, lines_at, selected_at}
-use Rattle.fdc_sequencer.specs.Fronts.{Front, interrupts_at, interrupts_outside}
-use Rattle.fdc_sequencer.specs.Moves.{StepsFront}
-use Rattle.fdc_sequencer.specs.declared.stage.FrontStage.TheVariants.{Through}
-use Rattle.fdc_chip.specs.Chips.{ChipState, interrupts_chip, with_front}
-use Rattle.fdc_chip.specs.Doing.{drained, drained_by, drained_one, is_told, moves_heads}
-use Rattle.fdc_chip.specs.Interrupts.{Interrupting, with_result}
-use Rattle.fdc_chip.specs.Steps.{StepsChip}
-use Rattle.fdc_chip.specs.declared.pace.PacedSeek.{PacedSeek}
-use Rattle.fdc_chip.specs.declared.stage.ChipStage.{ChipStage}
-use Rattle.fdc_chip.specs.declared.stage.ChipStage.TheVariants.{Ready}
+use Rattle.fdc_chip.specs.Doing.{drained_by}
 use Rattle.laws_chip.proofs.Known.{which_drive}
-use Rattle.laws_chip.specs.Seeks.{EndsBySignal, GoesTo, HeadsGo, HeadsStand, SeeksBehind, status_at_end, steps_left}
-use Rattle.laws_chip.specs.Sound.{IsSound}
 use Rattle.laws_chip.proofs.Polled.{and_true, build, built, ready_interrupts, ready_step}
 use Rattle.laws_chip.proofs.Rests.{adapter_stays, taking_stays, through_step}
 

@@ -1,20 +1,9 @@
 -- Where no command is executed and no answer is given, a call leaves the heads and all results as they are, unless it is a
 -- device step, a reset or an access of the data port.
-use Rattle.std.proofs.Common.{◌≡◌, ℕ, Bool, true, false, not, ◌&&◌, ◌==◌, refl, sym, ◌∙◌, ap, subst}
-use Rattle.std.proofs.lemmas.Bool.{and_right, false≢true}
-use Rattle.fdc_core.specs.Ports.{resets}
-use Rattle.fdc_core.specs.State.{is_held}
-use Rattle.fdc_core.specs.declared.controller.Fdc.{Fdc}
-use Rattle.fdc_chip.specs.Chips.{ChipState, passes, passes_at, passes_by_channel, with_front}
-use Rattle.fdc_chip.specs.Orders.{is_format}
-use Rattle.fdc_chip.specs.Ports.{GivesChipIf, TakesIf, WritesChip, count_told, latched_by, reset_if, value_behind}
-use Rattle.fdc_chip.specs.Settings.{is_by_port}
-use Rattle.fdc_chip.specs.declared.stage.ChipStage.{ChipStage}
-use Rattle.fdc_chip.specs.declared.stage.ChipStage.TheVariants.{Busy, Telling}
+use Rattle.std.proofs.Common.{◌≡◌, ℕ, true, false, not, ◌&&◌, ◌==◌, refl, sym, ◌∙◌, ap, subst}
+use Rattle.laws_chip.proofs.Common.{and_right, false≢true, resets, is_held, Fdc, ChipState, passes, passes_at, passes_by_channel, with_front, is_format, GivesChipIf, TakesIf, WritesChip, latched_by, reset_if, value_behind, is_by_port, ChipStage, Busy, Call, Does, is_reset, is_step, is_of_data_port, waits_for_heads}
+use Rattle.fdc_chip.specs.Ports.{count_told}
 use Rattle.laws_chip.specs.Calls as made
-use Rattle.laws_chip.specs.Calls.{Call, Does, is_reset, is_step}
-use Rattle.laws_chip.specs.Resets.{is_of_data_port}
-use Rattle.laws_chip.specs.Seeks.{waits_for_heads}
 use Rattle.laws_chip.proofs.Channels.{IsLeft, front_left}
 use Rattle.laws_chip.proofs.PassedOn.{other_read}
 use Rattle.laws_chip.proofs.UnderWay.{clash, either_way, port_stage}

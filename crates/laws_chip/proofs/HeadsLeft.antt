@@ -1,30 +1,8 @@
 -- How many device steps heads still move at most: each device step leaves fewer, also while pulses come in the time that
 -- SPECIFY sets.
 use Rattle.std.proofs.Common.{◌≡◌, ℕ, suc, ◌+◌, ◌-◌, ◌*◌, ◌%◌, ◌^◌, ◌<◌, ◌≤◌, max, nat_le, nat_lt, Bool, true, false, not, ◌&&◌, ◌==◌, if◌then◌else◌, Option, Some, None, List, [], length, bit_and, bit_or, refl, sym, ◌∙◌, ap, subst, arith}
-use Rattle.std.specs.Option.{option_map_or}
-use Rattle.std.proofs.Math.Nat.{mul-le-mul_right, suc-mul}
-use Rattle.std.proofs.lemmas.Bool.{and_from, and_parts, false≢true, leb-false, leb-true, not-true}
-use Rattle.std.proofs.lemmas.Bool.Decides.{nat_tests}
-use Rattle.fdc_commands.specs.Seeking.{has_ended_seek, pulses_within, seek_bits, with_motion}
-use Rattle.fdc_commands.specs.declared.motion.Motion.{Motion}
-use Rattle.fdc_commands.specs.declared.motion.Motion.TheVariants.{Outward, Ended}
-use Rattle.fdc_commands.specs.declared.motion.Seek.{Seek as DriveSeek}
-use Rattle.fdc_core.specs.State.{is_held}
-use Rattle.fdc_core.specs.Whole.{is_idle}
-use Rattle.fdc_core.specs.declared.controller.Fdc.{Fdc}
-use Rattle.fdc_sequencer.specs.Fronts.{Front, GivesCommand, is_ready, is_ready_at, status_at, with_controller}
-use Rattle.fdc_sequencer.specs.Moves.{StepsFront}
-use Rattle.fdc_sequencer.specs.Senses.{recalibrated_at, recalibrated_outside}
-use Rattle.fdc_chip.specs.Chips.{ChipState, with_front}
-use Rattle.fdc_chip.specs.Doing.{drained, drained_by, moves_heads, moving}
-use Rattle.fdc_chip.specs.Paces.{EndsAt, GoesOnIf, Paces, PulsesIf, is_due, is_over, stepped}
-use Rattle.fdc_chip.specs.Settings.{step_words}
-use Rattle.fdc_chip.specs.declared.pace.PacedSeek.{PacedSeek}
-use Rattle.fdc_chip.specs.declared.settings.Settings.{Settings}
-use Rattle.laws_chip.specs.Bounds.{heads_steps, seek_steps}
-use Rattle.laws_chip.specs.PacedSeeks.{pulses_left}
-use Rattle.laws_chip.specs.Seeks.{steps_left}
-use Rattle.laws_chip.specs.Sound.{IsSound, RestsBehind}
+use Rattle.laws_chip.proofs.Common.{option_map_or, mul-le-mul_right, suc-mul, and_from, and_parts, false≢true, leb-false, leb-true, not-true, nat_tests, has_ended_seek, pulses_within, seek_bits, with_motion, Motion, Outward, Ended, DriveSeek, is_held, is_idle, Fdc, Front, GivesCommand, is_ready, is_ready_at, status_at, with_controller, StepsFront, recalibrated_at, recalibrated_outside, ChipState, with_front, drained, drained_by, moves_heads, moving, GoesOnIf, Paces, PulsesIf, is_due, step_words, PacedSeek, Settings, heads_steps, seek_steps, pulses_left, steps_left, IsSound, RestsBehind}
+use Rattle.fdc_chip.specs.Paces.{EndsAt, is_over, stepped}
 use Rattle.laws_chip.proofs.FirstSectors.{base_held}
 use Rattle.laws_chip.proofs.HeadsGoing.{none_pending}
 use Rattle.laws_chip.proofs.HeadsTold.{TellsEnd, drained_left, drained_runs, front_nearer, runs_tells}

@@ -1,28 +1,9 @@
 -- A seek that has ended has its result in the inner controller, until the result is taken over. The heads that move
 -- come nearer with each device step.
-use Rattle.std.proofs.Common.{◌≡◌, inl, inr, ℕ, zero, suc, ◌+◌, ◌-◌, ◌<◌, ◌≤◌, nat_lt, Bool, true, false, not, ◌&&◌, ◌||◌, ◌==◌, if◌then◌else◌, Option, Some, None, is_some, option_map, List, [], ◌∷◌, length, slice_index, slice_index_or, slice_set, position, refl, sym, ◌∙◌, ap, subst, arith}
-use Rattle.std.specs.Option.{option_map_or}
-use Rattle.std.proofs.lemmas.Bool.{and_right, eqb-false, false≢true, not-true, or_parts}
-use Rattle.std.proofs.lemmas.Bool.Decides.{nat_tests}
-use Rattle.std.proofs.lemmas.List.{get_or-set_other, get_or-set_same, length-set}
-use Rattle.fdc_commands.specs.Seeking.{Seeking, after_sense, ended, first_pending, has_ended, has_ended_seek, neighbour, recalibrated, released, sensed, sought, status_of, stepped, stepped_seek, with_motion, with_polls, without_result as without_one}
-use Rattle.fdc_commands.specs.declared.motion.Motion.{Motion}
-use Rattle.fdc_commands.specs.declared.motion.Motion.TheVariants.{Outward, Toward, Ended}
-use Rattle.fdc_commands.specs.declared.motion.Seek.{Seek as DriveSeek}
-use Rattle.fdc_core.specs.State.{is_held}
-use Rattle.fdc_core.specs.Steps.{polled, seek_stepped}
-use Rattle.fdc_core.specs.declared.controller.Fdc.{Fdc}
-use Rattle.fdc_sequencer.specs.Adapters.{lines_at}
-use Rattle.fdc_sequencer.specs.AdapterSenses.{after_result, without_result}
-use Rattle.fdc_sequencer.specs.Fronts.{Front, with_controller}
-use Rattle.fdc_sequencer.specs.Moves.{StepsFront}
-use Rattle.fdc_sequencer.specs.Senses.{pending_outside, sensed_at, sensed_outside}
-use Rattle.fdc_chip.specs.Chips.{ChipState, with_front}
-use Rattle.fdc_chip.specs.Doing.{drained, drained_by, drained_one}
-use Rattle.laws_chip.specs.Beginning.{IsOfFour}
-use Rattle.laws_chip.specs.Bounds.{seek_steps}
-use Rattle.laws_chip.specs.Seeks.{steps_left}
-use Rattle.laws_chip.specs.Sound.{RestsBehind}
+use Rattle.std.proofs.Common.{◌≡◌, ℕ, zero, suc, ◌+◌, ◌-◌, ◌<◌, ◌≤◌, nat_lt, Bool, true, false, not, ◌&&◌, ◌||◌, ◌==◌, if◌then◌else◌, Option, Some, None, is_some, option_map, List, [], length, slice_index, slice_index_or, slice_set, refl, sym, ◌∙◌, ap, subst, arith}
+use Rattle.laws_chip.proofs.Common.{option_map_or, and_right, eqb-false, false≢true, or_parts, nat_tests, get_or-set_other, get_or-set_same, length-set, after_sense, ended, first_pending, has_ended, has_ended_seek, neighbour, recalibrated, released, sensed, sought, stepped_seek, with_motion, with_polls, Motion, Outward, Toward, Ended, DriveSeek, is_held, polled, seek_stepped, Fdc, lines_at, after_result, without_result, Front, with_controller, StepsFront, pending_outside, sensed_at, sensed_outside, ChipState, with_front, drained, drained_one, IsOfFour, seek_steps, steps_left, RestsBehind}
+use Rattle.fdc_commands.specs.Seeking.{Seeking, status_of, stepped, without_result as without_one}
+use Rattle.fdc_chip.specs.Doing.{drained_by}
 use Rattle.laws_chip.proofs.HeadsGoing.{neighbour_left, none_pending, rests_by_line}
 use Rattle.laws_chip.proofs.Rests.{taking_stays, through_step}
 use Rattle.laws_chip.proofs.SeeksBegun.{IsIdleAt, all_taken, idle_takes, one_taken}

@@ -1,27 +1,8 @@
 -- A held command waits for heads, whatever seek they make: each device step leaves fewer, and other calls leave as many.
 use Rattle.std.proofs.Common.{◌≡◌, ◌⊎◌, inl, inr, ℕ, ◌+◌, ◌-◌, ◌*◌, ◌≤◌, max, Bool, true, false, ◌||◌, Option, Some, None, is_some, [], length, refl, sym, ◌∙◌, ap, subst, arith}
-use Rattle.std.proofs.lemmas.Bool.{and_from}
-use Rattle.fdc_commands.specs.Seeking.{Seeking, has_ended_seek}
-use Rattle.fdc_commands.specs.declared.motion.Seek.{Seek as DriveSeek}
-use Rattle.fdc_core.specs.Ranges.{IsInRange}
-use Rattle.fdc_core.specs.declared.controller.Fdc.{Fdc}
-use Rattle.fdc_chip.specs.Chips.{ChipState, with_front}
-use Rattle.fdc_chip.specs.Codes.{code_of}
-use Rattle.fdc_chip.specs.Doing.{AttendsIf, drained, implies, is_moving, moves_heads, needs_heads}
-use Rattle.fdc_chip.specs.Paces.{EndsAt, GoesOnIf, Paces, PulsesIf, is_due, is_over}
-use Rattle.fdc_chip.specs.Settings.{step_words}
-use Rattle.fdc_chip.specs.Steps.{StepsChip}
-use Rattle.fdc_chip.specs.declared.code.ChipOpcode.{ChipOpcode}
-use Rattle.fdc_chip.specs.declared.order.Order.{Order}
-use Rattle.fdc_chip.specs.declared.pace.PacedSeek.{PacedSeek}
-use Rattle.fdc_chip.specs.declared.settings.Settings.{Settings}
-use Rattle.fdc_chip.specs.declared.stage.ChipStage.TheVariants.{Held}
-use Rattle.laws_chip.specs.Beginning.{IsDoneFree, IsHeldFor}
-use Rattle.laws_chip.specs.Bounds.{HeadsMove, heads_of, heads_steps, seek_steps}
-use Rattle.laws_chip.specs.Calls.{Call, Does, is_reset, is_step}
-use Rattle.laws_chip.specs.PacedSeeks.{pulses_left}
-use Rattle.laws_chip.specs.Resets.{is_of_data_port}
-use Rattle.laws_chip.specs.Sound.{IsSound, RestsBehind}
+use Rattle.laws_chip.proofs.Common.{and_from, has_ended_seek, DriveSeek, IsInRange, Fdc, ChipState, with_front, code_of, AttendsIf, drained, implies, is_moving, moves_heads, needs_heads, GoesOnIf, Paces, PulsesIf, is_due, step_words, StepsChip, ChipOpcode, Order, PacedSeek, Settings, Held, IsDoneFree, IsHeldFor, HeadsMove, heads_of, heads_steps, seek_steps, Call, Does, is_reset, is_step, pulses_left, is_of_data_port, IsSound, RestsBehind, waits_for_heads}
+use Rattle.fdc_commands.specs.Seeking.{Seeking}
+use Rattle.fdc_chip.specs.Paces.{EndsAt, is_over}
 use Rattle.laws_chip.proofs.HeadsLeft.{IsFewLater, IsPaced, drained_settings, moves_some, paces_on}
 use Rattle.laws_chip.proofs.HeadsTold.{drained_left, drained_runs, drained_same, runs_tells}
 use Rattle.laws_chip.proofs.Rests.{drained_rests}
@@ -30,7 +11,6 @@ use Rattle.laws_chip.proofs.SoundParts.{at_rest, is_busy, is_ready, sound_basis}
 use Rattle.laws_chip.proofs.UnderWay.{either_way}
 use Rattle.laws_chip.proofs.WholeTransfers.{attended_free, drained_pace, follows_held, step_attends, step_rests}
 use Rattle.laws_chip.proofs.HeadsKept.{KeepsHeads, call_heads}
-use Rattle.laws_chip.specs.Seeks.{waits_for_heads}
 
 -- ---- numbers
 

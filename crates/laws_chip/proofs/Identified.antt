@@ -1,66 +1,17 @@
 -- READ ID over a medium that stays in: what it heard, and the sector ID that it reports.
 use Rattle.std.proofs.Common.{◌≡◌, ◌⊎◌, inl, inr, ℕ, zero, suc, ◌+◌, ◌*◌, ◌<◌, ◌≤◌, Bool, true, false, not, ◌&&◌, ◌||◌, ◌==◌, Option, Some, List, [], ◌∷◌, bit_and, refl, sym, ◌∙◌, ap, subst, arith}
-use Rattle.std.proofs.lemmas.Bool.{agree_below_at, false≢true, eqb-true}
-use Rattle.flop_base.specs.declared.key.Chrn.{Chrn}
-use Rattle.track_model.specs.Fields.{IsAddressAt}
-use Rattle.raw_image.specs.Disk.{IsDisk}
-use Rattle.drive_model.specs.Drive.{Becomes, DriveState, at_index}
+use Rattle.laws_chip.proofs.Common.{agree_below_at, false≢true, eqb-true, Chrn, IsAddressAt, IsDisk, Becomes, DriveState, at_index, Results, HasAddress, HasIdentified, Past, new_past, heard, Ending, Done, NoMark, NoSector, Late, results_of, IsReadingId, phase_told, MayReadIdIn, MayReadIdTask, key_met, stepped, head_of, is_listening, Long, Phase, Execute, Result, Task, DataRate, BeginsData, Works, SeesTask, SeesUnder, SeesWord, after_step, is_executing, resets, MovesIn, MovesTask, let_pass, polled, Fdc, IsHeardFrom, address_heard, address_late, turn_heard, AdapterState, StepsAdapter, drive_at, selected_at, Front, GivesAt, GivesCommand, GivesFront, TakesAt, TakesFront, WritesFront, count_told, results_outside, results_taken, told_front, told_if, StepsFront, Read, Transfer, IsAt, TurnsOn, ChipState, with_front, code_of, Obeys, identifying, is_format, EndsAs, EndsSent, MayEnd, is_not_found, looks_for_cylinder, told_results, Follows, StepsChip, ChipOpcode, Order, ChipStage, Busy, IsFreeBehind, Call, Does, is_step, IsIdBegun, StaysUnder, TurnsOnBy, is_read_id, AreAt, ExecutesBehind, IsSound, executes_single, Tells, has_command}
 use Rattle.fdc_commands.specs.declared.command.Command.TheVariants.{ReadId}
-use Rattle.fdc_commands.specs.declared.results.Results.{Results}
-use Rattle.fdc_stages.specs.Findings.{HasAddress, HasIdentified}
-use Rattle.fdc_stages.specs.History.{Past, begun as new_past, heard}
-use Rattle.fdc_stages.specs.declared.ending.Ending.{Ending}
-use Rattle.fdc_stages.specs.declared.ending.Ending.TheVariants.{Done, NoMark, NoSector, Late}
-use Rattle.fdc_phases.specs.Answers.{results_of}
-use Rattle.fdc_phases.specs.Commands.{IsReadingId}
-use Rattle.fdc_phases.specs.Dma.{phase_told}
-use Rattle.fdc_phases.specs.Heard.{MayReadIdIn, MayReadIdTask, key_met, stepped}
-use Rattle.fdc_phases.specs.Phases.{head_of, is_listening}
-use Rattle.fdc_phases.specs.declared.answers.Answer.TheVariants.{Long}
-use Rattle.fdc_phases.specs.declared.phases.Phase.{Phase}
-use Rattle.fdc_phases.specs.declared.phases.Phase.TheVariants.{Execute, Result}
-use Rattle.fdc_phases.specs.declared.phases.Task.{Task}
 use Rattle.fdc_phases.specs.declared.phases.Task.TheVariants as phase_task
-use Rattle.fdc_phases.specs.declared.rates.DataRate.{DataRate}
-use Rattle.fdc_core.specs.Commands.{BeginsData}
-use Rattle.fdc_core.specs.Courses.{Works}
-use Rattle.fdc_core.specs.Listening.{SeesTask, SeesUnder, SeesWord, after_step, is_executing}
-use Rattle.fdc_core.specs.Ports.{resets}
-use Rattle.fdc_core.specs.Steps.{MovesIn, MovesTask, let_pass, polled}
-use Rattle.fdc_core.specs.declared.controller.Fdc.{Fdc}
-use Rattle.fdc_core.specs.Drives.Heard.{IsHeardFrom}
-use Rattle.fdc_core.proofs.drives.Fields.{address_heard}
-use Rattle.fdc_core.proofs.drives.LateFields.{address_late}
-use Rattle.fdc_core.proofs.drives.Turns.{turn_heard}
-use Rattle.fdc_sequencer.specs.Adapters.{AdapterState, StepsAdapter, drive_at, selected_at}
-use Rattle.fdc_sequencer.specs.Fronts.{Front, GivesAt, GivesCommand, GivesFront, TakesAt, TakesFront, WritesFront, count_told, results_outside, results_taken, told_front, told_if}
-use Rattle.fdc_sequencer.specs.Moves.{StepsFront}
-use Rattle.fdc_sequencer.specs.declared.opcode.Operation.TheVariants.{Read}
-use Rattle.fdc_sequencer.specs.declared.transfer.Transfer.{Transfer}
-use Rattle.laws_chip.specs.Media.{IsAt, Place, TurnsOn, track_at}
+use Rattle.laws_chip.specs.Media.{Place, track_at}
 use Rattle.laws_chip.proofs.LateHearing.{hearing_led}
 use Rattle.laws_chip.proofs.Medium.{IsHearingAt, adapter_turns, fresh_hearing, kept_hearing, outset_at}
 use Rattle.laws_chip.proofs.Resting.{polled_phase}
-use Rattle.fdc_chip.specs.Chips.{ChipState, with_front}
-use Rattle.fdc_chip.specs.Codes.{code_of}
-use Rattle.fdc_chip.specs.Doing.{Obeys, identifying}
-use Rattle.fdc_chip.specs.Orders.{is_format}
-use Rattle.fdc_chip.specs.Ending.{EndsAs, EndsSent, MayEnd, is_not_found, looks_for_cylinder, told_results}
-use Rattle.fdc_chip.specs.Steps.{Follows, StepsChip}
 use Rattle.fdc_chip.specs.declared.answer.ChipAnswer.TheVariants as answer
-use Rattle.fdc_chip.specs.declared.code.ChipOpcode.{ChipOpcode}
 use Rattle.fdc_chip.specs.declared.code.ChipOpcode.TheVariants as code
-use Rattle.fdc_chip.specs.declared.order.Order.{Order}
-use Rattle.fdc_chip.specs.declared.stage.ChipStage.{ChipStage}
-use Rattle.fdc_chip.specs.declared.stage.ChipStage.TheVariants.{Busy, Telling}
+use Rattle.fdc_chip.specs.declared.stage.ChipStage.TheVariants.{Telling}
 use Rattle.fdc_chip.specs.declared.stage.ChipTask.TheVariants.{Sent}
-use Rattle.laws_chip.specs.Beginning.{IsFreeBehind}
 use Rattle.laws_chip.specs.Calls as made
-use Rattle.laws_chip.specs.Calls.{Call, Does, is_step}
-use Rattle.laws_chip.specs.Identifying.{IsIdBegun, StaysUnder, TurnsOnBy, is_read_id}
-use Rattle.laws_chip.specs.Lasting.{AreAt}
-use Rattle.laws_chip.specs.Sound.{ExecutesBehind, IsSound, executes_single}
-use Rattle.laws_chip.specs.Told.{Tells}
 use Rattle.laws_chip.proofs.Tellings.{judged_other}
 use Rattle.laws_chip.proofs.Channels.{counts_executes, front_gives, front_left, front_takes, gives_executes, keeps_executes, port_executes, takes_executes}
 use Rattle.laws_chip.proofs.CommandsBegun.{begins_sent}
@@ -71,7 +22,6 @@ use Rattle.laws_chip.proofs.Standing.{given_obeyed, stands_free}
 use Rattle.laws_chip.proofs.UnderWay.{either_way}
 use Rattle.laws_chip.proofs.NextStages as makes
 use Rattle.laws_chip.proofs.NextStages.{Makes, call_stays, is_change}
-use Rattle.laws_chip.specs.Bounds.{has_command}
 
 -- the head that listens, in the form that it has for a sector
 abbrev id_at : ℕ → Transfer

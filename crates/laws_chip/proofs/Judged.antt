@@ -1,23 +1,8 @@
 -- What the ending of a sector's command says, as the front judges it: the CRC of a field that is passed over doesn't
 -- count.
 use Rattle.std.proofs.Common.{◌≡◌, inl, inr, Bool, true, false, if◌then◌else◌, Option, Some, length, refl, sym, ◌∙◌, ap, subst, arith}
-use Rattle.std.proofs.lemmas.Bool.{false≢true}
-use Rattle.flop_base.specs.declared.key.Chrn.{Chrn}
-use Rattle.track_model.specs.Fields.{IsSizeCode}
-use Rattle.track_model.specs.Looks.{HasDataField}
-use Rattle.fdc_stages.specs.History.{Past}
-use Rattle.fdc_stages.specs.Findings.{FindsSector}
-use Rattle.fdc_stages.specs.declared.ending.Ending.{Ending}
-use Rattle.fdc_stages.specs.declared.ending.Ending.TheVariants.{Done, BadCheck}
-use Rattle.fdc_phases.specs.Heard.{Sent}
-use Rattle.fdc_core.specs.Whole.{ending_told}
-use Rattle.fdc_core.specs.declared.controller.Fdc.{Fdc}
+use Rattle.laws_chip.proofs.Common.{false≢true, Chrn, IsSizeCode, HasDataField, Past, FindsSector, Ending, Done, BadCheck, Sent, ending_told, Fdc, is_other, is_skipping, other_mark, Operation, Read, Write, MovingSector, Accounts, AreLeft, FindsBadField, FindsField, HasBadField, HasFieldIn, IsFieldDone, IsMarkOf, IsOfOther, Means, MeansJudged, bytes_moved, sent_of}
 use Rattle.fdc_sequencer.specs.Moves.{judged}
-use Rattle.fdc_sequencer.specs.Transfers.{is_other, is_skipping, other_mark}
-use Rattle.fdc_sequencer.specs.declared.opcode.Operation.{Operation}
-use Rattle.fdc_sequencer.specs.declared.opcode.Operation.TheVariants.{Read, Write}
-use Rattle.fdc_sequencer.specs.declared.stage.Moving.{Moving as MovingSector}
-use Rattle.laws_chip.specs.Serving.{Accounts, AreLeft, FindsBadField, FindsField, HasBadField, HasFieldIn, IsFieldDone, IsMarkOf, IsOfOther, Means, MeansJudged, bytes_moved, sent_of}
 use Rattle.laws_chip.proofs.Courses.{no_bytes}
 use Rattle.laws_chip.proofs.Known.{BadGoes, clash, either_way}
 use Rattle.laws_chip.proofs.Marks.{mark_then, then_bad, then_done}
@@ -37,11 +22,9 @@ done_field (Write deleted) past sent marked skips means = absurd (false≢true s
 
 -- a mark that isn't wanted is the other one
 other_is : (operation : Operation) (marked : Bool) → is_other operation marked ≡ true → other_mark operation ≡ marked
-other_is (Read true skip) true other = absurd (false≢true other)
 other_is (Read true skip) false other = refl
 other_is (Read false skip) true other = refl
-other_is (Read false skip) false other = absurd (false≢true other)
-other_is (Write deleted) marked other = absurd (false≢true other)
+other_is _ _ other = absurd (false≢true other)
 
 -- the mark of a field whose CRC is wrong was known. A write never ends in this way
 bad_known : (operation : Operation) (past : Past) (sent : Sent) (was : Option Bool) (fdc : Fdc) → BadGoes operation past sent.key was fdc → IsSizeCode sent.key.n → Means operation past sent BadCheck

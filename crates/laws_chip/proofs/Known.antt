@@ -1,48 +1,13 @@
 -- What is known of the controller's own command for a sector, through device steps, transfers, the terminal count and
 -- port accesses.
 use Rattle.std.proofs.Common.{◌≡◌, ◌⊎◌, inl, inr, ℕ, zero, suc, ◌+◌, ◌≤◌, Bool, true, false, not, ◌&&◌, ◌==◌, if◌then◌else◌, Option, List, [], ◌∷◌, ◌++◌, refl, sym, ◌∙◌, ap, subst, arith}
-use Rattle.std.proofs.lemmas.Bool.{false≢true, and_parts, eqb-true}
-use Rattle.drive_model.specs.Drive.{DriveState, at_index}
-use Rattle.flop_base.specs.declared.key.Chrn.{Chrn}
-use Rattle.fdc_registers.specs.Fifo.{Fifo}
-use Rattle.fdc_commands.specs.Seeking.{with_polls}
-use Rattle.fdc_stages.specs.History.{Past}
-use Rattle.fdc_stages.specs.declared.ending.Ending.TheVariants.{Late}
-use Rattle.fdc_stages.specs.Writings.{is_due, is_open, opens}
-use Rattle.fdc_stages.specs.declared.writing.WriteNext.TheVariants.{On}
-use Rattle.fdc_stages.specs.declared.writing.WriteStage.{WriteStage}
+use Rattle.laws_chip.proofs.Common.{false≢true, and_parts, eqb-true, DriveState, at_index, Chrn, Fifo, with_polls, Past, Late, is_open, opens, On, WriteStage, byte_out, taken_out, taken_in, told_count, to_memory_of, phase_told, Sent, MayReadIn, MayReadTask, gave, stepped, told_in, SeesTask, SeesUnder, SeesWord, after_step, is_executing, MovesIn, MovesTask, polled, DataRate, head_of, is_listening, is_reading, mark_of_phase, Writes, dor_resets, dsr_resets, resets, rate_chosen, asks, is_gated, is_held, reset, StepsNowhere, TaskStepsNowhere, WritesNowhere, WordTime, IsTime, Saw, KeptOut, Wrote, Stopped, after_time, ending_told, mark_of, WritesIn, WritesTask, WriteDoes, after_next, MayWrite, MayWriteIn, MayWriteTask, took, Fdc, Lines, Phase, Execute, Task, ReadTask, WriteTask, Format, Writing, out_reads, told_reads, in_writes, told_writes, writes_on, AdapterState, StepsAdapter, selected_at, IsNowhere, IsTimeOf, MayMove, PassesAt, StopsAtEnd, bytes_moved, Operation, Read, Write}
+use Rattle.fdc_stages.specs.Writings.{is_due}
 use Rattle.fdc_stages.specs.declared.writing.WriteStage.TheVariants as stage
-use Rattle.fdc_core.specs.Dma.{byte_out, taken_out, taken_in, told_count, to_memory_of}
-use Rattle.fdc_phases.specs.Dma.{phase_told}
-use Rattle.fdc_phases.specs.Heard.{Sent, MayReadIn, MayReadTask, gave, stepped, told_in}
-use Rattle.fdc_core.specs.Listening.{Follows, SeesTask, SeesUnder, SeesWord, after_step, is_executing}
-use Rattle.fdc_core.specs.Steps.{MovesIn, MovesTask, polled}
-use Rattle.fdc_phases.specs.declared.rates.DataRate.{DataRate}
-use Rattle.fdc_phases.specs.Phases.{head_of, is_listening, is_reading, mark_of_phase}
-use Rattle.fdc_core.specs.Ports.{Writes, dor_resets, dsr_resets, resets}
-use Rattle.fdc_phases.specs.Rates.{rate_chosen}
-use Rattle.fdc_core.specs.State.{asks, is_gated, is_held, reset}
-use Rattle.fdc_core.specs.Tasks.{StepsNowhere, TaskStepsNowhere, WritesNowhere}
-use Rattle.fdc_core.specs.Times.{WordTime, IsTime, Saw, KeptOut, Wrote, Stopped, after_time}
-use Rattle.fdc_core.specs.Whole.{ending_told, mark_of}
-use Rattle.fdc_core.specs.Writes.{WritesIn, WritesTask}
-use Rattle.fdc_core.specs.Writing.{WriteDoes, after_next}
-use Rattle.fdc_core.specs.Written.{MayWrite}
-use Rattle.fdc_phases.specs.Written.{MayWriteIn, MayWriteTask, took}
-use Rattle.fdc_core.specs.declared.controller.Fdc.{Fdc}
-use Rattle.fdc_core.specs.declared.controller.Lines.{Lines}
-use Rattle.fdc_phases.specs.declared.phases.Phase.{Phase}
-use Rattle.fdc_phases.specs.declared.phases.Phase.TheVariants.{Command, Execute, Result as Telling}
-use Rattle.fdc_phases.specs.declared.phases.Task.{Task}
-use Rattle.fdc_phases.specs.declared.phases.Task.TheVariants.{ReadId, Read as ReadTask, Write as WriteTask, Format}
-use Rattle.fdc_phases.specs.declared.transfers.Writing.{Writing}
-use Rattle.fdc_core.proofs.MayRead.{out_reads, told_reads}
-use Rattle.fdc_core.proofs.MayWrite.{in_writes, told_writes, writes_on}
+use Rattle.fdc_core.specs.Listening.{Follows}
+use Rattle.fdc_phases.specs.declared.phases.Phase.TheVariants.{Command, Result as Telling}
+use Rattle.fdc_phases.specs.declared.phases.Task.TheVariants.{ReadId}
 use Rattle.fdc_phases.proofs.AtFirst.{rule_room}
-use Rattle.fdc_sequencer.specs.Adapters.{AdapterState, StepsAdapter, selected_at}
-use Rattle.laws_chip.specs.Serving.{IsNowhere, IsTimeOf, MayMove, PassesAt, StopsAtEnd, bytes_moved}
-use Rattle.fdc_sequencer.specs.declared.opcode.Operation.{Operation}
-use Rattle.fdc_sequencer.specs.declared.opcode.Operation.TheVariants.{Read, Write}
 use Rattle.laws_chip.proofs.Marks.{EndsBadly, MarkStays, mark_then, step_bad, step_stays}
 
 pub clash : {A : Type 0} (b : Bool) → b ≡ false → b ≡ true → A
@@ -195,10 +160,8 @@ module _ (deleted : Bool) (past : Past) (sent : Sent) (mark : Option Bool) where
   IsWriteAt rate before after new time = IsTime time rate (head_of sent.head_drive) before after × StopsAtEnd time new
 
   pub write_stops : (time : WordTime) (head_drive steps : ℕ) (writing : Writing) (old : Fdc) (before : DriveState) (new : Fdc) → WriteDoes time head_drive steps writing old before new → StopsAtEnd time new
-  write_stops (Saw index word) head_drive steps writing old before new does = tt
-  write_stops (KeptOut index word) head_drive steps writing old before new does = tt
-  write_stops (Wrote opened closed index word) head_drive steps writing old before new does = tt
   write_stops Stopped head_drive steps writing old before new does = (does.ending, ap ending_told does.after_is)
+  write_stops _ head_drive steps writing old before new does = tt
 
   write_task : (task : Task) (head_drive steps : ℕ) (asking : Bool) (fifo : Fifo) (polls : Fdc) (before after : DriveState) (new : Fdc) → WritesTask task head_drive steps asking fifo polls before after new
       → MayWriteTask past sent deleted head_drive steps task asking fifo → KnownOn (Write deleted) past sent mark (IsWriteAt polls.rate before after new) new
@@ -258,10 +221,9 @@ module _ (deleted : Bool) (past : Past) (sent : Sent) (mark : Option Bool) where
   )
 
 which_word : (now : WriteStage) → (is_due now ≡ false) ⊎ ((opens now ≡ true) ⊎ (is_open now ≡ true))
-which_word (stage.Search search) = inl refl
 which_word (stage.Gap zero) = inr (inl refl)
-which_word (stage.Gap (suc left)) = inl refl
 which_word (stage.Window window) = inr (inr refl)
+which_word _ = inl refl
 
 module _ (deleted : Bool) (past : Past) (sent : Sent) (mark : Option Bool) (before : DriveState) where
   nowhere_write : (head_drive steps : ℕ) (writing : Writing) (old new : Fdc) → WritesNowhere head_drive steps writing old new
@@ -285,10 +247,8 @@ module _ (deleted : Bool) (past : Past) (sent : Sent) (mark : Option Bool) (befo
 
   nowhere_task : (task : Task) (head_drive steps : ℕ) (old new : Fdc) → TaskStepsNowhere task head_drive steps old new
       → MayWriteTask past sent deleted head_drive steps task old.asking old.fifo → KnownOn (Write deleted) past sent mark IsNowhere new
-  nowhere_task (ReadId search) head_drive steps old new does was = absurd was
-  nowhere_task (ReadTask reading) head_drive steps old new does was = absurd was
-  nowhere_task (Format formatting) head_drive steps old new does was = absurd was
   nowhere_task (WriteTask writing) head_drive steps old new does was = nowhere_write head_drive steps writing old new does was
+  nowhere_task _ head_drive steps old new does was = absurd was
 
   nowhere_in : (phase : Phase) (old new : Fdc) → is_executing phase ≡ true → StepsNowhere phase old new → MayWriteIn past sent deleted phase old.asking old.fifo
       → KnownOn (Write deleted) past sent mark IsNowhere new
@@ -341,9 +301,8 @@ bytes_told (Write deleted) true past = refl
 bytes_told (Write deleted) false past = refl
 
 pub told_busy : (phase : Phase) → is_executing phase ≡ true → is_executing (phase_told phase) ≡ true
-told_busy Command busy = busy
 told_busy (Execute execution) busy = refl
-told_busy (Telling answer) busy = busy
+told_busy _ busy = busy
 
 pub told_on : (operation : Operation) (past : Past) (sent : Sent) (old : Fdc) → is_executing old.phase ≡ true → MayMove operation past sent old
     → MayMove operation (told_in true past) sent (told_count old)

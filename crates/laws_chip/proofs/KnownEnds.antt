@@ -1,43 +1,15 @@
 -- In a chip that isn't busy, a seek that has ended has its result in the inner controller: through all calls.
 use Rattle.std.proofs.Common.{◌≡◌, inl, inr, ℕ, zero, suc, ◌%◌, ◌<◌, Bool, true, false, not, ◌&&◌, ◌==◌, if◌then◌else◌, nat_le, Option, Some, None, option_map, [], bit_and, refl, sym, ◌∙◌, ap, subst}
-use Rattle.std.proofs.lemmas.Bool.{and_from, and_left, and_parts, and_right, eqb-true, false≢true, not-true}
-use Rattle.fdc_commands.specs.Seeking.{has_ended_seek, pulses_within, seek_bits, sensed, with_motion}
+use Rattle.laws_chip.proofs.Common.{and_from, and_left, and_parts, and_right, eqb-true, false≢true, not-true, has_ended_seek, pulses_within, seek_bits, sensed, with_motion, Outward, DriveSeek, Results, recalibrating, given, resets, IsInRange, is_held, is_idle, Fdc, after_result, without_result, Front, GivesCommand, WritesFront, interrupts_outside, is_ready, results_outside, results_taken, with_controller, StepsFront, pending_outside, recalibrated_at, recalibrated_outside, sensed_at, sensed_outside, ChipState, passes, passes_at, passes_by_channel, passes_by_port, with_front, code_of, AttendsIf, AttendsTo, MovesIf, GivesOn, Obeys, chip_configured, configuring, drained, drained_one, is_moving, moves_heads, moving, needs_heads, relative_target, Ends, EndsAt, EndsAs, MayEnd, is_over, judged, cylinder_of, is_format, GoesOnIf, Paces, PulsesIf, is_due, CollectsIf, ComesIf, GivesChipIf, GivesIf, ReadsAt, ReadsIf, TakesByte, TakesIf, WritesChip, latched_by, is_whole, may_come, reset_if, value_behind, with_next, is_by_port, step_words, Follows, FollowsTask, ChipOpcode, PacedSeek, ChipStage, Ready, Held, Busy, ChipTask, Track, Call, Does, WritesByte, is_reset, is_step, IsSound, RestsBehind}
 use Rattle.fdc_commands.specs.declared.command.Command.TheVariants as command
-use Rattle.fdc_commands.specs.declared.motion.Motion.TheVariants.{Outward}
-use Rattle.fdc_commands.specs.declared.motion.Seek.{Seek as DriveSeek}
-use Rattle.fdc_commands.specs.declared.results.Results.{Results}
-use Rattle.fdc_core.specs.Commands.{recalibrating}
-use Rattle.fdc_core.specs.Ports.{given, resets}
-use Rattle.fdc_core.specs.Ranges.{IsInRange}
-use Rattle.fdc_core.specs.State.{is_held}
-use Rattle.fdc_core.specs.Whole.{is_idle}
-use Rattle.fdc_core.specs.declared.controller.Fdc.{Fdc}
-use Rattle.fdc_sequencer.specs.AdapterSenses.{after_result, without_result}
-use Rattle.fdc_sequencer.specs.Fronts.{Front, GivesCommand, WritesFront, interrupts_outside, is_ready, results_outside, results_taken, with_controller}
-use Rattle.fdc_sequencer.specs.Moves.{StepsFront}
-use Rattle.fdc_sequencer.specs.Senses.{pending_outside, recalibrated_at, recalibrated_outside, sensed_at, sensed_outside}
-use Rattle.fdc_chip.specs.Chips.{ChipState, passes, passes_at, passes_by_channel, passes_by_port, with_front}
-use Rattle.fdc_chip.specs.Codes.{code_of}
-use Rattle.fdc_chip.specs.Doing.{AttendsIf, AttendsTo, MovesIf, GivesOn, Obeys, configured as chip_configured, configuring, drained, drained_by, drained_one, is_moving, moves_heads, moving, needs_heads, relative_target}
-use Rattle.fdc_chip.specs.Ending.{Ends, EndsAt, EndsAs, MayEnd, is_over, judged}
-use Rattle.fdc_chip.specs.Interrupts.{cylinder_of}
-use Rattle.fdc_chip.specs.Orders.{is_format}
+use Rattle.fdc_chip.specs.Doing.{drained_by}
 use Rattle.fdc_chip.specs.Paces as paces
-use Rattle.fdc_chip.specs.Paces.{GoesOnIf, Paces, PulsesIf, is_due, stepped}
-use Rattle.fdc_chip.specs.Ports.{CollectsIf, ComesIf, GivesChipIf, GivesIf, ReadsAt, ReadsIf, TakesByte, TakesIf, WritesChip, count_told, latched_by, is_whole, may_come, reset_if, value_behind, with_next}
-use Rattle.fdc_chip.specs.Settings.{is_by_port, step_words}
-use Rattle.fdc_chip.specs.Steps.{Follows, FollowsTask}
-use Rattle.fdc_chip.specs.declared.code.ChipOpcode.{ChipOpcode}
+use Rattle.fdc_chip.specs.Paces.{stepped}
+use Rattle.fdc_chip.specs.Ports.{count_told}
 use Rattle.fdc_chip.specs.declared.code.ChipOpcode.TheVariants as code
-use Rattle.fdc_chip.specs.declared.pace.PacedSeek.{PacedSeek}
-use Rattle.fdc_chip.specs.declared.stage.ChipStage.{ChipStage}
-use Rattle.fdc_chip.specs.declared.stage.ChipStage.TheVariants.{Ready, Held, Busy, Telling}
-use Rattle.fdc_chip.specs.declared.stage.ChipTask.{ChipTask}
+use Rattle.fdc_chip.specs.declared.stage.ChipStage.TheVariants.{Telling}
 use Rattle.fdc_chip.specs.declared.stage.ChipTask.TheVariants as task
-use Rattle.fdc_chip.specs.declared.stage.Track.{Track}
 use Rattle.laws_chip.specs.Calls as made
-use Rattle.laws_chip.specs.Calls.{Call, Does, WritesByte, is_reset, is_step}
-use Rattle.laws_chip.specs.Sound.{IsSound, RestsBehind}
 use Rattle.laws_chip.proofs.Attended.{free_stands}
 use Rattle.laws_chip.proofs.Channels.{front_left}
 use Rattle.laws_chip.proofs.CommandsBegun.{configured_stands}
@@ -76,9 +48,6 @@ knows_busy chip busy = record { tells = λ idle. clash (is_busy chip.stage) idle
 -- the same front, or the same seeks
 front_tells : (old new : ChipState) → new.front ≡ old.front → Tells old → Tells new
 front_tells old new is tells = subst (λ (front : Front). TellsEnd front.adapter.controller.seeks) (sym is) tells
-
-seeks_tell : (old new : Front) → new.adapter.controller.seeks ≡ old.adapter.controller.seeks → TellsEnd old.adapter.controller.seeks → TellsEnd new.adapter.controller.seeks
-seeks_tell old new is tells = subst TellsEnd (sym is) tells
 
 stands_tell : (front : Front) → Stands front → TellsEnd front.adapter.controller.seeks
 stands_tell front stands =

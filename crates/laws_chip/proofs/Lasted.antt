@@ -1,45 +1,13 @@
 -- A command of several sectors ends: an implied seek and its sectors take so many device steps, and each one leaves one
 -- fewer.
 use Rattle.std.proofs.Common.{◌≡◌, inl, inr, ℕ, ◌+◌, ◌-◌, ◌*◌, ◌<◌, ◌≤◌, Bool, true, false, not, ◌==◌, if◌then◌else◌, Option, Some, None, List, [], ◌∷◌, refl, sym, ◌∙◌, ap, subst, arith}
-use Rattle.std.proofs.lemmas.Bool.{eqb-true, false≢true, not-true, and_parts}
-use Rattle.fdc_commands.specs.Seeking.{Seeking as Seeks, has_ended_seek, is_seeking, seek_bits}
-use Rattle.fdc_commands.specs.Table.{is_begun}
-use Rattle.fdc_commands.specs.declared.results.Results.{Results}
+use Rattle.laws_chip.proofs.Common.{eqb-true, false≢true, not-true, and_parts, Seeks, has_ended_seek, is_seeking, seek_bits, is_begun, Results, SeekCommand, new_past, Ending, Done, phase_told, MayReadIn, MayReadTask, Sent, MayWriteIn, MayWriteTask, Phase, Taking, Execute, Result, Task, ReadTask, WriteTask, taken_in, taken_out, told_count, is_executing, is_taking, resets, takes_in, IsInRange, is_held, EndsIn, IsCounted, TakesWhole, ending_told, is_idle, mark_of, Fdc, Lines, AdapterState, StepsAdapter, WritesAdapter, lines_at, selected_at, BeginsSector, Front, GivesAt, ReadsSector, SeeksFirst, Starts, StartsIf, TakesAt, WritesFront, begun_if, count_told, passed_one, told_if, EndsIf, EndsSector, FollowsStep, MovesOn, SeeksOn, goes_on, has_met_other, is_unwanted, judged_if, passed_over_if, results_behind, results_failed, would_go_on, is_last, next_of, Operation, Read, Write, MovingSector, FrontStage, Through, Seeking, Moving, Telling, Transfer, AreWithin, HasByteNumbers, HasByteRecords, HasRecords, HasResults, is_under_way, most_steps, sectors_from, History, MayMove, Serves, ServesAt, nothing_moved, sent_of}
 use Rattle.fdc_commands.specs.declared.bytes.Accepted.TheVariants.{Ready}
-use Rattle.fdc_commands.specs.declared.command.Command.TheVariants.{Seek as SeekCommand}
-use Rattle.fdc_stages.specs.History.{begun as new_past}
-use Rattle.fdc_stages.specs.declared.ending.Ending.{Ending}
-use Rattle.fdc_stages.specs.declared.ending.Ending.TheVariants.{Done}
-use Rattle.fdc_phases.specs.Dma.{phase_told}
-use Rattle.fdc_phases.specs.Heard.{MayReadIn, MayReadTask, Sent}
-use Rattle.fdc_phases.specs.Written.{MayWriteIn, MayWriteTask}
-use Rattle.fdc_phases.specs.declared.phases.Phase.{Phase}
-use Rattle.fdc_phases.specs.declared.phases.Phase.TheVariants.{Command as Taking, Execute, Result}
-use Rattle.fdc_phases.specs.declared.phases.Task.{Task}
-use Rattle.fdc_phases.specs.declared.phases.Task.TheVariants.{Read as ReadTask, Write as WriteTask}
-use Rattle.fdc_core.specs.Dma.{taken_in, taken_out, told_count}
-use Rattle.fdc_core.specs.Listening.{is_executing}
-use Rattle.fdc_core.specs.Ports.{is_taking, resets, takes_in}
-use Rattle.fdc_core.specs.Ranges.{IsInRange}
-use Rattle.fdc_core.specs.State.{is_held}
-use Rattle.fdc_core.specs.Steps.{EndsIn, IsCounted, steps_left}
-use Rattle.fdc_core.specs.Whole.{TakesWhole, ending_told, is_idle, mark_of}
-use Rattle.fdc_core.specs.declared.controller.Fdc.{Fdc}
-use Rattle.fdc_core.specs.declared.controller.Lines.{Lines}
-use Rattle.fdc_sequencer.specs.Adapters.{AdapterState, StepsAdapter, WritesAdapter, lines_at, selected_at}
-use Rattle.fdc_sequencer.specs.Fronts.{BeginsSector, Front, GivesAt, ReadsSector, SeeksFirst, Starts, StartsIf, TakesAt, WritesFront, begun_if, count_told, passed_one, reset_if, told_if}
-use Rattle.fdc_sequencer.specs.Moves.{EndsIf, EndsSector, FollowsStep, MovesOn, SeeksOn, goes_on, has_met_other, is_unwanted, judged_if, passed_over_if, results_behind, results_failed, would_go_on}
-use Rattle.fdc_sequencer.specs.Transfers.{is_last, next_of}
-use Rattle.fdc_sequencer.specs.declared.opcode.Operation.{Operation}
-use Rattle.fdc_sequencer.specs.declared.opcode.Operation.TheVariants.{Read, Write}
-use Rattle.fdc_sequencer.specs.declared.stage.Moving.{Moving as MovingSector}
-use Rattle.fdc_sequencer.specs.declared.stage.FrontStage.{FrontStage}
-use Rattle.fdc_sequencer.specs.declared.stage.FrontStage.TheVariants.{Through, Seeking, Moving, Telling}
-use Rattle.fdc_sequencer.specs.declared.transfer.Transfer.{Transfer}
+use Rattle.fdc_core.specs.Steps.{steps_left}
+use Rattle.fdc_sequencer.specs.Fronts.{reset_if}
 use Rattle.laws_chip.specs.SectorCalls as call
-use Rattle.laws_chip.specs.SectorCalls.{AreWithin, Begins, Call, Does}
-use Rattle.laws_chip.specs.SectorLasting.{HasByteNumbers, HasByteRecords, HasRecords, HasResults, is_under_way, most_steps, sectors_from, steps_in, steps_of}
-use Rattle.laws_chip.specs.Serving.{History, MayMove, Serves, ServesAt, nothing_moved, sent_of}
+use Rattle.laws_chip.specs.SectorCalls.{Begins, Call, Does}
+use Rattle.laws_chip.specs.SectorLasting.{steps_in, steps_of}
 use Rattle.laws_chip.proofs.Called.{call_serves, calls_serve}
 use Rattle.laws_chip.proofs.Given.{given_starts, ignored, served_on}
 use Rattle.laws_chip.proofs.Known.{SameCommand, clash, either_way, port_same, which_drive}
@@ -58,9 +26,8 @@ adapter_ends old new steps = elim (which_drive (selected_at old)) [
 ]
 
 step_fewer : (old new : Phase) → is_executing old ≡ true → EndsIn old new → (steps_left new < steps_left old) × IsCounted new
-step_fewer Taking new busy ends = absurd (false≢true busy)
-step_fewer (Result answer) new busy ends = absurd (false≢true busy)
 step_fewer (Execute execution) new busy ends = ends
+step_fewer _ new busy ends = absurd (false≢true busy)
 
 left_most : (phase : Phase) → steps_left phase ≤ 65536
 left_most Taking = omega arith
@@ -68,9 +35,8 @@ left_most (Result answer) = omega arith
 left_most (Execute execution) = omega arith
 
 left_some : (phase : Phase) → is_executing phase ≡ true → IsCounted phase → 1 ≤ steps_left phase
-left_some Taking busy counted = absurd (false≢true busy)
-left_some (Result answer) busy counted = absurd (false≢true busy)
 left_some (Execute execution) busy counted = omega arith
+left_some _ busy counted = absurd (false≢true busy)
 
 -- as many steps are left
 record SameSteps (old new : Phase) : Type 0 where
@@ -94,9 +60,8 @@ fresh_counted (Read wanted skip) sent fdc was = by_phase fdc.phase was
     by_task _ head_drive steps was = absurd was
 
     by_phase : (phase : Phase) → MayReadIn new_past sent phase fdc.asking fdc.fifo.bytes → IsCounted phase
-    by_phase Taking was = tt
-    by_phase (Result answer) was = tt
     by_phase (Execute execution) was = by_task execution.task execution.head_drive execution.steps was
+    by_phase _ was = tt
 fresh_counted (Write deleted) sent fdc was = by_phase fdc.phase was
   where
     by_task : (task : Task) (head_drive steps : ℕ) → MayWriteTask new_past sent deleted head_drive steps task fdc.asking fdc.fifo → steps < 65536
@@ -104,9 +69,8 @@ fresh_counted (Write deleted) sent fdc was = by_phase fdc.phase was
     by_task _ head_drive steps was = absurd was
 
     by_phase : (phase : Phase) → MayWriteIn new_past sent deleted phase fdc.asking fdc.fifo → IsCounted phase
-    by_phase Taking was = tt
-    by_phase (Result answer) was = tt
     by_phase (Execute execution) was = by_task execution.task execution.head_drive execution.steps was
+    by_phase _ was = tt
 
 -- ---- so many device steps at most are left
 
@@ -437,9 +401,8 @@ command_within first start begun end calls begins bytes range are under =
 
 told_by : (stage : FrontStage) (first : Transfer) (history : History) (end : Front) → end.stage ≡ stage → ServesAt stage first history end.adapter.controller → (is_under_way stage ≡ true → ⊥) → HasResults end
 told_by Through first history end is now over = absurd now
-told_by (Seeking at counted) first history end is now over = absurd (over refl)
-told_by (Moving moving) first history end is now over = absurd (over refl)
 told_by (Telling results) first history end is now over = (results, is)
+told_by _ first history end is now over = absurd (over refl)
 
 not_both : (n m : ℕ) → n < m → m ≤ n → ⊥
 not_both n m less more = omega arith

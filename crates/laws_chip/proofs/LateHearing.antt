@@ -1,16 +1,7 @@
 -- What was heard of a track, whatever the drive's speed was when listening began.
 use Rattle.std.proofs.Common.{◌≡◌, ◌⊎◌, inl, inr, ℕ, ◌+◌, Bool, true, false, List, refl, sym, ◌∙◌, ap, subst, arith}
-use Rattle.raw_image.specs.Disk.{IsDisk}
-use Rattle.drive_model.specs.Drive.{Becomes, DriveState, at_index}
-use Rattle.fdc_stages.specs.History.{Past, heard}
-use Rattle.fdc_phases.specs.Heard.{stepped}
-use Rattle.fdc_core.specs.Listening.{SeesUnder}
-use Rattle.fdc_core.specs.Steps.{let_pass}
-use Rattle.fdc_core.specs.Drives.Hearing.{IsHearing, Outset}
-use Rattle.fdc_core.specs.Drives.Spinning.{IsSpinning, IsTurningIn, IsUnheard, led}
-use Rattle.fdc_core.proofs.drives.Late.{heard_led, longer_led, passed_by, still_unheard}
+use Rattle.laws_chip.proofs.Common.{IsDisk, Becomes, DriveState, at_index, Past, heard, stepped, SeesUnder, let_pass, IsHearing, Outset, IsSpinning, IsTurningIn, IsUnheard, led, heard_led, longer_led, passed_by, still_unheard, hearing_none, hears_none, no_index, slow_or_fast, turning_on}
 use Rattle.fdc_core.proofs.drives.Passing.{hearing_on}
-use Rattle.fdc_core.proofs.drives.Spinning.{hearing_none, hears_none, no_index, slow_or_fast, turning_on}
 
 -- first so many words 0000 were heard. Then the medium still spins up, or it is at speed, and what was heard after
 -- those words is of the track

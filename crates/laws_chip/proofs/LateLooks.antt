@@ -1,26 +1,7 @@
 -- What was given, and what wasn't found, after words 0000.
 use Rattle.std.proofs.Common.{◌≡◌, inl, inr, ℕ, ◌+◌, ◌-◌, ◌*◌, ◌<◌, ◌≤◌, Bool, List, [], ◌∷◌, ◌++◌, length, get_or, replicate, slice_index, refl, sym, ◌∙◌, ap, subst, arith}
-use Rattle.std.proofs.Math.ListN.{get_or-append}
-use Rattle.std.proofs.lemmas.Bool.{cases_lt}
-use Rattle.std.proofs.lemmas.List.{get_or-append_right, get_or-replicate, length-replicate}
-use Rattle.flop_base.specs.declared.key.Chrn.{Chrn}
-use Rattle.track_model.specs.declared.Look.TheVariants.{BadCrc, NoData}
+use Rattle.laws_chip.proofs.Common.{get_or-append, cases_lt, get_or-append_right, get_or-replicate, length-replicate, Chrn, BadCrc, NoData, IsAddressAt, HasDataField, IsFirstDataMark, IsIntact, LookAt, IsPart, FindsBadCheck, FindsNoField, IsWithoutData, Past, IsToldFrom, IsToldOf, IsBetween, AreOfField, IsHeardWhole, led, turn_led, turns_led, data_field_on, data_mark_back, data_mark_on, intact_on, whole_back, few_led, length_front, turn_of_led, address_in, shifted_bytes_at, FindsField}
 use Rattle.track_model.specs.Bytes.{bytes_at}
-use Rattle.track_model.specs.Fields.{IsAddressAt}
-use Rattle.track_model.specs.Looks.{HasDataField, IsFirstDataMark, IsIntact, LookAt}
-use Rattle.track_separator.specs.Parts.{IsPart}
-use Rattle.fdc_stages.specs.Findings.{FindsBadCheck, FindsNoField, IsWithoutData}
-use Rattle.fdc_stages.specs.History.{Past}
-use Rattle.fdc_stages.specs.Readings.{IsToldFrom, IsToldOf}
-use Rattle.fdc_stages.specs.Searches.{IsBetween}
-use Rattle.fdc_core.specs.Meaning.{AreOfField}
-use Rattle.fdc_core.specs.Drives.Heard.{IsHeardWhole}
-use Rattle.fdc_core.specs.Drives.Spinning.{led, turn_led, turns_led}
-use Rattle.fdc_core.proofs.drives.Fields.{data_field_on, data_mark_back, data_mark_on, intact_on, whole_back}
-use Rattle.fdc_core.proofs.drives.Late.{few_led, length_front, turn_of_led}
-use Rattle.fdc_core.proofs.drives.LateFields.{address_in}
-use Rattle.fdc_core.proofs.drives.Shifted.{shifted_bytes_at}
-use Rattle.laws_chip.specs.Serving.{FindsField}
 
 -- ---- ---- words after words 0000
 

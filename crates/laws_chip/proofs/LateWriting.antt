@@ -1,31 +1,8 @@
 -- What was written of a window, whatever the drive's speed was when the search for its sector began.
 use Rattle.std.proofs.Common.{◌≡◌, ◌⊎◌, inl, inr, ℕ, zero, suc, ◌+◌, ◌≤◌, Bool, true, false, List, [], length, refl, sym, ◌∙◌, ap, subst, arith}
-use Rattle.std.proofs.lemmas.Bool.{false_from_ne_true, false≢true}
-use Rattle.raw_image.specs.Disk.{IsDisk}
-use Rattle.track_separator.specs.Parts.{with_word}
+use Rattle.laws_chip.proofs.Common.{false_from_ne_true, false≢true, IsDisk, with_word, DriveState, is_protected, rate_of, Past, heard, turns_after, wrote, Sent, stepped, rate_fits, IsWritingOn, Writing, is_executing, let_pass, WordTime, Saw, KeptOut, Wrote, Stopped, IsTime, after_time, WriteDoes, MayWrite, Fdc, IsRecorded, Outset, IsSpinning, IsTurningIn, IsUnheard, led, unheard, IsAtDrive, IsAtWindow, few_led, longer_led, passed_by, still_unheard, time_led, address_in, hearing_none, hears_none, spins_on, slow_or_fast, turning_on, drive_less, rests_on, saw_on, still_unprotected, stopped_on, wrote_on, heard_met, KeepsSpeed, StaysPut}
 use Rattle.drive_model.proofs.Passing.{becomes_at}
-use Rattle.drive_model.specs.Drive.{DriveState, is_protected, rate_of}
-use Rattle.fdc_stages.specs.History.{Past, heard, turns_after, wrote}
 use Rattle.fdc_stages.specs.Writings.{is_due}
-use Rattle.fdc_phases.specs.Heard.{Sent, stepped}
-use Rattle.fdc_phases.specs.Rates.{rate_fits}
-use Rattle.fdc_phases.specs.Written.{IsWritingOn}
-use Rattle.fdc_phases.specs.declared.transfers.Writing.{Writing}
-use Rattle.fdc_core.specs.Listening.{is_executing}
-use Rattle.fdc_core.specs.Steps.{let_pass}
-use Rattle.fdc_core.specs.Times.{WordTime, Saw, KeptOut, Wrote, Stopped, IsTime, after_time}
-use Rattle.fdc_core.specs.Writing.{WriteDoes}
-use Rattle.fdc_core.specs.Written.{MayWrite}
-use Rattle.fdc_core.specs.declared.controller.Fdc.{Fdc}
-use Rattle.fdc_core.specs.Drives.Hearing.{IsRecorded, Outset}
-use Rattle.fdc_core.specs.Drives.Spinning.{IsSpinning, IsTurningIn, IsUnheard, led, unheard}
-use Rattle.fdc_core.specs.Drives.Writing.{IsAtDrive, IsAtWindow}
-use Rattle.fdc_core.proofs.drives.Late.{few_led, longer_led, passed_by, still_unheard, time_led}
-use Rattle.fdc_core.proofs.drives.LateFields.{address_in}
-use Rattle.fdc_core.proofs.drives.Spinning.{hearing_none, hears_none, no_index as spins_on, slow_or_fast, turning_on}
-use Rattle.fdc_core.proofs.drives.Writing.{drive_less, rests_on, saw_on, still_unprotected, stopped_on, wrote_on}
-use Rattle.fdc_core.proofs.drives.WritingWords.{heard_met}
-use Rattle.laws_chip.specs.Written.{KeepsSpeed, StaysPut}
 use Rattle.laws_chip.proofs.WriteStages.{IsDueNow, IsInExecution, due_now, due_words, ended_rests, in_execution, is_stopped, no_index, opens_due}
 
 -- first so many words 0000 were heard, over a medium that isn't protected if there was such a word. Then the medium

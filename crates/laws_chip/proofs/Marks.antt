@@ -1,36 +1,17 @@
 -- The mark of a field that is read. None is known as the command begins. Once the mark is met it stays. Before that no
 -- byte passed.
 use Rattle.std.proofs.Common.{◌≡◌, ◌⊎◌, inl, inr, ℕ, ◌+◌, ◌≤◌, Bool, true, false, ◌==◌, if◌then◌else◌, Option, Some, None, List, [], ◌∷◌, ◌++◌, length, refl, sym, ◌∙◌, ap, subst, arith, length-append}
-use Rattle.std.proofs.lemmas.Bool.{false≢true}
-use Rattle.std.proofs.lemmas.List.{nil_from_length}
-use Rattle.flop_base.specs.declared.key.Chrn.{Chrn}
+use Rattle.laws_chip.proofs.Common.{false≢true, nil_from_length, Chrn, IsSizeCode, content_size, Past, new_past, heard, HasHeard, HasMark, IsOver, IsReading, KeepsMark, ReadOutcome, mark_at, Ending, Done, NoMark, NoSector, NoField, BadCheck, Overrun, NoCount, Late, phase_told, MayReadIn, MayReadTask, Sent, stepped, ExecutesTask, is_executing, ending_over, is_listening, ending_of_phase, mark_in, mark_of_phase, after_heard, at_stage, gone_on_reading, is_full, over_or_on, pushed, finished, ending_told, Long, Fdc, Phase, Execute, Reading, Task, Format, same_stage, starts, starts_given, FindsBadField}
 use Rattle.track_model.proofs.Sizes.{content_size_least}
-use Rattle.track_model.specs.Fields.{IsSizeCode, content_size}
 use Rattle.track_separator.proofs.Lawful.{reads_within}
 use Rattle.fdc_stages.proofs.Lawful.{over_full}
-use Rattle.fdc_stages.specs.History.{Past, begun as new_past, heard}
-use Rattle.fdc_stages.specs.Readings.{FailsWell, HasHeard, HasMark, IsFailure, IsOver, IsReading, KeepsMark, ReadOutcome, mark_at}
+use Rattle.fdc_stages.specs.Readings.{FailsWell, IsFailure}
 use Rattle.fdc_stages.specs.Readings as given
-use Rattle.fdc_stages.specs.declared.ending.Ending.{Ending}
-use Rattle.fdc_stages.specs.declared.ending.Ending.TheVariants.{Done, NoMark, NoSector, NoField, BadCheck, Overrun, NoCount, Late}
 use Rattle.fdc_stages.specs.declared.reading.ReadStage.{ReadStage}
-use Rattle.fdc_stages.specs.declared.reading.ReadStage.TheVariants.{Search, Wait, Content, Over}
-use Rattle.fdc_phases.specs.Dma.{phase_told}
-use Rattle.fdc_phases.specs.Heard.{MayReadIn, MayReadTask, Sent, stepped}
-use Rattle.fdc_core.specs.Listening.{ExecutesTask, Follows, is_executing}
-use Rattle.fdc_phases.specs.Phases.{ending_over, is_listening, ending_of_phase, mark_in, mark_of_phase}
-use Rattle.fdc_core.specs.Reading.{after_heard, at_stage, gone_on_reading, is_full, over_or_on, pushed}
-use Rattle.fdc_core.specs.State.{finished}
-use Rattle.fdc_core.specs.Whole.{ending_told}
-use Rattle.fdc_phases.specs.declared.answers.Answer.TheVariants.{Short, Long}
-use Rattle.fdc_core.specs.declared.controller.Fdc.{Fdc}
-use Rattle.fdc_phases.specs.declared.phases.Phase.{Phase}
-use Rattle.fdc_phases.specs.declared.phases.Phase.TheVariants.{Command, Execute, Result as Telling}
-use Rattle.fdc_phases.specs.declared.transfers.Reading.{Reading}
-use Rattle.fdc_phases.specs.declared.phases.Task.{Task}
-use Rattle.fdc_phases.specs.declared.phases.Task.TheVariants.{ReadId, Read, Write, Format}
-use Rattle.fdc_core.proofs.MayRead.{same_stage, starts, starts_given}
-use Rattle.laws_chip.specs.Serving.{FindsBadField}
+use Rattle.fdc_stages.specs.declared.reading.ReadStage.TheVariants.{Content, Over}
+use Rattle.fdc_core.specs.Listening.{Follows}
+use Rattle.fdc_phases.specs.declared.phases.Phase.TheVariants.{Command, Result as Telling}
+use Rattle.fdc_phases.specs.declared.phases.Task.TheVariants.{ReadId, Read, Write}
 
 -- ---- as the command goes on, and as it ends
 
@@ -41,39 +22,32 @@ mark_then was (Telling (Long (Done marked) results read)) = Some marked
 mark_then was _ = was
 
 pub then_busy : (was : Option Bool) (phase : Phase) → is_executing phase ≡ true → mark_then was phase ≡ mark_of_phase phase
-then_busy was Command busy = absurd (false≢true busy)
 then_busy was (Execute execution) busy = refl
-then_busy was (Telling answer) busy = absurd (false≢true busy)
+then_busy was _ busy = absurd (false≢true busy)
 
 pub then_done : (was : Option Bool) (phase : Phase) (marked : Bool) → ending_of_phase phase ≡ Some (Done marked) → mark_then was phase ≡ Some marked
-then_done was Command marked is = absurd (cc is)
-then_done was (Execute execution) marked is = absurd (cc is)
-then_done was (Telling (Short next last)) marked is = absurd (cc is)
 then_done was (Telling (Long ending results read)) marked is = let same : ending ≡ Done marked = cc is in ap (λ e. mark_then was (Telling (Long e results read))) same
+then_done was _ marked is = absurd (cc is)
 
 pub then_bad : (was : Option Bool) (phase : Phase) → ending_of_phase phase ≡ Some BadCheck → mark_then was phase ≡ was
-then_bad was Command is = absurd (cc is)
-then_bad was (Execute execution) is = absurd (cc is)
-then_bad was (Telling (Short next last)) is = absurd (cc is)
 then_bad was (Telling (Long ending results read)) is = let same : ending ≡ BadCheck = cc is in ap (λ e. mark_then was (Telling (Long e results read))) same
+then_bad was _ is = absurd (cc is)
 
 -- ---- ---- the mark stays
 
 over_stays : (good counted empty marked m : Bool) (head_drive steps : ℕ) (reading : Reading) (fdc : Fdc) → mark_at reading.stage ≡ Some m → marked ≡ m
     → mark_then (Some m) (over_or_on (Some (ending_over good counted marked)) empty head_drive steps reading fdc).phase ≡ Some m
 over_stays true true true marked m head_drive steps reading fdc is same = ap (λ b. Some b) same
-over_stays true false true marked m head_drive steps reading fdc is same = refl
-over_stays false counted true marked m head_drive steps reading fdc is same = refl
 over_stays good counted false marked m head_drive steps reading fdc is same = is
+over_stays _ _ true marked m head_drive steps reading fdc is same = refl
 
 goes_on_stays : (head_drive steps : ℕ) (reading : Reading) (stage : ReadStage) (m : Bool) (fdc : Fdc) → mark_at stage ≡ Some m
     → mark_then (Some m) (gone_on_reading head_drive steps (at_stage reading stage) fdc).phase ≡ Some m
-goes_on_stays head_drive steps reading (Search search) m fdc is = absurd (cc is)
-goes_on_stays head_drive steps reading (Wait separator) m fdc is = absurd (cc is)
 goes_on_stays head_drive steps reading (Content separator marked) m fdc is = is
 goes_on_stays head_drive steps reading (Over marked good) m fdc is =
     let same : marked ≡ m = cc is in
     over_stays good reading.counted (length fdc.fifo.bytes == 0) marked m head_drive steps (at_stage reading (Over marked good)) fdc is same
+goes_on_stays head_drive steps reading _ m fdc is = absurd (cc is)
 
 failure_stays : (ending : Ending) (m : Bool) (head_drive : ℕ) (key : Chrn) (fdc : Fdc) → IsFailure ending → mark_then (Some m) (finished ending head_drive key fdc).phase ≡ Some m
 failure_stays NoMark m head_drive key fdc is = refl
@@ -94,18 +68,16 @@ heard_stays head_drive steps reading m fdc (given.Byte stage value) has well = b
 heard_stays head_drive steps reading m fdc (given.Ended ending) has well = failure_stays ending m head_drive reading.wanted.key fdc well
 
 has_mark : (stage : ReadStage) (m : Bool) (after : ReadOutcome) → mark_at stage ≡ Some m → KeepsMark stage after → HasMark m after
-has_mark (Search search) m after is keeps = absurd (cc is)
-has_mark (Wait separator) m after is keeps = absurd (cc is)
 has_mark (Content separator marked) m after is keeps = let same : marked ≡ m = cc is in subst (λ b. HasMark b after) same keeps
 has_mark (Over marked good) m after is keeps = let same : marked ≡ m = cc is in subst (λ b. HasMark b after) same keeps
+has_mark _ m after is keeps = absurd (cc is)
 
 -- ---- ---- before the mark no byte passed
 
 none_told : (past : Past) (key : Chrn) (told : List ℕ) (stage : ReadStage) → mark_at stage ≡ None → IsReading past key told stage → told ≡ []
-none_told past key told (Search search) none was = was.1
-none_told past key told (Wait separator) none was = was.1
 none_told past key told (Content separator marked) none was = absurd (cc none)
 none_told past key told (Over marked good) none was = absurd (cc none)
+none_told past key told _ none was = was.1
 
 none_given : (given told : List ℕ) → told ≡ [] → ((rest : List ℕ) × (told ≡ given ++ rest)) → given ≡ []
 none_given given told none (rest, is) =
@@ -126,11 +98,9 @@ over_bad good counted false marked head_drive steps reading fdc is = let none : 
 -- the command ends with a wrong CRC only at a field that is over and isn't whole
 bad_on : (head_drive steps : ℕ) (reading : Reading) (stage : ReadStage) (fdc : Fdc) → ending_told (gone_on_reading head_drive steps (at_stage reading stage) fdc) ≡ Some BadCheck
     → (marked : Bool) × (stage ≡ Over marked false)
-bad_on head_drive steps reading (Search search) fdc is = let none : None ≡ Some BadCheck = is in absurd (cc none)
-bad_on head_drive steps reading (Wait separator) fdc is = let none : None ≡ Some BadCheck = is in absurd (cc none)
-bad_on head_drive steps reading (Content separator marked) fdc is = let none : None ≡ Some BadCheck = is in absurd (cc none)
 bad_on head_drive steps reading (Over marked good) fdc is =
     (marked, ap (λ whole. Over marked whole) (over_bad good reading.counted (length fdc.fifo.bytes == 0) marked head_drive steps (at_stage reading (Over marked good)) fdc is))
+bad_on head_drive steps reading _ fdc is = let none : None ≡ Some BadCheck = is in absurd (cc none)
 
 -- the word gave at most one more byte of the field. A mark that was met is the field's own
 record IsBadOver (past : Past) (key : Chrn) (told : List ℕ) (after : ReadOutcome) : Type 0 where
@@ -184,10 +154,9 @@ early past key told after sized none bad =
 
 met_mark : (past later : Past) (key : Chrn) (told : List ℕ) (stage : ReadStage) (after : ReadOutcome) → IsSizeCode key.n → IsReading past key told stage → KeepsMark stage after
     → (bad : IsBadOver later key told after) → mark_at stage ≡ Some bad.marked
-met_mark past later key told (Search search) after sized was keeps bad = absurd (early later key told after sized was.1 bad)
-met_mark past later key told (Wait separator) after sized was keeps bad = absurd (early later key told after sized was.1 bad)
 met_mark past later key told (Content separator met) after sized was keeps bad = ap (λ b. Some b) (bad.own met keeps)
 met_mark past later key told (Over met good) after sized was keeps bad = ap (λ b. Some b) (bad.own met keeps)
+met_mark past later key told _ after sized was keeps bad = absurd (early later key told after sized was.1 bad)
 
 bad_field : (past : Past) (key : Chrn) (told : List ℕ) (marked : Bool) → IsSizeCode key.n → IsOver past key told marked false → FindsBadField past key marked
 bad_field past key told marked sized (turn, among, (p, q, over)) = (
@@ -255,10 +224,8 @@ module _ (past : Past) (sent : Sent) (index : Bool) (word : ℕ) (polls new : Fd
 
   bad_task : (head_drive steps : ℕ) (task : Task) (asking : Bool) (fifo : List ℕ) → ExecutesTask (is_listening task) head_drive steps task index word polls new
       → MayReadTask past sent head_drive steps task asking fifo → EndsBadly (heard index word (stepped past)) sent.key (mark_in task) new
-  bad_task head_drive steps (ReadId search) asking fifo executes was = absurd was
-  bad_task head_drive steps (Write writing) asking fifo executes was = absurd was
-  bad_task head_drive steps (Format formatting) asking fifo executes was = absurd was
   bad_task head_drive steps (Read reading) asking fifo executes was = known_bad head_drive steps reading asking fifo executes was
+  bad_task head_drive steps _ asking fifo executes was = absurd was
 
   pub step_bad : (phase : Phase) (old : Fdc) → is_executing phase ≡ true → Follows phase polls index word old new → MayReadIn past sent phase old.asking old.fifo.bytes
       → EndsBadly (heard index word (stepped past)) sent.key (mark_of_phase phase) new
@@ -275,15 +242,12 @@ task_mark head_drive steps (Write writing) = refl
 task_mark head_drive steps (Format formatting) = refl
 
 pub told_mark : (phase : Phase) → mark_of_phase (phase_told phase) ≡ mark_of_phase phase
-told_mark Command = refl
-told_mark (Telling answer) = refl
 told_mark (Execute execution) = task_mark execution.head_drive execution.steps execution.task
+told_mark _ = refl
 
 -- ---- as the command begins
 
 fresh_stage : (key : Chrn) (told : List ℕ) (stage : ReadStage) → IsReading new_past key told stage → mark_at stage ≡ None
-fresh_stage key told (Search search) was = refl
-fresh_stage key told (Wait separator) was = refl
 fresh_stage key told (Content separator marked) (p, q, taken, was) =
     let within = reads_within separator [] p q marked (content_size key.n) taken was.reads in absurd (omega arith)
 fresh_stage key told (Over marked good) (turn, inl none, (p, q, over)) =
@@ -291,6 +255,7 @@ fresh_stage key told (Over marked good) (turn, inl none, (p, q, over)) =
     let no_words = ap length none in
     absurd (omega arith)
 fresh_stage key told (Over marked good) (turn, inr among, over) = absurd among
+fresh_stage key told _ was = refl
 
 pub fresh_mark : (sent : Sent) (phase : Phase) (asking : Bool) (fifo : List ℕ) → MayReadIn new_past sent phase asking fifo → mark_of_phase phase ≡ None
 fresh_mark sent Command asking fifo was = refl

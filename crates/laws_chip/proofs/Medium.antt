@@ -1,57 +1,14 @@
 -- What a read gathers while a medium stays in.
 use Rattle.std.proofs.Common.{◌≡◌, ◌⊎◌, inl, inr, ℕ, zero, suc, ◌+◌, ◌-◌, ◌*◌, ◌<◌, ◌≤◌, ◌==◌, Bool, true, false, Option, Some, None, List, [], ◌∷◌, ◌++◌, length, if◌then◌else◌, refl, sym, ◌∙◌, ap, subst, arith}
-use Rattle.std.proofs.lemmas.Bool.{eqb-true}
-use Rattle.flop_base.specs.declared.key.Chrn.{Chrn}
-use Rattle.raw_image.specs.Disk.{IsDisk}
+use Rattle.laws_chip.proofs.Common.{eqb-true, Chrn, IsDisk, BadCrc, NoData, content_at, content_size, HasAddressMark, HasDataField, IsIntact, HasNoClear, IsBetween, last_count, DriveState, Past, new_past, heard, FindsBadCheck, FindsNoField, FindsSector, Ending, Done, Results, gave, stepped, told_in, head_of, took, taken_in, taken_out, is_executing, resets, Closes, WordTime, Saw, IsTime, after_time, ending_told, given_up, mark_of, without_seek, Fdc, has_ended_seek, AdapterState, WritesAdapter, drive_at, selected_at, FollowsDor, FollowsWrite, IsHeardFrom, IsWholeFrom, Outset, IsTurningIn, IsUnheard, led, address_heard, data_mark_heard, field_heard, whole_shifted, led_none, found_late, shifted_bytes_at, AreOfField, PassesOfSector, between_is, turn_heard, Front, GivesAt, TakesAt, WritesFront, begun_if, count_told, moving_of, passed_one, with_controller, EndsIf, EndsSector, FollowsStep, MovesOn, SeeksOn, goes_on, has_met_other, is_unwanted, judged_if, passed_over_if, results_behind, results_failed, next_of, Read, MovingSector, FrontStage, Through, Seeking, Moving, Telling, Transfer, AreWithin, Changes, Counts, Gather, Gives, Grows, Steps, Takes, AreOnMedium, BeginsOnTrack, HasMarkOnTrack, HasOnTrack, IsAt, IsAtWhile, IsClean, IsOnMedium, IsReadFrom, StaysIn, TurnsOn, TurnsOnIn, track_under, AreMoved, FindsField, History, IsMoved, IsOfSector, IsTimeOf, Part, Passes, PassesAt, Serves, ServesAt, history_counted, history_ended, history_given, history_moved, history_passed, history_sought, history_stepped, history_taken, nothing_moved, sector_after, sent_of}
 use Rattle.sector_map.specs.Met.{HasLook}
-use Rattle.track_model.specs.declared.Look.TheVariants.{BadCrc, NoData}
-use Rattle.track_model.specs.Fields.{content_at, content_size}
-use Rattle.track_model.specs.Looks.{HasAddressMark, HasDataField, IsIntact}
-use Rattle.fdc_stages.specs.Searches.{HasNoClear, IsBetween}
-use Rattle.flop_base.specs.Counts.{last_count}
-use Rattle.drive_model.specs.Drive.{DriveState}
-use Rattle.fdc_stages.specs.History.{Past, begun as new_past, heard}
-use Rattle.fdc_stages.specs.Findings.{FindsBadCheck, FindsNoField, FindsSector}
-use Rattle.fdc_stages.specs.declared.ending.Ending.{Ending}
-use Rattle.fdc_stages.specs.declared.ending.Ending.TheVariants.{Done}
-use Rattle.fdc_commands.specs.declared.results.Results.{Results}
-use Rattle.fdc_phases.specs.Heard.{gave, stepped, told_in}
-use Rattle.fdc_phases.specs.Phases.{head_of}
-use Rattle.fdc_phases.specs.Written.{took}
-use Rattle.fdc_core.specs.Dma.{taken_in, taken_out}
-use Rattle.fdc_core.specs.Listening.{is_executing}
-use Rattle.fdc_core.specs.Ports.{resets}
-use Rattle.fdc_core.specs.Times.{Closes, WordTime, Saw, KeptOut, Wrote, Stopped, IsTime, after_time}
-use Rattle.fdc_core.specs.Whole.{ending_told, given_up, mark_of, without_seek}
-use Rattle.fdc_core.specs.declared.controller.Fdc.{Fdc}
-use Rattle.fdc_commands.specs.Seeking.{has_ended_seek}
-use Rattle.fdc_sequencer.specs.Adapters.{AdapterState, WritesAdapter, drive_at, selected_at}
-use Rattle.fdc_core.specs.Drives.Following.{FollowsDor, FollowsWrite}
-use Rattle.fdc_core.specs.Drives.Heard.{IsHeardFrom, IsWholeFrom}
-use Rattle.fdc_core.specs.Drives.Hearing.{Outset}
-use Rattle.fdc_core.specs.Drives.Spinning.{IsTurningIn, IsUnheard, led}
-use Rattle.fdc_core.proofs.drives.Fields.{address_heard, data_mark_heard, field_heard, whole_shifted}
-use Rattle.fdc_core.proofs.drives.Late.{led_none}
-use Rattle.fdc_core.proofs.drives.LateFields.{found_late}
 use Rattle.laws_chip.proofs.Given.{ignored}
 use Rattle.laws_chip.proofs.LateHearing.{IsHearingLed, hearing_first, hearing_led, hearing_led_bytes}
 use Rattle.laws_chip.proofs.LateLooks.{bad_check_late, between_late, field_late, no_field_late, of_field_late}
 use Rattle.fdc_core.proofs.drives.Looks.{bad_met, no_field_met}
-use Rattle.fdc_core.proofs.drives.Shifted.{shifted_bytes_at}
-use Rattle.fdc_core.specs.Meaning.{AreOfField}
-use Rattle.laws_chip.specs.Outcomes.{PassesOfSector}
-use Rattle.fdc_core.proofs.drives.Turns.{between_is, turn_heard}
-use Rattle.fdc_sequencer.specs.Fronts.{Front, GivesAt, TakesAt, WritesFront, begun_if, count_told, moving_of, passed_one, reset_if, with_controller}
-use Rattle.fdc_sequencer.specs.Moves.{EndsIf, EndsSector, FollowsStep, MovesOn, SeeksOn, goes_on, has_met_other, is_unwanted, judged_if, passed_over_if, results_behind, results_failed}
-use Rattle.fdc_sequencer.specs.Transfers.{next_of}
-use Rattle.fdc_sequencer.specs.declared.opcode.Operation.TheVariants.{Read}
-use Rattle.fdc_sequencer.specs.declared.stage.Moving.{Moving as MovingSector}
-use Rattle.fdc_sequencer.specs.declared.stage.FrontStage.{FrontStage}
-use Rattle.fdc_sequencer.specs.declared.stage.FrontStage.TheVariants.{Through, Seeking, Moving, Telling}
-use Rattle.fdc_sequencer.specs.declared.transfer.Transfer.{Transfer}
-use Rattle.laws_chip.specs.SectorCalls.{AreWithin, Call, Changes, Counts, Does, Gather, Gives, Grows, Steps, Takes, Writes}
-use Rattle.laws_chip.specs.Media.{AreOnMedium, BeginsOnTrack, HasMarkOnTrack, HasOnTrack, IsAt, IsAtWhile, IsClean, IsOnMedium, IsReadFrom, Place, StaysIn, TurnsOn, TurnsOnIn, track_under}
-use Rattle.laws_chip.specs.Serving.{AreMoved, FindsField, History, IsMoved, IsOfSector, IsTimeOf, Part, Passes, PassesAt, Serves, ServesAt, history_counted, history_ended, history_given, history_moved, history_passed, history_sought, history_stepped, history_taken, nothing_moved, sector_after, sent_of}
+use Rattle.fdc_sequencer.specs.Fronts.{reset_if}
+use Rattle.laws_chip.specs.SectorCalls.{Call, Does, Writes}
+use Rattle.laws_chip.specs.Media.{Place}
 use Rattle.laws_chip.proofs.Courses.{sector_more, sector_opcode}
 
 -- ---- what was heard is of the track
@@ -277,9 +234,7 @@ time_hears wanted skip place at past (Saw index word) before after valid reads i
       subst (λ i. IsHearingLed outset (heard i word (stepped past)) after) (sym is.index_is) (hearing_led outset past before after word valid was is.sees is.passes),
       began,
     )
-time_hears wanted skip place at past (KeptOut index word) before after valid reads is was = absurd reads
-time_hears wanted skip place at past (Wrote opened closed index word) before after valid reads is was = absurd reads
-time_hears wanted skip place at past Stopped before after valid reads is was = absurd reads
+time_hears wanted skip place at past _ before after valid reads is was = absurd reads
 
 -- ---- one call
 

@@ -1,19 +1,10 @@
 -- A chip that is busy, through calls that are no device steps and don't reset: it stays at its task, and keeps its order.
 -- The call is one of the inner controller, or none.
 use Rattle.std.proofs.Common.{◌≡◌, ℕ, Bool, true, false, ◌==◌, Option, refl, sym, ◌∙◌, ap, subst}
-use Rattle.std.proofs.lemmas.Bool.{eqb-true, false≢true}
-use Rattle.fdc_core.specs.Ports.{resets}
-use Rattle.fdc_sequencer.specs.Fronts.{Front, GivesFront, KeepsFront, TakesFront, WritesFront, told_front}
-use Rattle.fdc_chip.specs.Chips.{ChipState, is_data, passes_by_channel, passes_by_port, with_front}
-use Rattle.fdc_chip.specs.Ports.{GivesChipIf, GivesIf, ReadsAt, ReadsIf, TakesByte, TakesIf, WritesChip, count_told, counted_if, latched_by, given_one, reset_if, value_behind}
-use Rattle.fdc_chip.specs.declared.stage.ChipStage.{ChipStage}
-use Rattle.fdc_chip.specs.declared.stage.ChipStage.TheVariants.{Busy}
-use Rattle.fdc_chip.specs.declared.stage.ChipTask.{ChipTask}
+use Rattle.laws_chip.proofs.Common.{eqb-true, false≢true, resets, Front, GivesFront, KeepsFront, TakesFront, WritesFront, told_front, ChipState, is_data, passes_by_channel, passes_by_port, with_front, GivesChipIf, GivesIf, ReadsAt, ReadsIf, TakesByte, TakesIf, WritesChip, counted_if, latched_by, given_one, reset_if, value_behind, ChipStage, Busy, ChipTask, Track, has_command, Call, Does, is_reset, is_step}
+use Rattle.fdc_chip.specs.Ports.{count_told}
 use Rattle.fdc_chip.specs.declared.stage.ChipTask.TheVariants as task
-use Rattle.fdc_chip.specs.declared.stage.Track.{Track}
-use Rattle.laws_chip.specs.Bounds.{has_command}
 use Rattle.laws_chip.specs.Calls as made
-use Rattle.laws_chip.specs.Calls.{Call, Does, is_reset, is_step}
 use Rattle.laws_chip.proofs.PassedOn.{other_read}
 use Rattle.laws_chip.proofs.UnderWay.{either_way}
 

@@ -1,27 +1,7 @@
 -- What the results of a command that is served say.
 use Rattle.std.proofs.Common.{◌≡◌, ◌⊎◌, inl, inr, ℕ, ◌+◌, ◌≤◌, Bool, true, false, not, ◌&&◌, ◌||◌, if◌then◌else◌, Option, Some, List, [], length, refl, sym, ◌∙◌, ap, subst, arith, length-append}
-use Rattle.std.proofs.lemmas.Bool.{false≢true, not-false}
-use Rattle.flop_base.specs.declared.key.Chrn.{Chrn}
-use Rattle.track_model.specs.Fields.{content_size}
-use Rattle.fdc_stages.specs.History.{Past, begun as new_past}
-use Rattle.fdc_stages.specs.Findings.{FindsSector}
-use Rattle.fdc_stages.specs.declared.ending.Ending.{Ending}
-use Rattle.fdc_stages.specs.declared.ending.Ending.TheVariants.{Done, BadCheck, NoCount}
-use Rattle.fdc_commands.specs.declared.results.Results.{Results}
-use Rattle.fdc_phases.specs.Heard.{Sent}
-use Rattle.fdc_phases.specs.Written.{IsContent}
-use Rattle.fdc_core.specs.declared.controller.Fdc.{Fdc}
-use Rattle.fdc_sequencer.specs.Fronts.{Front}
-use Rattle.fdc_sequencer.specs.Moves.{goes_on, has_failed_other, has_met_other, is_bad_other, results_behind, results_failed, would_go_on}
-use Rattle.laws_chip.specs.Outcomes.{EndsSo, HasField, IsFailure, IsFieldWith, IsJudged, IsMovedBut, PassedWhole, PassesOfSector, ResultsSay, StopsBehind, TellsOther}
-use Rattle.laws_chip.specs.Serving.{Accounts, AreLeft, Ends, History, IsFieldDone, IsLastOne, IsMarkOf, IsMoved, IsOfSector, Means, MeansJudged, Part, Serves, ServesAt, bytes_moved, has_other, results_ended, sector_after, sent_of}
-use Rattle.fdc_sequencer.specs.Transfers.{is_last, is_other, is_skipping, next_of, results_told}
-use Rattle.fdc_sequencer.specs.declared.opcode.Operation.{Operation}
-use Rattle.fdc_sequencer.specs.declared.opcode.Operation.TheVariants.{Read, Write}
-use Rattle.fdc_sequencer.specs.declared.stage.Moving.{Moving as MovingSector}
-use Rattle.fdc_sequencer.specs.declared.stage.FrontStage.{FrontStage}
-use Rattle.fdc_sequencer.specs.declared.stage.FrontStage.TheVariants.{Through, Seeking, Moving, Telling}
-use Rattle.fdc_sequencer.specs.declared.transfer.Transfer.{Transfer}
+use Rattle.laws_chip.proofs.Common.{false≢true, not-false, Chrn, content_size, Past, new_past, FindsSector, Ending, Done, BadCheck, NoCount, Results, Sent, IsContent, Fdc, Front, goes_on, has_failed_other, has_met_other, is_bad_other, results_behind, results_failed, would_go_on, EndsSo, HasField, IsFailure, IsFieldWith, IsJudged, IsMovedBut, PassedWhole, PassesOfSector, ResultsSay, StopsBehind, TellsOther, Accounts, AreLeft, History, IsFieldDone, IsLastOne, IsMarkOf, IsMoved, IsOfSector, Means, MeansJudged, Part, Serves, ServesAt, bytes_moved, has_other, results_ended, sector_after, sent_of, is_last, is_other, is_skipping, next_of, results_told, Operation, Read, Write, MovingSector, FrontStage, Through, Seeking, Moving, Telling, Transfer}
+use Rattle.laws_chip.specs.Serving.{Ends}
 use Rattle.laws_chip.proofs.Courses.{done_written, met_then, nothing_left, or_none, over_counted, part_moved, sector_opcode, skipped_over, would_uncounted}
 use Rattle.laws_chip.proofs.Known.{clash}
 use Rattle.laws_chip.proofs.Served.{of_sector}

@@ -1,28 +1,14 @@
 -- While the sequencer serves the command that was sent, each call of the chip is the sequencer's.
 use Rattle.std.proofs.Common.{◌≡◌, ℕ, ◌+◌, Bool, true, false, ◌==◌, Option, Some, None, List, [], ◌∷◌, ◌++◌, refl, sym, ◌∙◌, ap, subst}
-use Rattle.std.specs.Option.{option_map}
-use Rattle.std.proofs.lemmas.Bool.{and_from, and_left, and_right, eqb-true, false≢true}
-use Rattle.fdc_commands.specs.declared.results.Results.{Results}
-use Rattle.fdc_core.specs.Ports.{resets}
-use Rattle.fdc_core.specs.declared.controller.Fdc.{Fdc}
-use Rattle.fdc_sequencer.specs.Fronts.{Front, results_at, results_outside, results_taken, told_front}
-use Rattle.fdc_sequencer.specs.Moves.{StepsFront}
-use Rattle.fdc_sequencer.specs.declared.stage.FrontStage.{FrontStage}
+use Rattle.laws_chip.proofs.Common.{option_map, and_from, and_left, and_right, eqb-true, false≢true, Results, resets, Fdc, Front, results_at, results_outside, results_taken, told_front, StepsFront, FrontStage, is_under_way, ChipState, passes_by_channel, passes_by_port, with_front, EndsAs, EndsSent, judged, looks_for_cylinder, results_judged, GivesChipIf, GivesIf, ReadsAt, ReadsChip, ReadsIf, TakesByte, TakesIf, WritesChip, latched_by, given_one, reset_if, value_behind, Follows, StepsChip, ChipStage, Busy, AreServed, ArePassedOn, Call, Does, IsPassedOn, IsServing, Makes, MakesRead, MakesWrite, is_data_access, is_reset, is_step, only_if, steps_of}
 use Rattle.fdc_sequencer.specs.declared.stage.FrontStage.TheVariants as stage
 use Rattle.laws_chip.specs.SectorCalls as behind
 use Rattle.laws_chip.specs.SectorLasting as lasting
-use Rattle.laws_chip.specs.SectorLasting.{is_under_way}
 use Rattle.laws_chip.proofs.Called.{both_within}
 use Rattle.laws_chip.proofs.Sectors.{steps_both}
-use Rattle.fdc_chip.specs.Chips.{ChipState, passes_by_channel, passes_by_port, with_front}
-use Rattle.fdc_chip.specs.Ending.{EndsAs, EndsSent, judged, looks_for_cylinder, results_judged}
-use Rattle.fdc_chip.specs.Ports.{GivesChipIf, GivesIf, ReadsAt, ReadsChip, ReadsIf, TakesByte, TakesIf, WritesChip, count_told, latched_by, given_one, reset_if, value_behind}
-use Rattle.fdc_chip.specs.Steps.{Follows, StepsChip}
-use Rattle.fdc_chip.specs.declared.stage.ChipStage.{ChipStage}
-use Rattle.fdc_chip.specs.declared.stage.ChipStage.TheVariants.{Busy}
+use Rattle.fdc_chip.specs.Ports.{count_told}
 use Rattle.fdc_chip.specs.declared.stage.ChipTask.TheVariants.{Sent}
 use Rattle.laws_chip.specs.Calls as made
-use Rattle.laws_chip.specs.Calls.{AreServed, ArePassedOn, Call, Does, IsPassedOn, IsServing, Makes, MakesRead, MakesWrite, is_data_access, is_reset, is_step, only_if, steps_of}
 use Rattle.laws_chip.proofs.UnderWay.{counts_under, either_way, gives_under, ignored_write, not_through, same_under, takes_under, writes_under}
 
 -- ---- a device step
@@ -55,10 +41,9 @@ no_results old new step sent still results shown =
     absurd (cc none)
 
 none_at : (at : FrontStage) (fdc : Fdc) → is_under_way at ≡ true → results_at at fdc ≡ None
-none_at stage.Through fdc under = absurd (false≢true under)
-none_at (stage.Telling results) fdc under = absurd (false≢true under)
 none_at (stage.Seeking transfer counted) fdc under = refl
 none_at (stage.Moving moving) fdc under = refl
+none_at _ fdc under = absurd (false≢true under)
 
 -- while a command is under way no results wait
 pub none_wait : (front : Front) → is_under_way front.stage ≡ true → results_outside front ≡ None
@@ -203,15 +188,11 @@ write_steps true port value calls (was, is) = ap lasting.steps_in is
 write_steps false port value calls is = ap lasting.steps_in is
 
 one_steps : (call : Call) (old : ChipState) (calls : List behind.Call) → Makes call old calls → lasting.steps_in calls ≡ steps_of call
-one_steps made.Steps old calls is = ap lasting.steps_in is
 one_steps (made.Takes byte) old calls is = ap lasting.steps_in is ∙ only_steps (passes_by_channel old) (behind.Takes byte) refl
 one_steps (made.Gives byte was) old calls is = ap lasting.steps_in is ∙ only_steps (passes_by_channel old) (behind.Gives byte was) refl
-one_steps made.Counts old calls is = ap lasting.steps_in is
 one_steps (made.Reads port value) old calls makes = read_steps (is_data_access port old) port value calls makes
 one_steps (made.Writes port value) old calls makes = write_steps (is_data_access port old) port value calls makes
-one_steps made.Changes old calls is = ap lasting.steps_in is
-one_steps (made.Straps on) old calls is = ap lasting.steps_in is
-one_steps (made.StrapsSteps on) old calls is = ap lasting.steps_in is
+one_steps _ old calls is = ap lasting.steps_in is
 
 pub all_passed : (calls : List Call) (old new : ChipState) (served : AreServed calls old new) → IsServing old → ArePassedOn calls old new served
 all_passed [] old new same was = record { all = []; makes = refl; within = ap (λ chip. chip.front) same; steps = refl }
@@ -277,7 +258,5 @@ call_serving (made.Writes port value) old new was does no_step no_reset = either
     (λ no_data. port_serving port value old new was no_data no_reset does)
 call_serving made.Changes old new was does no_step no_reset =
     record { sent = same_stage old new does.rest was.sent; under_way = ap is_under_way does.front.stage ∙ was.under_way }
-call_serving (made.Straps on) old new was does no_step no_reset =
-    record { sent = ap (λ chip. chip.stage) does ∙ was.sent; under_way = ap (λ chip. is_under_way chip.front.stage) does ∙ was.under_way }
-call_serving (made.StrapsSteps on) old new was does no_step no_reset =
+call_serving _ old new was does no_step no_reset =
     record { sent = ap (λ chip. chip.stage) does ∙ was.sent; under_way = ap (λ chip. is_under_way chip.front.stage) does ∙ was.under_way }

@@ -1,56 +1,17 @@
 -- The poll of a reset, in the inner controller: once it has come, it isn't to come until the next reset.
 use Rattle.std.proofs.Common.{◌≡◌, inl, inr, ℕ, ◌+◌, ◌-◌, ◌==◌, Bool, true, false, not, ◌&&◌, if◌then◌else◌, [], Option, Some, None, length, bit_and, refl, ◌∙◌, ap, subst}
-use Rattle.std.proofs.lemmas.Bool.{eqb-true, false≢true}
-use Rattle.drive_model.specs.Drive.{DriveState, at_index}
-use Rattle.fdc_registers.specs.Fifo.{Fifo}
-use Rattle.fdc_commands.specs.Seeking.{has_ended_seek, seek_bits, sensed, with_polls, without_ended}
-use Rattle.fdc_commands.specs.Table.{answer}
+use Rattle.laws_chip.proofs.Common.{eqb-true, false≢true, DriveState, at_index, Fifo, has_ended_seek, seek_bits, sensed, with_polls, without_ended, Command, ReadOutcome, SearchOutcome, needs_byte, Ending, Done, Overrun, FormatNext, WriteNext, ending_of, is_listening, Phase, Execute, Task, Format, Formatting, Reading, Writing, BeginsData, ObeysAtRest, TakesAs, sensing_by, taken_in, taken_out, told_count, FormatDoes, after_laid, ExecutesIn, ExecutesTask, is_executing, resets, after_heard, after_searched, at_stage, gone_on_reading, is_full, over_or_on, pushed, finished, is_held, RestsIn, polled, FormatsNowhere, StepsNowhere, TaskStepsNowhere, WritesNowhere, WordTime, Saw, KeptOut, Wrote, Stopped, ending_told, given_up, given_up_if, looked_at, mark_of, without_seek, WritesIn, WritesTask, WriteDoes, after_next, without_byte, Fdc, Lines, AdapterState, StepsAdapter, lines_at, selected_at, BeginsSector, Front, GivesAt, GivesFront, GivesMoving, StartsIf, TakesAt, TakesFront, TakesMoving, WritesFront, begun_if, count_told, told_front, told_if, with_controller, CommandsIf, GivesCommand, GivesTransfer, is_ready, results_taken, taken_at, EndsIf, EndsSector, FollowsStep, MovesOn, SeeksOn, StepsFront, goes_on, has_met_other, is_unwanted, judged_if, passed_over_if, command_of, next_of, MovingSector, FrontStage, Through, Seeking, Moving, Transfer}
 use Rattle.fdc_commands.specs.declared.bytes.Accepted.{Accepted}
-use Rattle.fdc_commands.specs.declared.bytes.Accepted.TheVariants.{More, Ready, Invalid}
-use Rattle.fdc_commands.specs.declared.command.Command.{Command}
+use Rattle.fdc_commands.specs.declared.bytes.Accepted.TheVariants.{Ready}
 use Rattle.fdc_commands.specs.declared.command.Command.TheVariants as command
-use Rattle.fdc_stages.specs.Readings.{ReadOutcome}
 use Rattle.fdc_stages.specs.Readings as heard
-use Rattle.fdc_stages.specs.Searches.{SearchOutcome}
 use Rattle.fdc_stages.specs.Searches as searched
-use Rattle.fdc_stages.specs.Writings.{needs_byte}
-use Rattle.fdc_stages.specs.declared.ending.Ending.{Ending}
-use Rattle.fdc_stages.specs.declared.ending.Ending.TheVariants.{Done, Overrun}
-use Rattle.fdc_stages.specs.declared.formatting.FormatNext.{FormatNext}
 use Rattle.fdc_stages.specs.declared.formatting.FormatNext.TheVariants as format_next
-use Rattle.fdc_stages.specs.declared.writing.WriteNext.{WriteNext}
 use Rattle.fdc_stages.specs.declared.writing.WriteNext.TheVariants as write_next
-use Rattle.fdc_phases.specs.Phases.{ending_of, is_listening}
-use Rattle.fdc_phases.specs.declared.phases.Phase.{Phase}
-use Rattle.fdc_phases.specs.declared.phases.Phase.TheVariants.{Command as Taking, Execute, Result}
-use Rattle.fdc_phases.specs.declared.phases.Task.{Task}
-use Rattle.fdc_phases.specs.declared.phases.Task.TheVariants.{ReadId, Read, Write, Format}
-use Rattle.fdc_phases.specs.declared.transfers.Formatting.{Formatting}
-use Rattle.fdc_phases.specs.declared.transfers.Reading.{Reading}
-use Rattle.fdc_phases.specs.declared.transfers.Writing.{Writing}
-use Rattle.fdc_core.specs.Commands.{Begins, BeginsData, Obeys, ObeysAtRest, TakesAs, sensing_by}
-use Rattle.fdc_core.specs.Dma.{taken_in, taken_out, told_count}
-use Rattle.fdc_core.specs.Formatting.{FormatDoes, after_laid}
-use Rattle.fdc_core.specs.Listening.{ExecutesIn, ExecutesTask, is_executing}
-use Rattle.fdc_core.specs.Ports.{resets}
-use Rattle.fdc_core.specs.Reading.{after_heard, after_searched, at_stage, gone_on_reading, is_full, over_or_on, pushed}
-use Rattle.fdc_core.specs.State.{finished, is_held}
-use Rattle.fdc_core.specs.Steps.{RestsIn, polled}
-use Rattle.fdc_core.specs.Tasks.{FormatsNowhere, StepsNowhere, TaskStepsNowhere, WritesNowhere}
-use Rattle.fdc_core.specs.Times.{WordTime, Saw, KeptOut, Wrote, Stopped}
-use Rattle.fdc_core.specs.Whole.{ending_told, given_up, given_up_if, looked_at, mark_of, without_seek}
-use Rattle.fdc_core.specs.Writes.{WritesIn, WritesTask}
-use Rattle.fdc_core.specs.Writing.{WriteDoes, after_next, without_byte}
-use Rattle.fdc_core.specs.declared.controller.Fdc.{Fdc}
-use Rattle.fdc_core.specs.declared.controller.Lines.{Lines}
-use Rattle.fdc_sequencer.specs.Adapters.{AdapterState, Gives, StepsAdapter, Takes, lines_at, selected_at}
-use Rattle.fdc_sequencer.specs.Fronts.{BeginsSector, Front, GivesAt, GivesFront, GivesMoving, StartsIf, TakesAt, TakesFront, TakesMoving, WritesFront, begun_if, count_told, told_front, told_if, with_controller, CommandsIf, GivesCommand, GivesTransfer, TransfersIf, is_ready, results_taken, taken_at}
-use Rattle.fdc_sequencer.specs.Moves.{EndsIf, EndsSector, FollowsStep, MovesOn, SeeksOn, StepsFront, goes_on, has_met_other, is_unwanted, judged_if, passed_over_if}
-use Rattle.fdc_sequencer.specs.Transfers.{command_of, next_of}
-use Rattle.fdc_sequencer.specs.declared.stage.Moving.{Moving as MovingSector}
-use Rattle.fdc_sequencer.specs.declared.stage.FrontStage.{FrontStage}
-use Rattle.fdc_sequencer.specs.declared.stage.FrontStage.TheVariants.{Through, Seeking, Moving, Telling}
-use Rattle.fdc_sequencer.specs.declared.transfer.Transfer.{Transfer}
+use Rattle.fdc_phases.specs.declared.phases.Task.TheVariants.{ReadId, Read, Write}
+use Rattle.fdc_core.specs.Commands.{Begins, Obeys}
+use Rattle.fdc_sequencer.specs.Adapters.{Gives, Takes}
+use Rattle.fdc_sequencer.specs.Fronts.{TransfersIf}
 use Rattle.laws_chip.proofs.Known.{which_drive}
 use Rattle.laws_chip.proofs.Resting.{polled_phase}
 use Rattle.laws_chip.proofs.Channels.{port_left}

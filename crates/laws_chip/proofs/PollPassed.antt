@@ -1,41 +1,14 @@
 -- The poll of a reset, through each call of a chip: once it has come, it isn't to come until the next reset.
 use Rattle.std.proofs.Common.{◌≡◌, ℕ, zero, suc, ◌*◌, ◌%◌, ◌==◌, Bool, true, false, not, ◌&&◌, if◌then◌else◌, Option, Some, None, refl, sym, ◌∙◌, ap}
-use Rattle.std.proofs.lemmas.Bool.{eqb-true}
-use Rattle.fdc_commands.specs.Seeking.{Seeking as Seeks, pulses_within, seek_bits, sensed, with_motion}
-use Rattle.fdc_commands.specs.declared.motion.Motion.TheVariants.{Outward}
-use Rattle.fdc_commands.specs.declared.results.Results.{Results}
-use Rattle.fdc_commands.specs.declared.command.Command.{Command}
-use Rattle.fdc_core.specs.Ports.{resets}
-use Rattle.fdc_core.specs.State.{is_held}
-use Rattle.fdc_core.specs.Whole.{is_idle}
-use Rattle.fdc_core.specs.declared.controller.Fdc.{Fdc}
-use Rattle.fdc_sequencer.specs.AdapterSenses.{after_result, without_result}
-use Rattle.fdc_sequencer.specs.Fronts.{Front, interrupts_outside, told_front, GivesCommand, results_taken}
-use Rattle.fdc_sequencer.specs.Senses.{pending_outside, recalibrated_at, sensed_at, sensed_outside}
-use Rattle.fdc_sequencer.specs.Transfers.{size_of}
-use Rattle.fdc_sequencer.specs.declared.stage.FrontStage.{FrontStage}
-use Rattle.fdc_sequencer.specs.declared.stage.FrontStage.TheVariants.{Through}
-use Rattle.fdc_chip.specs.Chips.{ChipState, is_data, passes_by_channel, passes_by_port, with_front}
-use Rattle.fdc_chip.specs.Codes.{code_of}
-use Rattle.fdc_chip.specs.Doing.{AttendsIf, AttendsTo, Begins, BeginsReadId, FormatsIf, MovesIf, Obeys, RemembersIf, TransfersIf, absent_key, begun, configuring, drained, drained_by, identifying, implies, is_moving, is_size, moving, needs_heads, no_key, reading_one, relative_target, sectors_verified, sought_if, track_begun, verifying, with_keys, with_last, GivesOn, Opens, Refuses, configured, formatting, ready, transfer_sent}
-use Rattle.fdc_chip.specs.Ending.{MayEnd, results_judged, EndsAs}
-use Rattle.fdc_chip.specs.Paces.{EndsAt as EndsPace, GoesOnIf, Paces, PulsesIf, is_due, is_over, stepped}
-use Rattle.fdc_chip.specs.Settings.{step_words}
-use Rattle.fdc_chip.specs.Interrupts.{cylinder_of}
-use Rattle.fdc_chip.specs.Answers.{is_of_data}
-use Rattle.fdc_chip.specs.Ports.{CollectsIf, ComesIf, GivesChipIf, GivesIf, ReadsAt, ReadsChip, ReadsIf, TakesByte, TakesIf, WritesChip, count_told, counted_if, is_whole, may_come, quieted_if, value_behind, with_next}
-use Rattle.fdc_chip.specs.Steps.{Follows, FollowsTask, StepsChip, SwallowsAs, SwallowsBy}
-use Rattle.fdc_chip.specs.declared.code.ChipOpcode.{ChipOpcode}
-use Rattle.fdc_chip.specs.declared.code.ChipOpcode.TheVariants.{ReadTrack, Transfer, Recalibrate, ReadId, FormatTrack, Seek, RelativeSeek, Configure, Verify}
-use Rattle.fdc_chip.specs.declared.pace.PacedSeek.{PacedSeek}
-use Rattle.fdc_chip.specs.declared.stage.ChipStage.{ChipStage}
-use Rattle.fdc_chip.specs.declared.stage.ChipStage.TheVariants.{Ready, Held, Busy, Telling}
-use Rattle.fdc_chip.specs.declared.stage.ChipTask.{ChipTask}
+use Rattle.laws_chip.proofs.Common.{eqb-true, Seeks, pulses_within, seek_bits, sensed, with_motion, Outward, Results, Command, resets, is_held, is_idle, Fdc, after_result, without_result, Front, interrupts_outside, told_front, GivesCommand, results_taken, pending_outside, recalibrated_at, sensed_at, sensed_outside, size_of, FrontStage, Through, ChipState, is_data, passes_by_channel, passes_by_port, with_front, code_of, AttendsIf, AttendsTo, Begins, BeginsReadId, FormatsIf, MovesIf, Obeys, RemembersIf, TransfersIf, absent_key, begun, configuring, drained, identifying, implies, is_moving, is_size, moving, needs_heads, no_key, reading_one, relative_target, sectors_verified, sought_if, track_begun, verifying, with_keys, with_last, GivesOn, Opens, Refuses, configured, formatting, ready, transfer_sent, MayEnd, results_judged, EndsAs, EndsPace, GoesOnIf, Paces, PulsesIf, is_due, step_words, cylinder_of, is_of_data, CollectsIf, ComesIf, GivesChipIf, GivesIf, ReadsAt, ReadsChip, ReadsIf, TakesByte, TakesIf, WritesChip, counted_if, is_whole, may_come, quieted_if, value_behind, with_next, Follows, FollowsTask, StepsChip, SwallowsAs, ChipOpcode, ReadTrack, Recalibrate, ReadId, FormatTrack, Seek, RelativeSeek, Configure, Verify, PacedSeek, ChipStage, Ready, Held, Busy, ChipTask, Track, Order, Call, Does, is_reset, Chrn}
+use Rattle.fdc_chip.specs.Doing.{drained_by}
+use Rattle.fdc_chip.specs.Paces.{is_over, stepped}
+use Rattle.fdc_chip.specs.Ports.{count_told}
+use Rattle.fdc_chip.specs.Steps.{SwallowsBy}
+use Rattle.fdc_chip.specs.declared.code.ChipOpcode.TheVariants.{Transfer}
+use Rattle.fdc_chip.specs.declared.stage.ChipStage.TheVariants.{Telling}
 use Rattle.fdc_chip.specs.declared.stage.ChipTask.TheVariants as task
-use Rattle.fdc_chip.specs.declared.stage.Track.{Track}
-use Rattle.fdc_chip.specs.declared.order.Order.{Order}
 use Rattle.laws_chip.specs.Calls as made
-use Rattle.laws_chip.specs.Calls.{Call, Does, is_reset}
 use Rattle.laws_chip.proofs.PassedOn.{other_read}
 use Rattle.laws_chip.proofs.Polled.{and_true}
 use Rattle.laws_chip.proofs.PollComes.{awaits_poll, command_poll, counts_poll, gives_poll, results_poll, step_poll, transfer_poll, takes_poll, writes_poll}
@@ -43,7 +16,6 @@ use Rattle.laws_chip.proofs.UnderWay.{either_way}
 use Rattle.laws_chip.proofs.WholeTransfers.{kept_front}
 use Rattle.laws_chip.proofs.Silences as outcome
 use Rattle.laws_chip.proofs.Silences.{Comes, ends_come}
-use Rattle.flop_base.specs.declared.key.Chrn.{Chrn}
 
 -- whether the poll is to come
 abbrev to_come : ChipState → Bool

@@ -1,42 +1,18 @@
 -- A reset, up to the results of its poll.
 use Rattle.std.proofs.Common.{◌≡◌, ◌⊎◌, inl, inr, ℕ, suc, ◌+◌, ◌<◌, Bool, true, false, not, ◌&&◌, ◌||◌, ◌==◌, if◌then◌else◌, nat_lt, Option, Some, None, List, [], ◌∷◌, refl, sym, ◌∙◌, ap, subst, arith}
-use Rattle.std.proofs.lemmas.Bool.{and_from, and_right, false≢true, eqb-true}
-use Rattle.fdc_commands.specs.Seeking.{Seeking, is_seeking, stepped, with_polls}
+use Rattle.laws_chip.proofs.Common.{and_from, and_right, false≢true, eqb-true, is_seeking, with_polls, Phase, Taking, resets, is_gated, is_held, Rests, polled, seek_stepped, Fdc, Dor, AdapterState, StepsAdapter, selected_at, Front, asks_outside, interrupts_at, interrupts_outside, StepsFront, FrontStage, Through, ChipState, interrupts_chip, passes, passes_at, shows_behind, with_front, drained, drained_one, sensing, Interrupting, is_format, with_byte, Paces, ComesIf, ReadsAt, ReadsChip, TakesByte, WritesChip, latched_by, reset_if, value_behind, is_by_port, Follows, StepsChip, PacedSeek, ChipStage, Ready, Call, Does, is_step, AwaitsPoll, HasPolls, IsFreshBehind, is_of_data_port, polls_from, telling_poll, IsSound, waits_for_heads}
+use Rattle.fdc_commands.specs.Seeking.{Seeking, stepped}
 use Rattle.fdc_commands.specs.Seeking as seeking
-use Rattle.fdc_phases.specs.declared.phases.Phase.{Phase}
-use Rattle.fdc_phases.specs.declared.phases.Phase.TheVariants.{Command as Taking}
-use Rattle.fdc_core.specs.Ports.{resets}
-use Rattle.fdc_core.specs.State.{is_gated, is_held}
-use Rattle.fdc_core.specs.Steps.{Rests, polled, seek_stepped}
-use Rattle.fdc_core.specs.declared.controller.Fdc.{Fdc}
-use Rattle.fdc_registers.specs.declared.drive_lines.Dor.{Dor}
-use Rattle.fdc_sequencer.specs.Adapters.{AdapterState, StepsAdapter, selected_at}
-use Rattle.fdc_sequencer.specs.Fronts.{Front, asks_outside, interrupts_at, interrupts_outside}
-use Rattle.fdc_sequencer.specs.Moves.{StepsFront}
-use Rattle.fdc_sequencer.specs.declared.stage.FrontStage.{FrontStage}
-use Rattle.fdc_sequencer.specs.declared.stage.FrontStage.TheVariants.{Through}
-use Rattle.fdc_chip.specs.Chips.{ChipState, interrupts_chip, passes, passes_at, shows_behind, with_front}
-use Rattle.fdc_chip.specs.Doing.{drained, drained_by, drained_one, sensing}
-use Rattle.fdc_chip.specs.Interrupts.{Interrupting, at_rest}
-use Rattle.fdc_chip.specs.Orders.{is_format, with_byte}
-use Rattle.fdc_chip.specs.Paces.{Paces}
-use Rattle.fdc_chip.specs.Ports.{ComesIf, ReadsAt, ReadsChip, TakesByte, WritesChip, latched_by, reset_if, value_behind}
+use Rattle.fdc_chip.specs.Doing.{drained_by}
+use Rattle.fdc_chip.specs.Interrupts.{at_rest}
 use Rattle.fdc_chip.specs.Quiet.{rests_at}
-use Rattle.fdc_chip.specs.Settings.{is_by_port}
-use Rattle.fdc_chip.specs.Steps.{Follows, StepsChip}
-use Rattle.fdc_chip.specs.declared.pace.PacedSeek.{PacedSeek}
-use Rattle.fdc_chip.specs.declared.stage.ChipStage.{ChipStage}
-use Rattle.fdc_chip.specs.declared.stage.ChipStage.TheVariants.{Ready, Telling}
+use Rattle.fdc_chip.specs.declared.stage.ChipStage.TheVariants.{Telling}
 use Rattle.laws_chip.proofs.Known.{which_drive}
 use Rattle.laws_chip.specs.Calls as made
-use Rattle.laws_chip.specs.Calls.{Call, Does, is_step}
-use Rattle.laws_chip.specs.Resets.{AwaitsPoll, HasPolls, IsFreshBehind, is_of_data_port, polls_from, telling_poll}
-use Rattle.laws_chip.specs.Sound.{IsSound}
 use Rattle.laws_chip.proofs.Rests.{adapter_stays, taking_stays, through_step}
 use Rattle.laws_chip.proofs.SoundCalls.{front_anew}
 use Rattle.laws_chip.proofs.UnderWay.{either_way}
 use Rattle.laws_chip.proofs.HeadsKept.{KeepsHeads, call_heads}
-use Rattle.laws_chip.specs.Seeks.{waits_for_heads}
 
 -- ---- the controller in a device step
 

@@ -1,68 +1,20 @@
 -- A transfer whose bytes pass in time: no byte finds the FIFO full, or is missing.
 use Rattle.std.proofs.Common.{◌≡◌, ◌⊎◌, inl, inr, ℕ, ◌+◌, ◌-◌, ◌<◌, ◌≤◌, nat_lt, nat_le, max, Bool, true, false, not, ◌&&◌, ◌||◌, ◌==◌, if◌then◌else◌, Option, Some, None, List, [], ◌∷◌, length, bit_and, refl, sym, ◌∙◌, ap, subst, arith}
-use Rattle.std.proofs.lemmas.Bool.{eqb-true, false≢true}
-use Rattle.std.proofs.lemmas.Bool.Decides.{nat_tests}
-use Rattle.flop_base.specs.declared.key.Chrn.{Chrn}
-use Rattle.track_model.specs.Fields.{IsSizeCode}
-use Rattle.drive_model.specs.Drive.{DriveState}
-use Rattle.fdc_registers.specs.Fifo.{Fifo, emptied, low_level, room_of, wants, worth_fetching}
-use Rattle.fdc_registers.specs.St1.{overrun}
-use Rattle.fdc_commands.specs.Seeking.{has_ended_seek, seek_bits}
-use Rattle.fdc_commands.specs.declared.bytes.Accepted.TheVariants.{Invalid, Ready}
-use Rattle.fdc_commands.specs.declared.command.Command.{Command}
-use Rattle.fdc_commands.specs.declared.command.Command.TheVariants.{ReadData, WriteData, WriteDeleted}
-use Rattle.fdc_commands.specs.declared.results.Results.{Results}
-use Rattle.fdc_stages.specs.History.{Past}
-use Rattle.fdc_stages.specs.declared.ending.Ending.{Ending}
-use Rattle.fdc_stages.specs.declared.ending.Ending.TheVariants.{Done, BadCheck, Overrun, NoCount}
-use Rattle.fdc_phases.specs.Commands.{IsReadingData}
-use Rattle.fdc_phases.specs.Dma.{phase_asks, phase_told, task_asks, task_told}
-use Rattle.fdc_phases.specs.Heard.{MayReadIn, Sent}
-use Rattle.fdc_phases.specs.Phases.{ending_of_phase, is_moving, is_over, is_overrun, is_read, is_reading, moves_bytes, overran}
+use Rattle.laws_chip.proofs.Common.{eqb-true, false≢true, nat_tests, Chrn, IsSizeCode, DriveState, Fifo, emptied, low_level, room_of, wants, worth_fetching, overrun, has_ended_seek, seek_bits, Invalid, Command, ReadData, WriteData, WriteDeleted, Results, Past, Ending, Done, BadCheck, Overrun, NoCount, IsReadingData, phase_asks, phase_told, task_asks, task_told, MayReadIn, Sent, ending_of_phase, is_overrun, is_read, is_reading, moves_bytes, overran, MayWriteIn, Long, Short, Phase, Execute, Result, Task, BeginsData, TakesAs, answered, Works, asking_told, fifo_told, taken_in, taken_out, told_count, is_executing, resets, asks, is_gated, FlowsIn, TakesWhole, ending_told, given_up, mark_of, without_seek, Fdc, Lines, AdapterState, StepsAdapter, lines_at, selected_at, st1_of, BeginsSector, Front, GivesAt, StartsIf, TakesAt, WritesFront, asks_at, asks_outside, begun_if, count_told, moving_of, passed_one, told_if, with_controller, EndsIf, EndsSector, FollowsStep, MovesOn, SeeksOn, StepsFront, goes_on, has_failed_other, has_met_other, is_unwanted, judged_if, passed_over_if, results_behind, results_failed, would_go_on, command_for, next_of, results_told, size_of, Operation, Read, Write, MovingSector, FrontStage, Through, Seeking, Moving, Telling, Transfer, ChipState, asks_chip, interrupts_chip, passes_by_channel, passes_by_port, shows_behind, StepsChip, SentTask, is_under_way, MayMove, ServesAt, sent_of, IsBegun, Call, Does, IsServing, IsSound, ServesBehind, has_command}
+use Rattle.fdc_commands.specs.declared.bytes.Accepted.TheVariants.{Ready}
+use Rattle.fdc_phases.specs.Phases.{is_moving, is_over}
 use Rattle.fdc_phases.specs.Waiting.{PhaseWaits, TaskWaits, phase_counted, task_counted}
-use Rattle.fdc_phases.specs.Written.{MayWriteIn}
 use Rattle.fdc_phases.specs.declared.answers.Answer.{Answer}
-use Rattle.fdc_phases.specs.declared.answers.Answer.TheVariants.{Long, Short}
-use Rattle.fdc_phases.specs.declared.phases.Phase.{Phase}
-use Rattle.fdc_phases.specs.declared.phases.Phase.TheVariants.{Execute, Result}
-use Rattle.fdc_phases.specs.declared.phases.Task.{Task}
 use Rattle.fdc_phases.specs.declared.phases.Task.TheVariants as task
-use Rattle.fdc_core.specs.Commands.{BeginsData, Obeys, TakesAs, answered}
-use Rattle.fdc_core.specs.Courses.{Works}
-use Rattle.fdc_core.specs.Dma.{asking_told, fifo_told, taken_in, taken_out, told_count}
-use Rattle.fdc_core.specs.Listening.{is_executing}
-use Rattle.fdc_core.specs.Ports.{resets}
-use Rattle.fdc_core.specs.State.{asks, is_gated}
-use Rattle.fdc_core.specs.Steps.{FlowsIn}
+use Rattle.fdc_core.specs.Commands.{Obeys}
 use Rattle.fdc_core.specs.Waiting.{Lasts, LastsIn}
-use Rattle.fdc_core.specs.Whole.{TakesWhole, ending_told, given_up, mark_of, without_seek}
-use Rattle.fdc_core.specs.declared.controller.Fdc.{Fdc}
-use Rattle.fdc_core.specs.declared.controller.Lines.{Lines}
-use Rattle.fdc_sequencer.specs.Adapters.{AdapterState, StepsAdapter, lines_at, selected_at}
-use Rattle.fdc_phases.specs.Answers.{st1_of}
-use Rattle.fdc_sequencer.specs.Fronts.{BeginsSector, Front, GivesAt, StartsIf, TakesAt, WritesFront, asks_at, asks_outside, begun_if, count_told, moving_of, passed_one, told_if, with_controller}
-use Rattle.fdc_sequencer.specs.Moves.{EndsIf, EndsSector, FollowsStep, MovesOn, SeeksOn, StepsFront, goes_on, has_failed_other, has_met_other, is_unwanted, judged, judged_if, passed_over_if, results_behind, results_failed, would_go_on}
-use Rattle.fdc_sequencer.specs.Transfers.{command_for, next_of, results_told, size_of}
-use Rattle.fdc_sequencer.specs.declared.opcode.Operation.{Operation}
-use Rattle.fdc_sequencer.specs.declared.opcode.Operation.TheVariants.{Read, Write}
-use Rattle.fdc_sequencer.specs.declared.stage.Moving.{Moving as MovingSector}
-use Rattle.fdc_sequencer.specs.declared.stage.FrontStage.{FrontStage}
-use Rattle.fdc_sequencer.specs.declared.stage.FrontStage.TheVariants.{Through, Seeking, Moving, Telling}
-use Rattle.fdc_sequencer.specs.declared.transfer.Transfer.{Transfer}
-use Rattle.fdc_chip.specs.Chips.{ChipState, asks_chip, interrupts_chip, passes_by_channel, passes_by_port, shows_behind}
-use Rattle.fdc_chip.specs.Steps.{StepsChip}
-use Rattle.fdc_chip.specs.declared.stage.ChipTask.TheVariants.{Sent as SentTask}
-use Rattle.laws_chip.specs.SectorLasting.{is_under_way}
-use Rattle.laws_chip.specs.Serving.{MayMove, ServesAt, sent_of}
+use Rattle.fdc_sequencer.specs.Moves.{judged}
 use Rattle.laws_chip.proofs.Free.{next_size}
 use Rattle.laws_chip.proofs.Given.{given_starts}
 use Rattle.laws_chip.proofs.Known.{port_same, which_drive}
 use Rattle.laws_chip.proofs.Started.{size_some}
-use Rattle.laws_chip.specs.Beginning.{IsBegun}
 use Rattle.laws_chip.specs.Calls as made
-use Rattle.laws_chip.specs.Calls.{Call, Does, IsServing}
 use Rattle.laws_chip.specs.InTime.{AreInTime, IsPrompt, PromptAt}
-use Rattle.laws_chip.specs.Sound.{IsSound, ServesBehind}
 use Rattle.laws_chip.proofs.PassedOn.{step_same}
 use Rattle.laws_chip.proofs.SoundCalls.{call_sound}
 use Rattle.laws_chip.proofs.SoundParts as parts
@@ -70,7 +22,6 @@ use Rattle.laws_chip.proofs.SoundParts.{busy_at, sound_basis}
 use Rattle.laws_chip.proofs.UnderWay.{clash, either_way, not_through, port_stage}
 use Rattle.laws_chip.proofs.NextStages as makes
 use Rattle.laws_chip.proofs.NextStages.{Makes, call_stays, is_change}
-use Rattle.laws_chip.specs.Bounds.{has_command}
 
 -- ---- while no byte is asked for there is time for one more step
 
@@ -87,9 +38,8 @@ fetch_low false false false false is = inr refl
 fill_low : (counted full before few : Bool) → counted ≡ false → (not (counted || full) && (before || few)) ≡ false → (full ≡ true) ⊎ (few ≡ false)
 fill_low true full before few none is = absurd (false≢true (sym none))
 fill_low false true before few none is = inl refl
-fill_low false false true few none is = absurd (false≢true (sym is))
-fill_low false false false true none is = absurd (false≢true (sym is))
 fill_low false false false false none is = inr refl
+fill_low false false _ _ none is = absurd (false≢true (sym is))
 
 room_some : (on : Bool) → 1 ≤ room_of on
 room_some true = omega arith

@@ -1,33 +1,8 @@
 -- Seeks whose pulses come in the time that SPECIFY sets: a device step, and the command that ends them.
 use Rattle.std.proofs.Common.{◌≡◌, ◌⊎◌, inl, inr, ℕ, zero, suc, ◌+◌, ◌-◌, ◌*◌, ◌%◌, ◌^◌, ◌<◌, ◌≤◌, max, min, nat_le, nat_lt, Bool, true, false, not, ◌&&◌, ◌||◌, ◌==◌, if◌then◌else◌, Option, Some, None, is_none, is_some, List, [], ◌∷◌, length, slice_index, slice_set, unwrap_or, bit_and, bit_or, refl, sym, ◌∙◌, ap, subst, arith}
-use Rattle.std.specs.Option.{option_map_or}
-use Rattle.std.proofs.Math.Nat.{mul-le-mul_right, suc-mul}
-use Rattle.std.proofs.lemmas.Bool.{and_from, and_right, eqb-false, leb-false, or_parts, or_right}
-use Rattle.std.proofs.lemmas.Bool.Decides.{nat_tests}
-use Rattle.fdc_commands.specs.Seeking.{Seeking, pulses_within, seek_bits, sought, stepped_seek, with_motion, with_polls}
-use Rattle.fdc_commands.specs.declared.motion.Motion.{Motion}
-use Rattle.fdc_commands.specs.declared.motion.Motion.TheVariants.{Outward, Toward, Ended}
-use Rattle.fdc_commands.specs.declared.motion.Seek.{Seek as DriveSeek}
-use Rattle.fdc_phases.specs.declared.phases.Phase.TheVariants.{Command as Taking}
-use Rattle.fdc_core.specs.Ranges.{IsInRange}
-use Rattle.fdc_core.specs.State.{is_held}
-use Rattle.fdc_core.specs.Steps.{Rests, polled, seek_stepped}
-use Rattle.fdc_core.specs.Whole.{is_idle}
-use Rattle.fdc_core.specs.declared.controller.Fdc.{Fdc}
-use Rattle.fdc_sequencer.specs.Adapters.{lines_at}
-use Rattle.fdc_sequencer.specs.Fronts.{Front, GivesCommand, is_ready, status_at, with_controller}
-use Rattle.fdc_sequencer.specs.Moves.{StepsFront}
-use Rattle.fdc_sequencer.specs.Senses.{recalibrated_at, recalibrated_outside}
-use Rattle.fdc_sequencer.specs.declared.stage.FrontStage.TheVariants.{Through}
-use Rattle.fdc_chip.specs.Chips.{ChipState, with_front}
-use Rattle.fdc_chip.specs.Doing.{drained, is_moving, is_told, moves_heads, moving, pace_begun}
-use Rattle.fdc_chip.specs.Paces.{EndsAt, GoesOn, GoesOnIf, Paces, PulsesIf, is_due, is_over, stepped, target_of}
-use Rattle.fdc_chip.specs.Settings.{step_words}
-use Rattle.fdc_chip.specs.declared.pace.PacedSeek.{PacedSeek}
-use Rattle.fdc_chip.specs.declared.stage.ChipStage.{ChipStage}
-use Rattle.laws_chip.specs.PacedSeeks.{GoesBehind, HeadsPaced, StandsBehind, most_left, pulses_left, pulses_to}
-use Rattle.laws_chip.specs.Seeks.{GoesTo, HeadsGo, SeeksBehind, most_of, steps_left}
-use Rattle.laws_chip.specs.Sound.{IsSound}
+use Rattle.laws_chip.proofs.Common.{option_map_or, mul-le-mul_right, suc-mul, and_from, and_right, eqb-false, leb-false, or_parts, or_right, nat_tests, pulses_within, seek_bits, sought, stepped_seek, with_motion, with_polls, Motion, Outward, Toward, DriveSeek, Taking, IsInRange, is_held, Rests, polled, seek_stepped, is_idle, Fdc, lines_at, Front, GivesCommand, is_ready, status_at, with_controller, StepsFront, recalibrated_at, recalibrated_outside, Through, ChipState, with_front, drained, is_moving, is_told, moves_heads, moving, pace_begun, GoesOnIf, Paces, PulsesIf, is_due, target_of, step_words, PacedSeek, ChipStage, GoesBehind, HeadsPaced, StandsBehind, most_left, pulses_left, pulses_to, GoesTo, HeadsGo, SeeksBehind, most_of, steps_left, IsSound}
+use Rattle.fdc_commands.specs.Seeking.{Seeking}
+use Rattle.fdc_chip.specs.Paces.{EndsAt, GoesOn, is_over, stepped}
 use Rattle.laws_chip.proofs.HeadsGoing.{HasEnded, bare, ended_untold, front_steps, neighbour_left, none_drained, none_pending, rests_by_line, status_in, told_at}
 use Rattle.laws_chip.proofs.Rests.{adapter_stays, taking_stays, through_step}
 use Rattle.laws_chip.proofs.SeeksBegun.{given_seek, given_within, motion_to, of_four, seek_sent}

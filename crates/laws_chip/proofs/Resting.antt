@@ -1,15 +1,8 @@
 -- Device steps of a controller that executes nothing: no medium changes.
 use Rattle.std.proofs.Common.{◌≡◌, inl, inr, ◌&&◌, Bool, true, false, not, Option, Some, None, if◌then◌else◌, refl, sym, ◌∙◌, ap, subst}
-use Rattle.std.proofs.lemmas.Bool.{false≢true}
-use Rattle.fdc_commands.specs.Seeking.{with_polls}
-use Rattle.drive_model.specs.Drive.{DriveState}
-use Rattle.fdc_phases.specs.declared.phases.Phase.{Phase}
-use Rattle.fdc_phases.specs.declared.phases.Phase.TheVariants.{Command, Execute, Result}
-use Rattle.fdc_core.specs.Courses.{Works}
-use Rattle.fdc_core.specs.Listening.{is_executing}
-use Rattle.fdc_core.specs.State.{is_held}
-use Rattle.fdc_core.specs.Steps.{Moves, MovesIn, RestsIn, polled}
-use Rattle.fdc_core.specs.declared.controller.Fdc.{Fdc}
+use Rattle.laws_chip.proofs.Common.{false≢true, with_polls, DriveState, Phase, Execute, Result, Works, is_executing, is_held, MovesIn, RestsIn, polled, Fdc}
+use Rattle.fdc_phases.specs.declared.phases.Phase.TheVariants.{Command}
+use Rattle.fdc_core.specs.Steps.{Moves}
 
 -- the poll leaves the phase
 pub polled_phase : (old : Fdc) → (polled old).phase ≡ old.phase
@@ -26,9 +19,8 @@ moves_same (Some inward) before after (between, pulses, is) =
     ap (λ s. s.medium) is ∙ elim pulses [ inl moved ↦ ap (λ s. s.medium) moved.becomes | inr lost ↦ ap (λ s. s.medium) lost.0.becomes ]
 
 idle_moves : (phase : Phase) (polls : Fdc) (before after : DriveState) → is_executing phase ≡ false → MovesIn phase polls before after → after.medium ≡ before.medium
-idle_moves Command polls before after idle moves = moves_same _ before after moves
-idle_moves (Result answer) polls before after idle moves = moves_same _ before after moves
 idle_moves (Execute execution) polls before after idle moves = absurd (false≢true (sym idle))
+idle_moves _ polls before after idle moves = moves_same _ before after moves
 
 pub idle_medium : (old new : Fdc) (before after : DriveState) → is_executing old.phase ≡ false → Works old before new after → after.medium ≡ before.medium
 idle_medium old new before after idle works = idle_moves old.phase (polled old) before after idle (subst (λ phase. MovesIn phase (polled old) before after) (polled_phase old) works.drive)

@@ -1,29 +1,13 @@
 -- A controller that does nothing, through device steps, and once the results of seeks and polls were taken over.
 use Rattle.std.proofs.Common.{◌≡◌, inl, inr, ℕ, zero, suc, ◌-◌, ◌<◌, ◌^◌, Bool, true, false, not, ◌&&◌, ◌||◌, ◌==◌, if◌then◌else◌, Option, Some, None, [], refl, sym, ◌∙◌, ap, subst, arith, pow_pos}
-use Rattle.std.specs.Option.{option_map_or}
-use Rattle.fdc_commands.specs.Seeking.{Seeking, ended, first_pending, has_ended, neighbour, recalibrated, released, sought, stepped, stepped_seek, with_motion, with_polls, after_sense}
+use Rattle.laws_chip.proofs.Common.{option_map_or, ended, first_pending, has_ended, neighbour, recalibrated, released, sought, stepped_seek, with_motion, with_polls, after_sense, Motion, Taking, is_held, Rests, RestsIn, Stays, polled, seek_stepped, is_idle, mark_of, Fdc, AdapterState, StepsAdapter, selected_at, after_result, without_result, Front, with_controller, FollowsStep, StepsFront, pending_outside, sensed_at, sensed_outside, Through, ChipState, with_front, drained_one, implies, is_told, kept, with_result, IsOfFour, RestsBehind}
+use Rattle.fdc_commands.specs.Seeking.{Seeking, stepped}
 use Rattle.fdc_commands.specs.Seeking as seek_words
-use Rattle.fdc_commands.specs.declared.motion.Motion.{Motion}
 use Rattle.fdc_commands.specs.declared.motion.Motion.TheVariants as motion
 use Rattle.fdc_commands.specs.declared.motion.Seek.{Seek}
-use Rattle.fdc_phases.specs.declared.phases.Phase.TheVariants.{Command as Taking}
-use Rattle.fdc_core.specs.State.{is_held}
-use Rattle.fdc_core.specs.Steps.{Rests, RestsIn, Stays, polled, seek_stepped}
-use Rattle.fdc_core.specs.Whole.{is_idle, mark_of}
-use Rattle.fdc_core.specs.declared.controller.Fdc.{Fdc}
-use Rattle.fdc_sequencer.specs.Adapters.{AdapterState, StepsAdapter, selected_at}
-use Rattle.fdc_sequencer.specs.AdapterSenses.{after_result, without_result}
-use Rattle.fdc_sequencer.specs.Fronts.{Front, with_controller}
-use Rattle.fdc_sequencer.specs.Moves.{FollowsStep, StepsFront}
-use Rattle.fdc_sequencer.specs.Senses.{pending_outside, sensed_at, sensed_outside}
-use Rattle.fdc_sequencer.specs.declared.stage.FrontStage.TheVariants.{Through}
 use Rattle.laws_chip.proofs.Known.{which_drive}
 use Rattle.laws_chip.proofs.Resting.{polled_phase}
-use Rattle.fdc_chip.specs.Chips.{ChipState, with_front}
-use Rattle.fdc_chip.specs.Doing.{drained_by, drained_one, implies, is_told, kept}
-use Rattle.fdc_chip.specs.Interrupts.{with_result}
-use Rattle.laws_chip.specs.Beginning.{IsOfFour}
-use Rattle.laws_chip.specs.Sound.{RestsBehind}
+use Rattle.fdc_chip.specs.Doing.{drained_by}
 use Rattle.laws_chip.proofs.FirstSectors.{IsBase}
 use Rattle.laws_chip.proofs.Standing.{Stands}
 

@@ -1,38 +1,10 @@
 -- A seek begins: its last byte comes to a chip whose heads stand, with the strap for the time of step pulses off or on.
 use Rattle.std.proofs.Common.{◌≡◌, inl, inr, ℕ, zero, suc, ◌+◌, ◌*◌, ◌%◌, ◌^◌, ◌<◌, ◌≤◌, max, Bool, true, false, not, if◌then◌else◌, Option, Some, None, is_some, List, [], ◌∷◌, length, option_map, position, slice_index, slice_set, refl, sym, ◌∙◌, ap, subst, arith, pow_pos}
-use Rattle.std.specs.Option.{option_map_or}
-use Rattle.std.proofs.lemmas.Bool.{and_from, and_right, false≢true, or_parts}
-use Rattle.fdc_commands.specs.Seeking.{IsMotion, Seeking}
+use Rattle.laws_chip.proofs.Common.{option_map_or, and_from, and_right, false≢true, or_parts, IsMotion, is_begun, Motion, Outward, Toward, DriveSeek, Taking, recalibrating, seeking_to, is_taking, takes_in, IsInRange, is_held, is_idle, Fdc, after_result, without_result, Front, GivesCommand, with_controller, pending_outside, sensed_at, sensed_outside, Through, ChipState, with_front, AttendsIf, Moves, MovesIf, Obeys, drained, drained_one, is_moving, is_told, kept, moves_heads, moving, needs_heads, pace_begun, relative_target, Interrupting, cylinder_of, with_result, WritesChip, step_words, ChipOpcode, Specify, Recalibrate, SenseInterrupt, DumpRegisters, Seek, RelativeSeek, Version, Perpendicular, Lock, Order, PacedSeek, Ready, Completes, completed, still_moves, HeadsPaced, StandsBehind, most_paced, pulses_left, HeadsGo, IsSoundInRange, SeeksBehind, goal_of, most_of, steps_left}
+use Rattle.fdc_commands.specs.Seeking.{Seeking}
 use Rattle.fdc_commands.specs.Seeking as seeking
-use Rattle.fdc_commands.specs.Table.{is_begun}
 use Rattle.fdc_commands.specs.declared.command.Command.TheVariants as command
-use Rattle.fdc_commands.specs.declared.motion.Motion.{Motion}
-use Rattle.fdc_commands.specs.declared.motion.Motion.TheVariants.{Outward, Toward}
-use Rattle.fdc_commands.specs.declared.motion.Seek.{Seek as DriveSeek}
-use Rattle.fdc_phases.specs.declared.phases.Phase.TheVariants.{Command as Taking}
-use Rattle.fdc_core.specs.Commands.{recalibrating, seeking as seeking_to}
-use Rattle.fdc_core.specs.Ports.{is_taking, takes_in}
-use Rattle.fdc_core.specs.Ranges.{IsInRange}
-use Rattle.fdc_core.specs.State.{is_held}
-use Rattle.fdc_core.specs.Whole.{is_idle}
-use Rattle.fdc_core.specs.declared.controller.Fdc.{Fdc}
-use Rattle.fdc_sequencer.specs.AdapterSenses.{after_result, without_result}
-use Rattle.fdc_sequencer.specs.Fronts.{Front, GivesCommand, with_controller}
-use Rattle.fdc_sequencer.specs.Senses.{pending_outside, sensed_at, sensed_outside}
-use Rattle.fdc_sequencer.specs.declared.stage.FrontStage.TheVariants.{Through}
-use Rattle.fdc_chip.specs.Chips.{ChipState, with_front}
-use Rattle.fdc_chip.specs.Doing.{AttendsIf, Moves, MovesIf, Obeys, drained, drained_by, drained_one, is_moving, is_told, kept, moves_heads, moving, needs_heads, pace_begun, relative_target}
-use Rattle.fdc_chip.specs.Interrupts.{Interrupting, cylinder_of, with_result}
-use Rattle.fdc_chip.specs.Ports.{WritesChip}
-use Rattle.fdc_chip.specs.Settings.{step_words}
-use Rattle.fdc_chip.specs.declared.code.ChipOpcode.{ChipOpcode}
-use Rattle.fdc_chip.specs.declared.code.ChipOpcode.TheVariants.{Specify, Recalibrate, SenseInterrupt, DumpRegisters, Seek, RelativeSeek, Version, Perpendicular, Lock}
-use Rattle.fdc_chip.specs.declared.order.Order.{Order}
-use Rattle.fdc_chip.specs.declared.pace.PacedSeek.{PacedSeek}
-use Rattle.fdc_chip.specs.declared.stage.ChipStage.TheVariants.{Ready}
-use Rattle.laws_chip.specs.Beginning.{Completes, completed, still_moves}
-use Rattle.laws_chip.specs.PacedSeeks.{HeadsPaced, StandsBehind, most_paced, pulses_left}
-use Rattle.laws_chip.specs.Seeks.{HeadsGo, IsSoundInRange, SeeksBehind, goal_of, most_of, steps_left}
+use Rattle.fdc_chip.specs.Doing.{drained_by}
 use Rattle.laws_chip.proofs.Attended.{free_stands}
 use Rattle.laws_chip.proofs.Rests.{IsResting, drained_rests}
 use Rattle.laws_chip.proofs.SoundParts.{basis_same}

@@ -1,29 +1,8 @@
 -- A command that is held while heads move: it is held through other calls, and begins in the device step in which they
 -- stand.
 use Rattle.std.proofs.Common.{◌≡◌, ◌⊎◌, inl, inr, ℕ, ◌+◌, ◌<◌, ◌≤◌, Bool, true, false, ◌||◌, Option, Some, is_some, length, slice_index, slice_set, unwrap_or, refl, sym, ◌∙◌, ap, subst}
-use Rattle.std.proofs.lemmas.Bool.{and_from, or_from, or_right}
+use Rattle.laws_chip.proofs.Common.{and_from, or_from, or_right, IsInRange, interrupts_outside, ChipState, with_front, code_of, AttendsIf, drained, implies, is_moving, moves_heads, needs_heads, Paces, CollectsIf, ComesIf, TakesByte, WritesChip, may_come, with_next, step_words, Follows, StepsChip, ChipOpcode, Order, PacedSeek, Settings, ChipStage, Ready, Held, Completes, IsDoneFree, IsHeldFor, completed, still_moves, Call, Does, is_reset, is_step, GoesBehind, HeadsPaced, StandsBehind, completes, most_left, is_of_data_port, HeadsGo, IsSoundInRange, SeeksBehind, most_of, waits_for_heads, IsSound}
 use Rattle.fdc_commands.specs.Seeking.{Seeking}
-use Rattle.fdc_core.specs.Ranges.{IsInRange}
-use Rattle.fdc_sequencer.specs.Fronts.{interrupts_outside}
-use Rattle.fdc_chip.specs.Chips.{ChipState, with_front}
-use Rattle.fdc_chip.specs.Codes.{code_of}
-use Rattle.fdc_chip.specs.Doing.{AttendsIf, drained, implies, is_moving, moves_heads, needs_heads}
-use Rattle.fdc_chip.specs.Paces.{Paces}
-use Rattle.fdc_chip.specs.Ports.{CollectsIf, ComesIf, TakesByte, WritesChip, may_come, with_next}
-use Rattle.fdc_chip.specs.Settings.{step_words}
-use Rattle.fdc_chip.specs.Steps.{Follows, StepsChip}
-use Rattle.fdc_chip.specs.declared.code.ChipOpcode.{ChipOpcode}
-use Rattle.fdc_chip.specs.declared.order.Order.{Order}
-use Rattle.fdc_chip.specs.declared.pace.PacedSeek.{PacedSeek}
-use Rattle.fdc_chip.specs.declared.settings.Settings.{Settings}
-use Rattle.fdc_chip.specs.declared.stage.ChipStage.{ChipStage}
-use Rattle.fdc_chip.specs.declared.stage.ChipStage.TheVariants.{Ready, Held}
-use Rattle.laws_chip.specs.Beginning.{Completes, IsDoneFree, IsHeldFor, completed, still_moves}
-use Rattle.laws_chip.specs.Calls.{Call, Does, is_reset, is_step}
-use Rattle.laws_chip.specs.PacedSeeks.{GoesBehind, HeadsPaced, StandsBehind, completes, most_left}
-use Rattle.laws_chip.specs.Resets.{is_of_data_port}
-use Rattle.laws_chip.specs.Seeks.{HeadsGo, IsSoundInRange, SeeksBehind, most_of, waits_for_heads}
-use Rattle.laws_chip.specs.Sound.{IsSound}
 use Rattle.laws_chip.proofs.HeadsGoing.{either_same, ended_drained, front_steps, going_drained, status_in, stood, stood_stands}
 use Rattle.laws_chip.proofs.PulsesGoing.{IsCalm, RangesLater, behind_calm, calm_drained, paced_step, seeks_calm, seeks_move}
 use Rattle.laws_chip.proofs.WholeTransfers.{attended_free, attending, byte_attends, follows_held, step_attends, step_rests}

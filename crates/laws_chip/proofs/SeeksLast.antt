@@ -1,37 +1,10 @@
 -- Heads that move come to stand, whatever calls come: each device step leaves fewer, and other calls leave no more.
 use Rattle.std.proofs.Common.{◌≡◌, ℕ, ◌+◌, ◌-◌, ◌*◌, ◌^◌, ◌<◌, ◌≤◌, max, nat_le, Bool, true, false, not, ◌&&◌, ◌||◌, ◌==◌, if◌then◌else◌, Option, Some, None, is_some, List, [], ◌∷◌, length, bit_and, bit_or, refl, sym, ◌∙◌, ap, subst, arith}
-use Rattle.std.specs.Option.{option_map_or}
-use Rattle.std.proofs.lemmas.Bool.{eqb-true, false≢true, not-true, or_right}
-use Rattle.fdc_commands.specs.Seeking.{Seeking, has_ended, is_seeking}
-use Rattle.fdc_commands.specs.declared.motion.Motion.{Motion}
-use Rattle.fdc_commands.specs.declared.motion.Motion.TheVariants.{Ended}
-use Rattle.fdc_commands.specs.declared.motion.Seek.{Seek as DriveSeek}
-use Rattle.fdc_core.specs.Ports.{resets}
-use Rattle.fdc_core.specs.Ranges.{IsInRange}
-use Rattle.fdc_core.specs.declared.controller.Fdc.{Fdc}
-use Rattle.fdc_sequencer.specs.Fronts.{Front, WritesFront, interrupts_outside, status_at}
-use Rattle.fdc_sequencer.specs.Moves.{StepsFront}
-use Rattle.fdc_chip.specs.Answers.{answer_bytes, is_of_data}
-use Rattle.fdc_chip.specs.Chips.{ChipState, with_front}
-use Rattle.fdc_chip.specs.Codes.{code_of}
-use Rattle.fdc_chip.specs.Doing.{AttendsIf, AttendsTo, Obeys, drained, is_moving, moves_heads, needs_heads, pace_begun}
-use Rattle.fdc_chip.specs.Paces.{Paces}
-use Rattle.fdc_chip.specs.Ports.{CollectsIf, ComesIf, GivesChipIf, GivesIf, ReadsAt, ReadsIf, TakesByte, TakesIf, byte_told, latched_by, is_whole, may_come, quieted_if, reset_if, value_behind, with_next}
-use Rattle.fdc_chip.specs.Settings.{step_words}
-use Rattle.fdc_chip.specs.Steps.{Follows}
-use Rattle.fdc_chip.specs.declared.answer.ChipAnswer.{ChipAnswer}
-use Rattle.fdc_chip.specs.declared.code.ChipOpcode.{ChipOpcode}
+use Rattle.laws_chip.proofs.Common.{option_map_or, eqb-true, false≢true, not-true, or_right, has_ended, is_seeking, Motion, Ended, DriveSeek, resets, IsInRange, Fdc, Front, WritesFront, interrupts_outside, status_at, StepsFront, answer_bytes, is_of_data, ChipState, with_front, code_of, AttendsIf, AttendsTo, Obeys, drained, is_moving, moves_heads, needs_heads, pace_begun, Paces, CollectsIf, ComesIf, GivesChipIf, GivesIf, ReadsAt, ReadsIf, TakesByte, TakesIf, byte_told, latched_by, is_whole, may_come, quieted_if, reset_if, value_behind, with_next, step_words, Follows, ChipAnswer, ChipOpcode, PacedSeek, Settings, ChipStage, Ready, Held, Busy, AreSeeking, HeadsGoOn, IsUsed, StaysHeld, heads_go, heads_steps, is_executed, seek_steps, Call, Does, is_step, steps_in, steps_of, pulses_left, steps_left, IsSound}
+use Rattle.fdc_commands.specs.Seeking.{Seeking}
 use Rattle.fdc_chip.specs.declared.code.ChipOpcode.TheVariants as code
-use Rattle.fdc_chip.specs.declared.pace.PacedSeek.{PacedSeek}
-use Rattle.fdc_chip.specs.declared.settings.Settings.{Settings}
-use Rattle.fdc_chip.specs.declared.stage.ChipStage.{ChipStage}
-use Rattle.fdc_chip.specs.declared.stage.ChipStage.TheVariants.{Ready, Held, Busy, Telling}
-use Rattle.laws_chip.specs.Bounds.{AreSeeking, HeadsGoOn, IsUsed, StaysHeld, heads_go, heads_steps, is_executed, seek_steps}
+use Rattle.fdc_chip.specs.declared.stage.ChipStage.TheVariants.{Telling}
 use Rattle.laws_chip.specs.Calls as made
-use Rattle.laws_chip.specs.Calls.{Call, Does, is_step, steps_in, steps_of}
-use Rattle.laws_chip.specs.PacedSeeks.{pulses_left}
-use Rattle.laws_chip.specs.Seeks.{steps_left}
-use Rattle.laws_chip.specs.Sound.{IsSound}
 use Rattle.laws_chip.proofs.Channels.{front_left}
 use Rattle.laws_chip.proofs.HeadsLeft.{IsFewLater, IsPaced, paces_on}
 use Rattle.laws_chip.proofs.HeadsTold.{TellsEnd, drained_left, drained_same}
@@ -69,9 +42,6 @@ go_some : (words : ℕ) (pace : Option PacedSeek) (seek : Option DriveSeek) → 
 go_some words (Some pace) seek goes = pace_some (pulses_left pace * (max words 256 + 1)) pace.wait (seek_steps seek)
 go_some words None None goes = absurd (false≢true goes)
 go_some words None (Some seek) goes = run_some seek.motion goes
-
-less_all : (n m k : ℕ) → n ≤ m → m ≤ k → n ≤ k
-less_all n m k one two = omega arith
 
 -- results that are taken over leave no more
 drained_few : (words n : ℕ) (chip : ChipState) → IsIdleAt chip.front → left_at words chip ≤ n → left_at words (drained chip) ≤ n

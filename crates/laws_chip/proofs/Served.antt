@@ -1,41 +1,10 @@
 -- What is served, through device steps, the channel and port accesses.
 use Rattle.std.proofs.Common.{◌≡◌, ◌⊎◌, inl, inr, ℕ, ◌+◌, ◌-◌, nat_lt, Bool, true, false, not, ◌&&◌, ◌||◌, ◌==◌, if◌then◌else◌, Option, Some, None, List, [], ◌∷◌, ◌++◌, length, refl, sym, ◌∙◌, ap, subst, append-nil, arith}
-use Rattle.std.proofs.lemmas.Bool.{and_from, and_parts, eq-eqb, eqb-true, false≢true}
-use Rattle.track_model.specs.Fields.{IsSizeCode, content_size}
-use Rattle.fdc_commands.specs.Seeking.{has_ended_seek}
-use Rattle.fdc_stages.specs.History.{Past, begun as new_past}
-use Rattle.fdc_stages.specs.declared.ending.Ending.{Ending}
-use Rattle.fdc_stages.specs.declared.ending.Ending.TheVariants.{Done, BadCheck}
-use Rattle.fdc_commands.specs.declared.command.Command.{Command}
-use Rattle.fdc_core.specs.Dma.{byte_out, taken_in, taken_out, to_memory_of, told_count}
-use Rattle.fdc_phases.specs.Heard.{MayReadIn, Sent, gave, results_sent, told_in}
-use Rattle.fdc_core.specs.Times.{WordTime, Stopped, after_time}
-use Rattle.fdc_core.specs.Listening.{is_executing}
-use Rattle.fdc_core.specs.Meaning.{AreOfField, ReadMeans, ReadMeansIn, bytes_held}
-use Rattle.fdc_core.specs.Ports.{resets}
-use Rattle.fdc_core.specs.State.{asks}
+use Rattle.laws_chip.proofs.Common.{and_from, and_parts, eq-eqb, eqb-true, false≢true, IsSizeCode, content_size, has_ended_seek, Past, new_past, Ending, Done, BadCheck, Command, byte_out, taken_in, taken_out, to_memory_of, told_count, MayReadIn, Sent, gave, results_sent, told_in, WordTime, Stopped, after_time, is_executing, AreOfField, ReadMeans, ReadMeansIn, bytes_held, resets, asks, ending_told, given_up, is_idle, mark_of, without_seek, ending_of_phase, head_of, MayWriteIn, took, Short, Long, Fdc, Phase, Taking, Execute, Result, starts_given, write_tells, writes_window, AdapterState, StepsAdapter, WritesAdapter, lines_at, selected_at, BeginsSector, Front, GivesAt, GivesCommand, GivesFront, GivesMoving, GivesTransfer, SeeksFirst, Starts, StartsIf, TakesAt, TakesFront, TakesMoving, WritesFront, begun_if, count_told, is_ready, moving_of, passed_one, results_taken, taken_at, told_front, told_if, with_controller, EndsIf, EndsSector, FollowsStep, MovesOn, SeeksOn, StepsFront, goes_on, has_met_other, is_unwanted, judged_if, passed_over_if, Accounts, AreLeft, AreMoved, BeginsServing, Carries, GoesOn, History, IsFieldDone, IsLastOne, IsFree, IsMarkOf, IsOfOther, IsOfSector, IsRefused, IsTimeOf, KeepsServing, MayMove, Means, MeansJudged, Part, Passes, PassesAt, RefusesFirst, Serves, ServesAt, ServesCounted, ServesStep, ServesUnless, StepsTo, bytes_moved, has_other, has_results, hears_count, history_counted, history_ended, history_given, history_moved, history_passed, history_sought, history_stepped, history_taken, nothing_moved, passed_in, passed_out, results_ended, sector_after, sent_of, still_seeks, is_other, is_skipping, next_of, size_of, Operation, Read, Write, MovingSector, FrontStage, Through, Seeking, Moving, Telling, Transfer}
 use Rattle.fdc_core.specs.Tellings.{WriteMeans, WriteMeansIn}
-use Rattle.fdc_core.specs.Whole.{ending_told, given_up, is_idle, mark_of, without_seek}
-use Rattle.fdc_phases.specs.Phases.{ending_of_phase, head_of}
-use Rattle.fdc_phases.specs.Written.{MayWriteIn, took}
-use Rattle.fdc_phases.specs.declared.answers.Answer.TheVariants.{Short, Long}
-use Rattle.fdc_core.specs.declared.controller.Fdc.{Fdc}
-use Rattle.fdc_phases.specs.declared.phases.Phase.{Phase}
-use Rattle.fdc_phases.specs.declared.phases.Phase.TheVariants.{Command as Taking, Execute, Result}
-use Rattle.fdc_core.proofs.MayRead.{starts_given}
 use Rattle.fdc_core.proofs.Meanings.{read_gives, read_tells}
-use Rattle.fdc_core.proofs.Tellings.{write_tells, writes_window}
-use Rattle.fdc_sequencer.specs.Adapters.{AdapterState, StepsAdapter, WritesAdapter, lines_at, selected_at}
-use Rattle.fdc_sequencer.specs.Fronts.{BeginsSector, Front, GivesAt, GivesCommand, GivesFront, GivesMoving, GivesTransfer, SeeksFirst, Starts, StartsIf, TakesAt, TakesFront, TakesMoving, WritesFront, begun_if, count_told, is_ready, moving_of, passed_one, reset_if, results_taken, taken_at, told_front, told_if, with_controller}
-use Rattle.fdc_sequencer.specs.Moves.{EndsIf, EndsSector, FollowsStep, MovesOn, SeeksOn, StepsFront, goes_on, has_met_other, is_unwanted, judged, judged_if, passed_over_if}
-use Rattle.laws_chip.specs.Serving.{Accounts, AreLeft, AreMoved, BeginsServing, Carries, GoesOn, History, IsFieldDone, IsLastOne, IsFree, IsMarkOf, IsOfOther, IsOfSector, IsRefused, IsTimeOf, KeepsServing, MayMove, Means, MeansJudged, Part, Passes, PassesAt, RefusesFirst, Serves, ServesAt, ServesCounted, ServesStep, ServesUnless, StepsTo, bytes_moved, has_other, has_results, hears_count, history_counted, history_ended, history_given, history_moved, history_passed, history_sought, history_stepped, history_taken, nothing_moved, passed_in, passed_out, results_ended, sector_after, sent_of, still_seeks}
-use Rattle.fdc_sequencer.specs.Transfers.{is_other, is_skipping, next_of, size_of}
-use Rattle.fdc_sequencer.specs.declared.opcode.Operation.{Operation}
-use Rattle.fdc_sequencer.specs.declared.opcode.Operation.TheVariants.{Read, Write}
-use Rattle.fdc_sequencer.specs.declared.stage.Moving.{Moving as MovingSector}
-use Rattle.fdc_sequencer.specs.declared.stage.FrontStage.{FrontStage}
-use Rattle.fdc_sequencer.specs.declared.stage.FrontStage.TheVariants.{Through, Seeking, Moving, Telling}
-use Rattle.fdc_sequencer.specs.declared.transfer.Transfer.{Transfer}
+use Rattle.fdc_sequencer.specs.Fronts.{reset_if}
+use Rattle.fdc_sequencer.specs.Moves.{judged}
 use Rattle.laws_chip.proofs.Judged.{judges}
 use Rattle.laws_chip.proofs.Known.{BadGoes, KnownOn, MovedOn, bytes_told, clash, either_way, in_on, out_on, port_busy, port_mark, port_on, steps_on}
 use Rattle.laws_chip.proofs.Free.{free_executes, given_free, next_size, port_free, sector_size, sought_free, step_dma, step_free}
@@ -507,9 +476,8 @@ transfers_serve transfer old new gives first history serves = same_front first h
 
 end_at : (stage : FrontStage) (old new : Front) → old.stage ≡ stage → new ≡ taken_at stage old → ServesUnless (has_results stage) old new
 end_at Through old new stage_is is = λ first history serves. absurd (served_on first history old serves stage_is)
-end_at (Seeking at counted) old new stage_is is = λ first history serves. same_front first history old new is serves
-end_at (Moving moving) old new stage_is is = λ first history serves. same_front first history old new is serves
 end_at (Telling results) old new stage_is is = ap (λ front. front.stage) is
+end_at _ old new stage_is is = λ first history serves. same_front first history old new is serves
 
 pub ends_serve : (old new : Front) → new ≡ results_taken old → ServesUnless (has_results old.stage) old new
 ends_serve old new is = end_at old.stage old new refl is

@@ -1,31 +1,11 @@
 -- A command of several sectors that the sequencer serves: it begins, goes on through device steps, and its results are
 -- given.
 use Rattle.std.proofs.Common.{◌≡◌, ◌⊎◌, inl, inr, Bool, true, false, if◌then◌else◌, Option, Some, None, [], refl, sym, ◌∙◌, ap, subst}
-use Rattle.std.proofs.lemmas.Bool.{false≢true}
-use Rattle.track_model.specs.Fields.{IsSizeCode}
-use Rattle.fdc_commands.specs.Seeking.{has_ended_seek, seek_bits, without_ended}
-use Rattle.fdc_stages.specs.declared.ending.Ending.{Ending}
-use Rattle.fdc_stages.specs.declared.ending.Ending.TheVariants.{Done, NoMark, NoSector, NoField, BadCheck, Overrun, NoCount, Protected, Late}
-use Rattle.fdc_commands.specs.declared.results.Results.{Results}
-use Rattle.fdc_phases.specs.declared.phases.Phase.TheVariants.{Command as Taking}
-use Rattle.fdc_core.specs.State.{is_held}
-use Rattle.fdc_core.specs.Whole.{ending_told, given_up, given_up_if, mark_of, without_seek}
-use Rattle.fdc_core.specs.declared.controller.Fdc.{Fdc}
-use Rattle.fdc_sequencer.specs.Adapters.{AdapterState, StepsAdapter}
-use Rattle.fdc_sequencer.specs.Fronts.{BeginsSector, Front, GivesTransfer, results_outside, results_taken, with_controller}
-use Rattle.fdc_sequencer.specs.Moves.{EndsIf, EndsSector, FollowsStep, MovesOn, SeeksOn, StepsFront, goes_on, has_met_other, is_unwanted, judged, judged_if, passed_over_if, results_behind, results_failed}
-use Rattle.fdc_sequencer.specs.Transfers.{next_of}
-use Rattle.fdc_sequencer.specs.declared.stage.Moving.{Moving as MovingSector}
-use Rattle.fdc_sequencer.specs.declared.stage.FrontStage.{FrontStage}
-use Rattle.fdc_sequencer.specs.declared.stage.FrontStage.TheVariants.{Through, Seeking, Moving, Telling}
-use Rattle.fdc_sequencer.specs.declared.transfer.Transfer.{Transfer}
-use Rattle.laws_chip.specs.SectorLasting.{is_under_way}
-use Rattle.laws_chip.specs.Serving.{History, IsFree, ServesAt, history_stepped, nothing_moved, sent_of}
+use Rattle.laws_chip.proofs.Common.{false≢true, IsSizeCode, has_ended_seek, seek_bits, without_ended, Ending, Done, NoMark, NoSector, NoField, BadCheck, Overrun, NoCount, Protected, Late, Results, Taking, is_held, ending_told, given_up, given_up_if, mark_of, without_seek, Fdc, AdapterState, StepsAdapter, BeginsSector, Front, GivesTransfer, results_outside, results_taken, with_controller, EndsIf, EndsSector, FollowsStep, MovesOn, SeeksOn, StepsFront, goes_on, has_met_other, is_unwanted, judged_if, passed_over_if, results_behind, results_failed, next_of, MovingSector, FrontStage, Seeking, Moving, Telling, Transfer, is_under_way, History, IsFree, ServesAt, history_stepped, nothing_moved, sent_of, is_size, ServesBehind, WaitsForHeads}
+use Rattle.fdc_sequencer.specs.Moves.{judged}
 use Rattle.laws_chip.proofs.Free.{given_free, next_size, sought_free, step_free}
 use Rattle.laws_chip.proofs.Served.{steps_serve}
 use Rattle.laws_chip.proofs.Shown.{tells_results}
-use Rattle.fdc_chip.specs.Doing.{is_size}
-use Rattle.laws_chip.specs.Sound.{ServesBehind, WaitsForHeads}
 use Rattle.laws_chip.proofs.FirstSectors.{IsBase, IsCarried, first_begins, sector_carried}
 use Rattle.laws_chip.proofs.Rests.{base_on, adapter_base, adapter_takes}
 use Rattle.laws_chip.proofs.Standing.{Stands}
@@ -143,8 +123,6 @@ moves_go mark (Some ending) moving old front new stage_is some sized free base e
 step_goes : (stage : FrontStage) (first : Transfer) (history : History) (old : Front) (between : AdapterState) (new : Front) → old.stage ≡ stage → is_under_way stage ≡ true → IsSizeCode first.key.n
     → ServesAt stage first history old.adapter.controller → WaitsForHeads stage old.adapter.controller.phase → old.adapter.controller.command ≡ [] → old.adapter.controller.non_dma ≡ false
     → StepsAdapter old.adapter between → FollowsStep (mark_of old.adapter.controller) stage (record old { adapter = between }) new → Goes old.adapter.controller new
-step_goes Through first history old between new stage_is under sized now waits none clear steps follows = absurd (false≢true under)
-step_goes (Telling results) first history old between new stage_is under sized now waits none clear steps follows = absurd (false≢true under)
 step_goes (Seeking at counted) first history old between new stage_is under sized (here, nothing) waits none clear steps follows =
     let base = adapter_base old.adapter between steps none in
     seeks_go (has_ended_seek between.controller.seeks) at counted old.adapter.controller (record old { adapter = between }) new stage_is (adapter_takes old.adapter between steps waits) refl
@@ -153,6 +131,7 @@ step_goes (Moving moving) first history old between new stage_is under sized (he
     let free = step_free first.opcode.operation history.past (sent_of moving.transfer) old.adapter between steps carries.busy carries.moves carries.free in
     moves_go (mark_of old.adapter.controller) (ending_told between.controller) moving old.adapter.controller (record old { adapter = between }) new stage_is refl carries.accounts.sized free
     (adapter_base old.adapter between steps none) follows
+step_goes _ first history old between new stage_is under sized now waits none clear steps follows = absurd (false≢true under)
 
 pub serves_step : (old new : Front) → StepsFront old new → old.adapter.controller.command ≡ [] → old.adapter.controller.non_dma ≡ false → ServesBehind old
     → (ServesBehind new ⊎ TellsBehind new) × IsBase old.adapter.controller new.adapter.controller

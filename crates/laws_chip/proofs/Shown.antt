@@ -1,21 +1,13 @@
 -- How the end of a command is seen.
-use Rattle.std.proofs.Common.{◌≡◌, ◌%◌, Bool, true, false, ◌==◌, if◌then◌else◌, Some, bit_and, ◌∙◌, ap, refl}
-use Rattle.std.proofs.lemmas.Bool.{false≢true}
+use Rattle.std.proofs.Common.{◌≡◌, ◌%◌, Bool, true, false, ◌==◌, if◌then◌else◌, Some, bit_and, ap, refl}
+use Rattle.laws_chip.proofs.Common.{false≢true, Results, is_gated, Fdc, Front, asks_at, asks_outside, interrupts_at, interrupts_outside, results_at, results_outside, results_taken, seeking_bit, status_at, taken_at, value_outside, FrontStage, Through, Seeking, Moving, Telling, is_under_way}
 use Rattle.std.specs.Int.RustNames.{bit_or}
 use Rattle.fdc_registers.specs.Msr.{busy}
-use Rattle.fdc_commands.specs.declared.results.Results.{Results}
-use Rattle.fdc_core.specs.State.{is_gated}
-use Rattle.fdc_core.specs.declared.controller.Fdc.{Fdc}
-use Rattle.fdc_sequencer.specs.Fronts.{Front, asks_at, asks_outside, interrupts_at, interrupts_outside, results_at, results_outside, results_taken, seeking_bit, status_at, taken_at, value_outside}
-use Rattle.fdc_sequencer.specs.declared.stage.FrontStage.{FrontStage}
-use Rattle.fdc_sequencer.specs.declared.stage.FrontStage.TheVariants.{Through, Seeking, Moving, Telling}
-use Rattle.laws_chip.specs.SectorLasting.{is_under_way}
 
 busy_at : (stage : FrontStage) (fdc : Fdc) → is_under_way stage ≡ true → status_at stage fdc ≡ bit_or busy (seeking_bit stage)
-busy_at Through fdc under = absurd (false≢true under)
 busy_at (Seeking at counted) fdc under = refl
 busy_at (Moving moving) fdc under = refl
-busy_at (Telling results) fdc under = absurd (false≢true under)
+busy_at _ fdc under = absurd (false≢true under)
 
 pub shows_busy : (front : Front) → is_under_way front.stage ≡ true → value_outside 0x3F4 front ≡ bit_or busy (seeking_bit front.stage)
 shows_busy front under = busy_at front.stage front.adapter.controller under
@@ -33,14 +25,10 @@ asks_none (Seeking at counted) = by_drive (at.head_drive % 4 == 0) (at.head_driv
 asks_none (Moving moving) = refl
 asks_none (Telling results) = refl
 
-pub none_shown : (front : Front) → is_under_way front.stage ≡ true → (bit_and (value_outside 0x3F4 front) 0xC0 == 0xC0) ≡ false
-none_shown front under = ap (λ value. bit_and value 0xC0 == 0xC0) (shows_busy front under) ∙ asks_none front.stage
-
 silent_at : (stage : FrontStage) (fdc : Fdc) → is_under_way stage ≡ true → interrupts_at stage fdc ≡ false
-silent_at Through fdc under = absurd (false≢true under)
 silent_at (Seeking at counted) fdc under = refl
 silent_at (Moving moving) fdc under = refl
-silent_at (Telling results) fdc under = absurd (false≢true under)
+silent_at _ fdc under = absurd (false≢true under)
 
 pub interrupts_not : (front : Front) → is_under_way front.stage ≡ true → interrupts_outside front ≡ false
 interrupts_not front under = silent_at front.stage front.adapter.controller under

@@ -1,23 +1,9 @@
 -- What becomes of a chip that is busy: it is still busy, or it gives results.
 use Rattle.std.proofs.Common.{◌≡◌, inl, inr, ℕ, Bool, true, false, not, ◌&&◌, ◌==◌, Option, Some, None, bit_and, refl, ◌∙◌, ap, subst}
-use Rattle.fdc_registers.specs.St1.{missing_mark}
-use Rattle.fdc_commands.specs.declared.results.Results.{Results}
-use Rattle.fdc_chip.specs.Chips.{ChipState, with_front}
-use Rattle.fdc_chip.specs.Doing.{is_size, GivesOn, identifying}
-use Rattle.fdc_chip.specs.Ending.{Ends, EndsAddress, EndsAddressIf, EndsAt, EndsData, EndsIndex, EndsSent, LooksOn, is_over, looks_for_cylinder, met_key, told_results, verified, without_one, results_judged, EndsAs, ReadsOn, unit_of}
-use Rattle.fdc_chip.specs.Steps.{Follows, FollowsTask, StepsChip}
-use Rattle.fdc_chip.specs.declared.stage.Place.{Place}
-use Rattle.fdc_chip.specs.declared.stage.Place.TheVariants.{Index, Address, Data}
-use Rattle.fdc_chip.specs.declared.stage.ChipStage.TheVariants.{Busy}
-use Rattle.fdc_chip.specs.declared.stage.ChipTask.{ChipTask}
+use Rattle.laws_chip.proofs.Common.{missing_mark, Results, ChipState, with_front, is_size, GivesOn, identifying, Ends, EndsAddress, EndsAddressIf, EndsAt, EndsData, EndsIndex, EndsSent, LooksOn, is_over, looks_for_cylinder, met_key, told_results, verified, without_one, results_judged, EndsAs, ReadsOn, unit_of, Follows, FollowsTask, StepsChip, Place, Index, Address, Data, Busy, ChipTask, Track, Call, Does, is_reset, IsBusyOrTells, results_taken, Chrn}
 use Rattle.fdc_chip.specs.declared.stage.ChipTask.TheVariants as task
-use Rattle.fdc_chip.specs.declared.stage.Track.{Track}
 use Rattle.laws_chip.specs.Calls as made
-use Rattle.laws_chip.specs.Calls.{Call, Does, is_reset}
-use Rattle.laws_chip.specs.Told.{IsBusyOrTells}
 use Rattle.laws_chip.proofs.NextStages.{IsAtTask, call_keeps}
-use Rattle.fdc_sequencer.specs.Fronts.{results_taken}
-use Rattle.flop_base.specs.declared.key.Chrn.{Chrn}
 
 -- ---- results
 

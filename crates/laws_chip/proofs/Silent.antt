@@ -1,50 +1,14 @@
 -- After the terminal count no byte passes, and no further sector begins.
 use Rattle.std.proofs.Common.{◌≡◌, inl, inr, ℕ, ◌+◌, ◌-◌, ◌==◌, nat_lt, Bool, true, false, not, ◌&&◌, ◌||◌, Option, Some, None, List, [], ◌∷◌, ◌++◌, length, if◌then◌else◌, refl, sym, ◌∙◌, ap, subst}
-use Rattle.std.proofs.lemmas.Bool.{and_parts, eqb-true, false≢true}
-use Rattle.drive_model.specs.Drive.{DriveState, at_index}
-use Rattle.fdc_registers.specs.Fifo.{Fifo, wants}
-use Rattle.fdc_stages.specs.History.{Past}
-use Rattle.fdc_stages.specs.Readings.{ReadOutcome}
+use Rattle.laws_chip.proofs.Common.{and_parts, eqb-true, false≢true, DriveState, at_index, Fifo, wants, Past, ReadOutcome, Ending, Done, Overrun, has_ended_seek, with_polls, WriteNext, On, needs_byte, phase_told, task_told, MayReadIn, MayReadTask, Sent, ending_of, is_listening, is_read, is_reading, moves_bytes, MayWriteIn, MayWriteTask, Phase, Execute, Result, Task, ReadTask, WriteTask, Format, Reading, Writing, asking_told, fifo_told, to_memory_of, told_count, ExecutesTask, is_executing, resets, after_heard, at_stage, gone_on_reading, is_full, over_or_on, pushed, asks, finished, is_gated, is_held, polled, StepsNowhere, TaskStepsNowhere, WordTime, Wrote, Stopped, after_time, ending_told, given_up, mark_of, WritesIn, WritesTask, WriteDoes, after_next, without_byte, Fdc, AdapterState, StepsAdapter, WritesAdapter, lines_at, selected_at, Front, GivesAt, TakesAt, WritesFront, begun_if, count_told, moving_of, told_front, with_controller, EndsIf, EndsSector, FollowsStep, MovesOn, SeeksOn, goes_on, is_unwanted, judged_if, passed_over_if, Operation, Read, Write, MovingSector, FrontStage, Through, Seeking, Moving, Telling, Transfer, AreWithin, Changes, Counts, Gather, Gives, Grows, Steps, Takes, passed_in_all, History, MayMove, Serves, ServesAt, history_counted, history_ended, history_given, history_moved, history_sought, history_stepped, history_taken, passed_in, passed_out}
 use Rattle.fdc_stages.specs.Readings as heard
-use Rattle.fdc_stages.specs.declared.ending.Ending.{Ending}
-use Rattle.fdc_stages.specs.declared.ending.Ending.TheVariants.{Done, Overrun}
-use Rattle.fdc_commands.specs.Seeking.{has_ended_seek, with_polls}
-use Rattle.fdc_stages.specs.declared.writing.WriteNext.{WriteNext}
-use Rattle.fdc_stages.specs.declared.writing.WriteNext.TheVariants.{On, Ended}
-use Rattle.fdc_stages.specs.Writings.{needs_byte}
-use Rattle.fdc_phases.specs.Dma.{phase_told, task_told}
-use Rattle.fdc_phases.specs.Heard.{MayReadIn, MayReadTask, Sent}
-use Rattle.fdc_phases.specs.Phases.{ending_of, is_listening, is_moving, is_over, is_read, is_reading, moves_bytes}
-use Rattle.fdc_phases.specs.Written.{MayWriteIn, MayWriteTask}
-use Rattle.fdc_phases.specs.declared.phases.Phase.{Phase}
-use Rattle.fdc_phases.specs.declared.phases.Phase.TheVariants.{Command, Execute, Result}
-use Rattle.fdc_phases.specs.declared.phases.Task.{Task}
-use Rattle.fdc_phases.specs.declared.phases.Task.TheVariants.{ReadId, Read as ReadTask, Write as WriteTask, Format}
-use Rattle.fdc_phases.specs.declared.transfers.Reading.{Reading}
-use Rattle.fdc_phases.specs.declared.transfers.Writing.{Writing}
-use Rattle.fdc_core.specs.Dma.{asking_told, fifo_told, to_memory_of, told_count}
-use Rattle.fdc_core.specs.Listening.{ExecutesTask, Follows, is_executing}
-use Rattle.fdc_core.specs.Ports.{resets}
-use Rattle.fdc_core.specs.Reading.{after_heard, at_stage, gone_on_reading, is_full, over_or_on, pushed}
-use Rattle.fdc_core.specs.State.{asks, finished, is_gated, is_held}
-use Rattle.fdc_core.specs.Steps.{polled}
-use Rattle.fdc_core.specs.Tasks.{StepsNowhere, TaskStepsNowhere}
-use Rattle.fdc_core.specs.Times.{WordTime, Saw, KeptOut, Wrote, Stopped, after_time}
-use Rattle.fdc_core.specs.Whole.{ending_told, given_up, mark_of}
-use Rattle.fdc_core.specs.Writes.{WritesIn, WritesTask}
-use Rattle.fdc_core.specs.Writing.{WriteDoes, after_next, without_byte}
-use Rattle.fdc_core.specs.declared.controller.Fdc.{Fdc}
-use Rattle.fdc_sequencer.specs.Adapters.{AdapterState, StepsAdapter, WritesAdapter, lines_at, selected_at}
-use Rattle.fdc_sequencer.specs.Fronts.{Front, GivesAt, TakesAt, WritesFront, begun_if, count_told, moving_of, reset_if, told_front, with_controller}
-use Rattle.fdc_sequencer.specs.Moves.{EndsIf, EndsSector, FollowsStep, MovesOn, SeeksOn, goes_on, is_unwanted, judged_if, passed_over_if}
-use Rattle.fdc_sequencer.specs.declared.opcode.Operation.{Operation}
-use Rattle.fdc_sequencer.specs.declared.opcode.Operation.TheVariants.{Read, Write}
-use Rattle.fdc_sequencer.specs.declared.stage.Moving.{Moving as MovingSector}
-use Rattle.fdc_sequencer.specs.declared.stage.FrontStage.{FrontStage}
-use Rattle.fdc_sequencer.specs.declared.stage.FrontStage.TheVariants.{Through, Seeking, Moving, Telling}
-use Rattle.fdc_sequencer.specs.declared.transfer.Transfer.{Transfer}
-use Rattle.laws_chip.specs.SectorCalls.{AreWithin, Call, Changes, Counts, Does, Gather, Gives, Grows, Steps, Takes, Writes, passed_by, passed_in_all}
-use Rattle.laws_chip.specs.Serving.{History, MayMove, Serves, ServesAt, history_counted, history_ended, history_given, history_moved, history_sought, history_stepped, history_taken, passed_in, passed_out}
+use Rattle.fdc_stages.specs.declared.writing.WriteNext.TheVariants.{Ended}
+use Rattle.fdc_phases.specs.Phases.{is_moving, is_over}
+use Rattle.fdc_phases.specs.declared.phases.Phase.TheVariants.{Command}
+use Rattle.fdc_phases.specs.declared.phases.Task.TheVariants.{ReadId}
+use Rattle.fdc_core.specs.Listening.{Follows}
+use Rattle.fdc_sequencer.specs.Fronts.{reset_if}
+use Rattle.laws_chip.specs.SectorCalls.{Call, Does, Writes, passed_by}
 use Rattle.laws_chip.proofs.Called.{call_serves}
 use Rattle.laws_chip.proofs.Given.{ignored, served_on}
 use Rattle.laws_chip.proofs.Served.{counts_serve}
@@ -85,9 +49,8 @@ kind_of (Read wanted skip) past sent fdc was = by_phase fdc.phase was
     by_task (Format formatting) h s was = absurd was
 
     by_phase : (phase : Phase) → MayReadIn past sent phase fdc.asking fdc.fifo.bytes → IsKind phase
-    by_phase Command was = tt
-    by_phase (Result answer) was = tt
     by_phase (Execute execution) was = by_task execution.task execution.head_drive execution.steps was
+    by_phase _ was = tt
 kind_of (Write deleted) past sent fdc was = by_phase fdc.phase was
   where
     by_task : (task : Task) (h s : ℕ) → MayWriteTask past sent deleted h s task fdc.asking fdc.fifo → IsKindTask task
@@ -97,16 +60,14 @@ kind_of (Write deleted) past sent fdc was = by_phase fdc.phase was
     by_task (Format formatting) h s was = absurd was
 
     by_phase : (phase : Phase) → MayWriteIn past sent deleted phase fdc.asking fdc.fifo → IsKind phase
-    by_phase Command was = tt
-    by_phase (Result answer) was = tt
     by_phase (Execute execution) was = by_task execution.task execution.head_drive execution.steps was
+    by_phase _ was = tt
 
 -- the terminal count makes the task silent
 told_task : (task : Task) (asking : Bool) (fifo : Fifo) → IsKindTask (task_told task) → MutedTask (task_told task) (asking_told (moves_bytes task) asking) (fifo_told (is_read task) fifo).bytes
 told_task (ReadTask reading) asking fifo kind = (refl, refl, refl)
 told_task (WriteTask writing) asking fifo kind = (refl, refl)
-told_task (ReadId search) asking fifo kind = absurd kind
-told_task (Format formatting) asking fifo kind = absurd kind
+told_task _ asking fifo kind = absurd kind
 
 told_muted : (fdc : Fdc) → IsKind (phase_told fdc.phase) → Muted (told_count fdc)
 told_muted fdc kind = by_phase fdc.phase kind
@@ -117,38 +78,32 @@ told_muted fdc kind = by_phase fdc.phase kind
     by_phase (Execute execution) kind = told_task execution.task fdc.asking fdc.fifo kind
 
 muted_task : (task : Task) (asking : Bool) (bytes : List ℕ) → MutedTask task asking bytes → IsKindTask (task_told task)
-muted_task (ReadTask reading) asking bytes was = tt
-muted_task (WriteTask writing) asking bytes was = tt
 muted_task (ReadId search) asking bytes was = absurd was
 muted_task (Format formatting) asking bytes was = absurd was
+muted_task _ asking bytes was = tt
 
 muted_kind : (phase : Phase) (asking : Bool) (bytes : List ℕ) → MutedIn phase asking bytes → IsKind (phase_told phase)
-muted_kind Command asking bytes was = tt
-muted_kind (Result answer) asking bytes was = tt
 muted_kind (Execute execution) asking bytes was = muted_task execution.task asking bytes was
+muted_kind _ asking bytes was = tt
 
 kind_task : (task : Task) → IsKindTask task → IsKindTask (task_told task)
-kind_task (ReadTask reading) kind = tt
-kind_task (WriteTask writing) kind = tt
 kind_task (ReadId search) kind = absurd kind
 kind_task (Format formatting) kind = absurd kind
+kind_task _ kind = tt
 
 kind_told : (phase : Phase) → IsKind phase → IsKind (phase_told phase)
-kind_told Command kind = tt
-kind_told (Result answer) kind = tt
 kind_told (Execute execution) kind = kind_task execution.task kind
+kind_told _ kind = tt
 
 -- such a task asks for no byte
 asks_task : (task : Task) (asking : Bool) (bytes : List ℕ) → MutedTask task asking bytes → asking ≡ false
-asks_task (ReadTask reading) asking bytes was = was.1
-asks_task (WriteTask writing) asking bytes was = was.1
 asks_task (ReadId search) asking bytes was = absurd was
 asks_task (Format formatting) asking bytes was = absurd was
+asks_task _ asking bytes was = was.1
 
 muted_asks : (phase : Phase) (asking : Bool) (bytes : List ℕ) → is_executing phase ≡ true → MutedIn phase asking bytes → asking ≡ false
-muted_asks Command asking bytes busy was = absurd (false≢true busy)
-muted_asks (Result answer) asking bytes busy was = absurd (false≢true busy)
 muted_asks (Execute execution) asking bytes busy was = asks_task execution.task asking bytes was
+muted_asks _ asking bytes busy was = absurd (false≢true busy)
 
 -- ---- a device step
 
@@ -187,11 +142,10 @@ next_muted head_drive steps writing (On stage) old counted = (counted, fills_non
 next_muted head_drive steps writing (Ended ending) old counted = tt
 
 writes_muted : (time : WordTime) (head_drive steps : ℕ) (writing : Writing) (old : Fdc) (before : DriveState) (new : Fdc) → WriteDoes time head_drive steps writing old before new → writing.counted ≡ true → Muted new
-writes_muted (Saw index word) head_drive steps writing old before new (due, does) counted = subst Muted (sym does.after_is) (next_muted head_drive (steps + 1) writing does.next old counted)
-writes_muted (KeptOut index word) head_drive steps writing old before new (due, does) counted = subst Muted (sym does.after_is) (next_muted head_drive (steps + 1) writing does.next old counted)
 writes_muted (Wrote opened closed index word) head_drive steps writing old before new does counted =
     subst Muted (sym does.after_is) (next_muted head_drive (steps + 1) writing does.next (without_byte (needs_byte writing.stage) old) counted)
 writes_muted Stopped head_drive steps writing old before new does counted = subst Muted (sym does.after_is) tt
+writes_muted _ head_drive steps writing old before new (due, does) counted = subst Muted (sym does.after_is) (next_muted head_drive (steps + 1) writing does.next old counted)
 
 polled_fifo : (b : Bool) (old : Fdc) → (if b then record old { poll_due = false; interrupt = true; seeks = with_polls old.seeks } else old).fifo ≡ old.fifo
 polled_fifo true old = refl
@@ -208,8 +162,7 @@ listens_task (ReadTask reading) h s asking bytes polls new index word was same e
   | inr (few, (after, hears, is)) ↦ subst Muted (sym is) (heard_muted h (s + 1) reading after polls was.0 (same ∙ was.2))
 ]
 listens_task (WriteTask writing) h s asking bytes polls new index word was same executes writes = writes writing refl was.0
-listens_task (ReadId search) h s asking bytes polls new index word was same executes writes = absurd was
-listens_task (Format formatting) h s asking bytes polls new index word was same executes writes = absurd was
+listens_task _ h s asking bytes polls new index word was same executes writes = absurd was
 
 -- what a write's step is
 abbrev MutesWrite : Phase → Fdc → Type 0
@@ -218,26 +171,23 @@ MutesWrite _ new = Unit {0}
 
 listens_muted : (phase : Phase) (old polls new : Fdc) (index : Bool) (word : ℕ) → is_executing phase ≡ true → MutedIn phase old.asking old.fifo.bytes → polls.fifo.bytes ≡ old.fifo.bytes
     → Follows phase polls index word old new → MutesWrite phase new → Muted new
-listens_muted Command old polls new index word busy was same follows writes = absurd (false≢true busy)
-listens_muted (Result answer) old polls new index word busy was same follows writes = absurd (false≢true busy)
 listens_muted (Execute execution) old polls new index word busy was same follows writes =
     listens_task execution.task execution.head_drive execution.steps old.asking old.fifo.bytes polls new index word was same follows.executes writes
+listens_muted _ old polls new index word busy was same follows writes = absurd (false≢true busy)
 
 writes_in : (phase : Phase) (asking : Bool) (fifo : Fifo) (polls : Fdc) (before after : DriveState) (new : Fdc) → WritesIn phase asking fifo polls before after new → MutesWrite phase new
-writes_in Command asking fifo polls before after new writes = tt
-writes_in (Result answer) asking fifo polls before after new writes = tt
 writes_in (Execute execution) asking fifo polls before after new writes = λ writing is counted.
     let step = subst (λ task. WritesTask task execution.head_drive execution.steps asking fifo polls before after new) is writes in
     writes_muted step.step.does.time execution.head_drive execution.steps writing polls before new step.step.does.does counted
+writes_in _ asking fifo polls before after new writes = tt
 
 nowhere_in : (phase : Phase) (polls new : Fdc) → StepsNowhere phase polls new → MutesWrite phase new
-nowhere_in Command polls new does = tt
-nowhere_in (Result answer) polls new does = tt
 nowhere_in (Execute execution) polls new does = λ writing is counted.
     elim (subst (λ task. TaskStepsNowhere task execution.head_drive execution.steps polls new) is does) [
       | inl (last, after) ↦ subst Muted (sym after) tt
       | inr (few, (next, hears, after)) ↦ subst Muted (sym after) (next_muted execution.head_drive (execution.steps + 1) writing next polls counted)
     ]
+nowhere_in _ polls new does = tt
 
 step_muted : (old new : AdapterState) → StepsAdapter old new → is_executing old.controller.phase ≡ true → Muted old.controller → Muted new.controller
 step_muted old new steps busy was =

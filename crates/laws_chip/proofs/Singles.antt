@@ -1,47 +1,14 @@
 -- A READ ID or a FORMAT TRACK of the inner controller: it begins, goes on through device steps, and its results wait.
 use Rattle.std.proofs.Common.{◌≡◌, ◌⊎◌, inl, inr, ℕ, ◌+◌, ◌<◌, Bool, true, false, not, ◌&&◌, if◌then◌else◌, Some, None, [], refl, sym, ◌∙◌, ap, subst, arith}
-use Rattle.std.proofs.lemmas.Bool.{false≢true}
-use Rattle.flop_base.specs.declared.key.Chrn.{Chrn}
-use Rattle.drive_model.specs.Drive.{DriveState, at_index}
-use Rattle.fdc_registers.specs.Fifo.{Fifo, emptied}
-use Rattle.fdc_commands.specs.Seeking.{seek_bits, with_polls}
+use Rattle.laws_chip.proofs.Common.{false≢true, Chrn, DriveState, at_index, Fifo, emptied, seek_bits, with_polls, Results, Ending, Done, Late, FormatNext, Numbers, SearchOutcome, results_of, IsFormattingTrack, IsReadingId, ending_of_phase, is_listening, Long, Phase, Taking, Execute, Result, Task, Formatting, BeginsData, FormatDoes, after_laid, ExecutesIn, ExecutesTask, StepsOn, after_searched, finished, is_held, EndsIn, IsCounted, polled, FormatsNowhere, StepsNowhere, TaskStepsNowhere, WordTime, Wrote, Stopped, given_up_if, results_of_phase, WritesIn, WritesTask, without_byte, Fdc, AdapterState, StepsAdapter, selected_at, Front, results_at, results_outside, results_taken, taken_at, with_controller, StepsFront, Through, ExecutesBehind, executes_single, is_single}
 use Rattle.fdc_commands.specs.declared.command.Command.TheVariants.{FormatTrack, ReadId}
-use Rattle.fdc_commands.specs.declared.results.Results.{Results}
-use Rattle.fdc_stages.specs.declared.ending.Ending.{Ending}
-use Rattle.fdc_stages.specs.declared.ending.Ending.TheVariants.{Done, Late}
-use Rattle.fdc_stages.specs.declared.formatting.FormatNext.{FormatNext}
 use Rattle.fdc_stages.specs.declared.formatting.FormatNext.TheVariants as laid
 use Rattle.fdc_stages.specs.declared.searching.Search.{Search}
-use Rattle.fdc_stages.specs.Formats.{Numbers}
-use Rattle.fdc_stages.specs.Searches.{SearchOutcome}
 use Rattle.fdc_stages.specs.Searches as searched
-use Rattle.fdc_phases.specs.Answers.{no_key, results_of}
-use Rattle.fdc_phases.specs.Commands.{IsFormattingTrack, IsReadingId}
-use Rattle.fdc_phases.specs.Phases.{ending_of_phase, is_listening}
-use Rattle.fdc_phases.specs.declared.answers.Answer.TheVariants.{Long}
-use Rattle.fdc_phases.specs.declared.phases.Phase.{Phase}
-use Rattle.fdc_phases.specs.declared.phases.Phase.TheVariants.{Command as Taking, Execute, Result}
-use Rattle.fdc_phases.specs.declared.phases.Task.{Task}
+use Rattle.fdc_phases.specs.Answers.{no_key}
 use Rattle.fdc_phases.specs.declared.phases.Task.TheVariants as task
-use Rattle.fdc_phases.specs.declared.transfers.Formatting.{Formatting}
-use Rattle.fdc_core.specs.Commands.{BeginsData}
-use Rattle.fdc_core.specs.Formatting.{FormatDoes, after_laid}
-use Rattle.fdc_core.specs.Listening.{ExecutesIn, ExecutesTask, StepsOn}
-use Rattle.fdc_core.specs.Reading.{after_searched}
-use Rattle.fdc_core.specs.State.{finished, is_held}
-use Rattle.fdc_core.specs.Steps.{EndsIn, IsCounted, polled, steps_left}
-use Rattle.fdc_core.specs.Tasks.{FormatsNowhere, StepsNowhere, TaskStepsNowhere}
-use Rattle.fdc_core.specs.Times.{WordTime, Saw, KeptOut, Wrote, Stopped}
-use Rattle.fdc_core.specs.Whole.{given_up_if, results_of_phase}
-use Rattle.fdc_core.specs.Writes.{WritesIn, WritesTask}
-use Rattle.fdc_core.specs.Writing.{without_byte}
-use Rattle.fdc_core.specs.declared.controller.Fdc.{Fdc}
-use Rattle.fdc_sequencer.specs.Adapters.{AdapterState, StepsAdapter, selected_at}
-use Rattle.fdc_sequencer.specs.Fronts.{Front, results_at, results_outside, results_taken, taken_at, with_controller}
-use Rattle.fdc_sequencer.specs.Moves.{StepsFront}
-use Rattle.fdc_sequencer.specs.declared.stage.FrontStage.TheVariants.{Through}
+use Rattle.fdc_core.specs.Steps.{steps_left}
 use Rattle.laws_chip.proofs.Known.{which_drive}
-use Rattle.laws_chip.specs.Sound.{ExecutesBehind, executes_single, is_single}
 use Rattle.laws_chip.proofs.FirstSectors.{IsBase}
 use Rattle.laws_chip.proofs.Rests.{adapter_base, through_step}
 use Rattle.laws_chip.proofs.Standing.{IsObeyed, Stands}
@@ -120,13 +87,11 @@ laid_singly head_drive steps formatting (laid.On stage) old mid same = record { 
 laid_singly head_drive steps formatting (laid.Ended ending key) old mid same = ends_singly ending head_drive key old mid same
 
 format_singly : (time : WordTime) (head_drive steps : ℕ) (formatting : Formatting) (old : Fdc) (before : DriveState) (new : Fdc) → FormatDoes time head_drive steps formatting old before new → GoesSingly old new
-format_singly (Saw index word) head_drive steps formatting old before new (due, does) =
-    singly_as old _ new (laid_singly head_drive (steps + 1) formatting does.next old old refl) does.after_is
-format_singly (KeptOut index word) head_drive steps formatting old before new (due, does) =
-    singly_as old _ new (laid_singly head_drive (steps + 1) formatting does.next old old refl) does.after_is
 format_singly (Wrote opened closed index word) head_drive steps formatting old before new does =
     singly_as old _ new (laid_singly head_drive (steps + 1) formatting does.next old (without_byte does.needs old) (without_seeks does.needs old)) does.after_is
 format_singly Stopped head_drive steps formatting old before new does = singly_as old _ new (ends_singly does.ending head_drive no_key old old refl) does.after_is
+format_singly _ head_drive steps formatting old before new (due, does) =
+    singly_as old _ new (laid_singly head_drive (steps + 1) formatting does.next old old refl) does.after_is
 
 nowhere_singly : (head_drive steps : ℕ) (formatting : Formatting) (old new : Fdc) → FormatsNowhere head_drive steps formatting old new → GoesSingly old new
 nowhere_singly head_drive steps formatting old new (inl (last, is)) = singly_as old _ new (ends_singly Late head_drive no_key old old refl) is
@@ -138,26 +103,22 @@ module _ (polls new : Fdc) where
   task_singly (task.ReadId search) head_drive steps index word asking fifo before after single executes writes = id_singly head_drive steps search index word polls new executes
   task_singly (task.Format formatting) head_drive steps index word asking fifo before after single executes writes =
       format_singly writes.step.does.time head_drive steps formatting polls before new writes.step.does.does
-  task_singly (task.Read reading) head_drive steps index word asking fifo before after single executes writes = absurd (false≢true single)
-  task_singly (task.Write writing) head_drive steps index word asking fifo before after single executes writes = absurd (false≢true single)
+  task_singly _ head_drive steps index word asking fifo before after single executes writes = absurd (false≢true single)
 
   phase_singly : (phase : Phase) (index : Bool) (word : ℕ) (asking : Bool) (fifo : Fifo) (before after : DriveState) → executes_single phase ≡ true → ExecutesIn phase index word polls new
       → WritesIn phase asking fifo polls before after new → GoesSingly polls new
-  phase_singly Taking index word asking fifo before after single executes writes = absurd (false≢true single)
-  phase_singly (Result ended) index word asking fifo before after single executes writes = absurd (false≢true single)
   phase_singly (Execute execution) index word asking fifo before after single executes writes =
       task_singly execution.task execution.head_drive execution.steps index word asking fifo before after single executes writes
+  phase_singly _ index word asking fifo before after single executes writes = absurd (false≢true single)
 
   task_alone : (begins : Task) (head_drive steps : ℕ) → is_single begins ≡ true → TaskStepsNowhere begins head_drive steps polls new → GoesSingly polls new
   task_alone (task.ReadId search) head_drive steps single does = id_singly head_drive steps search false 0 polls new does
   task_alone (task.Format formatting) head_drive steps single does = nowhere_singly head_drive steps formatting polls new does
-  task_alone (task.Read reading) head_drive steps single does = absurd (false≢true single)
-  task_alone (task.Write writing) head_drive steps single does = absurd (false≢true single)
+  task_alone _ head_drive steps single does = absurd (false≢true single)
 
   phase_alone : (phase : Phase) → executes_single phase ≡ true → StepsNowhere phase polls new → GoesSingly polls new
-  phase_alone Taking single does = absurd (false≢true single)
-  phase_alone (Result ended) single does = absurd (false≢true single)
   phase_alone (Execute execution) single does = task_alone execution.task execution.head_drive execution.steps single does
+  phase_alone _ single does = absurd (false≢true single)
 
 adapter_singly : (old new : AdapterState) → StepsAdapter old new → executes_single old.controller.phase ≡ true → GoesSingly (polled old.controller) new.controller
 adapter_singly old new steps single =
@@ -186,9 +147,8 @@ adapter_ends old new steps = elim (which_drive (selected_at old)) [
 ]
 
 pub single_fewer : (old new : Phase) → executes_single old ≡ true → EndsIn old new → (steps_left new < steps_left old) × IsCounted new
-single_fewer Taking new single ends = absurd (false≢true single)
-single_fewer (Result ended) new single ends = absurd (false≢true single)
 single_fewer (Execute execution) new single ends = ends
+single_fewer _ new single ends = absurd (false≢true single)
 
 -- the results of the command wait to be read
 pub record WaitsBehind (front : Front) : Type 0 where
@@ -217,9 +177,8 @@ executes_step old new step none was =
 -- ---- ---- its results
 
 none_of : (phase : Phase) → executes_single phase ≡ true → results_of_phase phase ≡ None
-none_of Taking single = absurd (false≢true single)
-none_of (Result ended) single = absurd (false≢true single)
 none_of (Execute execution) single = refl
+none_of _ single = absurd (false≢true single)
 
 pub executes_none : (front : Front) → ExecutesBehind front → results_outside front ≡ None
 executes_none front was = ap (λ stage. results_at stage front.adapter.controller) was.through ∙ none_of front.adapter.controller.phase was.executes

@@ -1,30 +1,9 @@
 -- A READ ID or a FORMAT TRACK of the inner controller ends: each device step leaves fewer.
 use Rattle.std.proofs.Common.{◌≡◌, inl, inr, ℕ, ◌+◌, ◌-◌, ◌<◌, ◌≤◌, Bool, true, false, not, ◌&&◌, ◌==◌, Option, option_map, List, [], ◌∷◌, bit_and, refl, sym, ◌∙◌, ap, subst, arith}
-use Rattle.std.proofs.lemmas.Bool.{eqb-false, false≢true}
-use Rattle.fdc_registers.specs.St1.{missing_mark}
-use Rattle.fdc_commands.specs.declared.results.Results.{Results}
-use Rattle.fdc_phases.specs.Dma.{phase_told}
-use Rattle.fdc_phases.specs.declared.phases.Phase.{Phase}
-use Rattle.fdc_phases.specs.declared.phases.Phase.TheVariants.{Execute}
-use Rattle.fdc_core.specs.Steps.{IsCounted, steps_left}
-use Rattle.fdc_core.specs.declared.controller.Fdc.{Fdc}
-use Rattle.fdc_sequencer.specs.Fronts.{Front, GivesFront, TakesFront, count_told as front_told, told_front, told_if, results_taken}
-use Rattle.fdc_sequencer.specs.Moves.{StepsFront}
-use Rattle.fdc_chip.specs.Chips.{ChipState, with_front}
-use Rattle.fdc_chip.specs.Doing.{is_size}
-use Rattle.fdc_chip.specs.Ending.{Ends, EndsAddress, EndsAddressIf, EndsAt, EndsAs, EndsData, EndsIndex, EndsSent, MayEnd, is_over, judged, looks_for_cylinder, verified, without_one}
-use Rattle.fdc_chip.specs.Steps.{Follows, FollowsTask}
-use Rattle.fdc_chip.specs.declared.stage.Place.{Place}
-use Rattle.fdc_chip.specs.declared.stage.Place.TheVariants.{Index, Address, Data}
-use Rattle.fdc_chip.specs.declared.stage.ChipStage.{ChipStage}
-use Rattle.fdc_chip.specs.declared.stage.ChipStage.TheVariants.{Busy}
-use Rattle.fdc_chip.specs.declared.stage.ChipTask.{ChipTask}
+use Rattle.laws_chip.proofs.Common.{eqb-false, false≢true, missing_mark, Results, phase_told, Phase, Execute, IsCounted, Fdc, Front, GivesFront, TakesFront, front_told, told_front, told_if, results_taken, StepsFront, ChipState, with_front, is_size, Ends, EndsAddress, EndsAddressIf, EndsAt, EndsAs, EndsData, EndsIndex, EndsSent, MayEnd, is_over, judged, looks_for_cylinder, verified, without_one, Follows, FollowsTask, Place, Index, Address, Data, ChipStage, Busy, ChipTask, Track, Call, Does, steps_in, steps_of, AreAt, ExecutesBehind, IsSound, executes_single, has_command}
+use Rattle.fdc_core.specs.Steps.{steps_left}
 use Rattle.fdc_chip.specs.declared.stage.ChipTask.TheVariants as task
-use Rattle.fdc_chip.specs.declared.stage.Track.{Track}
 use Rattle.laws_chip.specs.Calls as made
-use Rattle.laws_chip.specs.Calls.{Call, Does, steps_in, steps_of}
-use Rattle.laws_chip.specs.Lasting.{AreAt}
-use Rattle.laws_chip.specs.Sound.{ExecutesBehind, IsSound, executes_single}
 use Rattle.laws_chip.proofs.Channels.{counts_executes, front_gives, front_takes, gives_executes, keeps_executes, port_executes, front_left, takes_executes}
 use Rattle.laws_chip.proofs.FormatsEnd.{FormatsOn, formats, formats_step, told_formats}
 use Rattle.laws_chip.proofs.Rests.{through_step}
@@ -34,7 +13,6 @@ use Rattle.laws_chip.proofs.SoundParts.{busy_at, is_busy}
 use Rattle.laws_chip.proofs.UnderWay.{not_through}
 use Rattle.laws_chip.proofs.NextStages as makes
 use Rattle.laws_chip.proofs.NextStages.{Makes, call_stays, is_change}
-use Rattle.laws_chip.specs.Bounds.{has_command}
 
 -- ---- what is over leaves the stage
 

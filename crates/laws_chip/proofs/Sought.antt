@@ -1,18 +1,9 @@
 -- An implied seek ends: each device step brings it nearer.
 use Rattle.std.proofs.Common.{◌≡◌, inl, inr, ℕ, ◌+◌, ◌-◌, ◌≤◌, nat_lt, Bool, true, false, not, ◌||◌, ◌==◌, if◌then◌else◌, Option, Some, None, refl, sym, ◌∙◌, ap, subst, arith}
-use Rattle.std.specs.Option.{ForSome}
-use Rattle.std.proofs.lemmas.Bool.{false≢true, not-true, or_parts}
-use Rattle.std.proofs.lemmas.Bool.Decides.{nat_tests}
-use Rattle.fdc_commands.specs.Seeking.{IsMotion, Seeking as Seeks, ended, has_ended, has_ended_seek, is_seeking, neighbour, recalibrated, sought, stepped, stepped_seek, with_motion, with_polls}
-use Rattle.fdc_commands.specs.declared.motion.Motion.{Motion}
+use Rattle.laws_chip.proofs.Common.{ForSome, false≢true, not-true, or_parts, nat_tests, IsMotion, Seeks, ended, has_ended, has_ended_seek, is_seeking, neighbour, recalibrated, sought, stepped_seek, with_motion, with_polls, Motion, Phase, Execute, is_executing, RestsIn, polled, seek_stepped, Fdc, AdapterState, StepsAdapter, selected_at}
+use Rattle.fdc_commands.specs.Seeking.{stepped}
 use Rattle.fdc_commands.specs.declared.motion.Motion.TheVariants as motion
 use Rattle.fdc_commands.specs.declared.motion.Seek.{Seek}
-use Rattle.fdc_phases.specs.declared.phases.Phase.{Phase}
-use Rattle.fdc_phases.specs.declared.phases.Phase.TheVariants.{Command as Taking, Execute, Result}
-use Rattle.fdc_core.specs.Listening.{is_executing}
-use Rattle.fdc_core.specs.Steps.{RestsIn, polled, seek_stepped}
-use Rattle.fdc_core.specs.declared.controller.Fdc.{Fdc}
-use Rattle.fdc_sequencer.specs.Adapters.{AdapterState, StepsAdapter, selected_at}
 use Rattle.laws_chip.proofs.Known.{which_drive}
 
 -- the device steps that a seek still takes
@@ -101,9 +92,8 @@ polls_of old = by_poll _
     by_poll false = record { phase_is = refl; seek = refl; runs = refl }
 
 idle_rests : (phase : Phase) (track0 : Bool) (polls new : Fdc) → is_executing phase ≡ false → RestsIn phase track0 polls new → new ≡ seek_stepped track0 polls
-idle_rests Taking track0 polls new idle rests = rests
-idle_rests (Result answer) track0 polls new idle rests = rests
 idle_rests (Execute execution) track0 polls new idle rests = absurd (false≢true (sym idle))
+idle_rests _ track0 polls new idle rests = rests
 
 -- a device step while a seek runs
 pub record NearsEnd (old new : Fdc) : Type 0 where

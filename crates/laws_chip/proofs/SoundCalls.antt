@@ -1,35 +1,13 @@
 -- A sound chip through each call.
 use Rattle.std.proofs.Common.{◌≡◌, inl, inr, ℕ, ◌+◌, ◌<◌, nat_le, Bool, true, false, not, ◌&&◌, ◌==◌, if◌then◌else◌, Option, List, [], ◌∷◌, length, bit_and, bit_or, refl, sym, ◌∙◌, ap, subst, arith}
-use Rattle.std.proofs.lemmas.Bool.{agree_below_at, and_parts, eqb-true, false≢true, not-true, or_cases}
-use Rattle.drive_model.specs.Drive.{DriveState}
-use Rattle.fdc_commands.specs.Seeking.{Seeking, at_rest}
-use Rattle.fdc_phases.specs.Rates.{rate_chosen}
-use Rattle.fdc_phases.specs.declared.phases.Phase.TheVariants.{Command as Taking}
-use Rattle.fdc_core.specs.Ports.{Writes, dor_resets, dsr_resets, resets}
-use Rattle.fdc_core.specs.State.{is_gated, is_held, reset}
-use Rattle.fdc_core.specs.declared.controller.Fdc.{Fdc}
-use Rattle.fdc_core.specs.declared.controller.Lines.{Lines}
-use Rattle.fdc_sequencer.specs.Adapters.{lines_at}
-use Rattle.fdc_sequencer.specs.Fronts.{Front, KeepsFront, WritesFront}
+use Rattle.laws_chip.proofs.Common.{agree_below_at, and_parts, eqb-true, false≢true, not-true, or_cases, DriveState, at_rest, rate_chosen, Taking, Writes, dor_resets, dsr_resets, resets, is_gated, is_held, reset, Fdc, Lines, lines_at, Front, KeepsFront, WritesFront, Through, answer_bytes, is_of_data, ChipState, IsNewChip, KeepsChip, is_data, passes, passes_by_channel, passes_by_port, with_front, code_of, with_byte, CollectsIf, ComesIf, GivesChipIf, GivesIf, ReadsAt, ReadsChip, ReadsIf, TakesByte, TakesIf, WritesChip, byte_told, counted_if, latched_by, given_one, is_whole, may_come, quieted_if, reset_if, value_behind, with_next, is_by_port, ChipAnswer, Order, ChipStage, Ready, Busy, ChipTask, IsOfFour, AreMade, Call, Does, WritesByte, IsBusyWith, IsSound, IsSoundAt, RestsBehind}
+use Rattle.fdc_commands.specs.Seeking.{Seeking}
 use Rattle.fdc_sequencer.specs.Fronts as fronts
-use Rattle.fdc_sequencer.specs.declared.stage.FrontStage.TheVariants.{Through}
-use Rattle.fdc_chip.specs.Answers.{answer_bytes, is_of_data}
-use Rattle.fdc_chip.specs.Chips.{ChipState, IsNewChip, KeepsChip, is_data, passes, passes_by_channel, passes_by_port, with_front}
-use Rattle.fdc_chip.specs.Codes.{code_of}
-use Rattle.fdc_chip.specs.Orders.{with_byte}
 use Rattle.fdc_chip.specs.Pins.{ResetsByPin, pin_settings}
-use Rattle.fdc_chip.specs.Ports.{CollectsIf, ComesIf, GivesChipIf, GivesIf, ReadsAt, ReadsChip, ReadsIf, TakesByte, TakesIf, WritesChip, byte_told, count_told, counted_if, latched_by, given_one, is_whole, may_come, quieted_if, reset_if, value_behind, with_next}
-use Rattle.fdc_chip.specs.Settings.{is_by_port}
-use Rattle.fdc_chip.specs.declared.answer.ChipAnswer.{ChipAnswer}
-use Rattle.fdc_chip.specs.declared.order.Order.{Order}
-use Rattle.fdc_chip.specs.declared.stage.ChipStage.{ChipStage}
-use Rattle.fdc_chip.specs.declared.stage.ChipStage.TheVariants.{Ready, Held, Busy, Telling}
-use Rattle.fdc_chip.specs.declared.stage.ChipTask.{ChipTask}
+use Rattle.fdc_chip.specs.Ports.{count_told}
+use Rattle.fdc_chip.specs.declared.stage.ChipStage.TheVariants.{Telling}
 use Rattle.fdc_chip.specs.declared.stage.ChipTask.TheVariants as task
-use Rattle.laws_chip.specs.Beginning.{IsOfFour}
 use Rattle.laws_chip.specs.Calls as made
-use Rattle.laws_chip.specs.Calls.{AreMade, Call, Does, WritesByte}
-use Rattle.laws_chip.specs.Sound.{IsBusyWith, IsSound, IsSoundAt, RestsBehind}
 use Rattle.laws_chip.proofs.Attended.{attended_sound}
 use Rattle.laws_chip.proofs.Channels.{counts_busy, counts_front_base, front_left, gives_busy, gives_front_base, keeps_busy, port_busy, takes_busy, takes_front_base}
 use Rattle.laws_chip.proofs.FirstSectors.{IsBase}
@@ -83,18 +61,13 @@ counted_sound true under set new basis busy stage is =
 counted_sound false under set new basis busy stage is = subst IsSound (sym is) (basis_busy set under basis busy stage)
 
 counts_at : (stage : ChipStage) (old new : ChipState) → old.stage ≡ stage → IsSound old → new ≡ count_told stage old → IsSound new
-counts_at Ready old new at sound is = same_sound old new is sound
-counts_at Held old new at sound is = same_sound old new is sound
-counts_at (Telling answer read) old new at sound is = same_sound old new is sound
 counts_at (Busy task.Sent) old new at sound is =
     counted_sound true task.Sent old new (sound_basis old (ap parts.is_ready at) sound) (busy_at old task.Sent at sound) at is
-counts_at (Busy (task.Sought results)) old new at sound is = same_sound old new is sound
-counts_at (Busy (task.Refused unit key mfm)) old new at sound is = same_sound old new is sound
-counts_at (Busy (task.Verify left)) old new at sound is = same_sound old new is sound
 counts_at (Busy (task.Track track)) old new at sound is =
     let told : ChipTask = task.Track (record track { counted = true }) in
     let set = record old { stage = Busy told } in
     counted_sound (is_data track.place) told set new (basis_set old set (sound_basis old (ap parts.is_ready at) sound)) (busy_at old (task.Track track) at sound) refl is
+counts_at _ old new at sound is = same_sound old new is sound
 
 -- ---- reads
 
@@ -124,10 +97,8 @@ told_sound answer read old new at sound is =
     (subst RestsBehind (sym stays.front) (parts.at_rest old.stage old.front (ap is_busy at) sound.now)) refl stays.idle)
 
 data_read : (stage : ChipStage) (value : ℕ) (old new : ChipState) → old.stage ≡ stage → IsSound old → ReadsAt stage old value new → IsSound new
-data_read Ready value old new at sound reads = read_sound (passes_by_port old) value old new refl sound reads
-data_read Held value old new at sound reads = read_sound (passes_by_port old) value old new refl sound reads
-data_read (Busy what) value old new at sound reads = read_sound (passes_by_port old) value old new refl sound reads
 data_read (Telling answer read) value old new at sound (value_is, is) = told_sound answer read old new at sound is
+data_read _ value old new at sound reads = read_sound (passes_by_port old) value old new refl sound reads
 
 reads_sound : (port value : ℕ) (old new : ChipState) → IsSound old → ReadsChip port old value new → IsSound new
 reads_sound port value old new sound reads = either_way (port == 0x3F5)
@@ -199,9 +170,7 @@ comes_sound false byte old new comes at few sound is = same_sound old new is sou
 
 data_write : (stage : ChipStage) (value : ℕ) (old new : ChipState) → old.stage ≡ stage → value < 256 → IsSound old → TakesByte stage value old new → IsSound new
 data_write Ready value old new at few sound comes = comes_sound (may_come old) value old new refl at few sound comes
-data_write Held value old new at few sound gives = write_sound (passes_by_port old) value old new refl sound gives
-data_write (Busy what) value old new at few sound gives = write_sound (passes_by_port old) value old new refl sound gives
-data_write (Telling answer read) value old new at few sound gives = write_sound (passes_by_port old) value old new refl sound gives
+data_write _ value old new at few sound gives = write_sound (passes_by_port old) value old new refl sound gives
 
 -- ---- a reset
 

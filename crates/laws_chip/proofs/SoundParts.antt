@@ -1,15 +1,6 @@
 -- What makes a chip sound, from what the chip was.
 use Rattle.std.proofs.Common.{◌≡◌, ◌<◌, Bool, true, false, not, ◌&&◌, ◌==◌, [], refl, sym, ◌∙◌, ap, subst}
-use Rattle.std.proofs.lemmas.Bool.{and_parts, eqb-true, false≢true}
-use Rattle.fdc_core.specs.State.{is_gated, is_held}
-use Rattle.fdc_sequencer.specs.Fronts.{Front}
-use Rattle.fdc_chip.specs.Chips.{ChipState, passes, passes_at, with_front}
-use Rattle.fdc_chip.specs.Orders.{is_format}
-use Rattle.fdc_chip.specs.declared.order.Order.{Order}
-use Rattle.fdc_chip.specs.declared.stage.ChipStage.{ChipStage}
-use Rattle.fdc_chip.specs.declared.stage.ChipStage.TheVariants.{Ready, Held, Busy, Telling}
-use Rattle.fdc_chip.specs.declared.stage.ChipTask.{ChipTask}
-use Rattle.laws_chip.specs.Sound.{IsBusyWith, IsSound, IsSoundAt, RestsBehind}
+use Rattle.laws_chip.proofs.Common.{and_parts, eqb-true, false≢true, is_gated, is_held, Front, ChipState, passes, passes_at, with_front, is_format, Order, ChipStage, Ready, Busy, ChipTask, IsBusyWith, IsSound, IsSoundAt, RestsBehind}
 use Rattle.laws_chip.proofs.FirstSectors.{IsBase, base_gated, base_held}
 use Rattle.laws_chip.proofs.UnderWay.{clash, either_way}
 
@@ -28,10 +19,8 @@ not_ready stage other is = false≢true (sym other ∙ ap is_ready is)
 
 -- bytes pass only where something is executed
 passing_at : (stage : ChipStage) → passes_at stage ≡ true → (task : ChipTask) × (stage ≡ Busy task)
-passing_at Ready passes = absurd (false≢true passes)
-passing_at Held passes = absurd (false≢true passes)
 passing_at (Busy task) passes = (task, refl)
-passing_at (Telling answer read) passes = absurd (false≢true passes)
+passing_at _ passes = absurd (false≢true passes)
 
 pub passing_of : (chip : ChipState) → passes chip ≡ true → (task : ChipTask) × (chip.stage ≡ Busy task)
 passing_of chip is = passing_at chip.stage (and_parts (passes_at chip.stage) (not (is_format chip.order && (chip.keys == 0))) is).0
@@ -39,23 +28,17 @@ passing_of chip is = passing_at chip.stage (and_parts (passes_at chip.stage) (no
 -- ---- ---- the inner controller at a stage
 
 pub rests_at : (stage : ChipStage) (front : Front) → is_busy stage ≡ false → RestsBehind front → IsSoundAt stage front
-rests_at Ready front idle rests = rests
-rests_at Held front idle rests = rests
 rests_at (Busy task) front idle rests = absurd (false≢true (sym idle))
-rests_at (Telling answer read) front idle rests = rests
+rests_at _ front idle rests = rests
 
 pub at_rest : (stage : ChipStage) (front : Front) → is_busy stage ≡ false → IsSoundAt stage front → RestsBehind front
-at_rest Ready front idle now = now
-at_rest Held front idle now = now
 at_rest (Busy task) front idle now = absurd (false≢true (sym idle))
-at_rest (Telling answer read) front idle now = now
+at_rest _ front idle now = now
 
 -- it goes on as it was at each stage, if it goes on resting and executing
 pub keep_sound : (stage : ChipStage) (old new : Front) → (RestsBehind old → RestsBehind new) → ((what : ChipTask) → IsBusyWith what old → IsBusyWith what new) → IsSoundAt stage old → IsSoundAt stage new
-keep_sound Ready old new rests busy now = rests now
-keep_sound Held old new rests busy now = rests now
 keep_sound (Busy what) old new rests busy now = busy what now
-keep_sound (Telling answer read) old new rests busy now = rests now
+keep_sound _ old new rests busy now = rests now
 
 pub busy_at : (chip : ChipState) (task : ChipTask) → chip.stage ≡ Busy task → IsSound chip → IsBusyWith task chip.front
 busy_at chip task is sound = subst (λ stage. IsSoundAt stage chip.front) is sound.now

@@ -1,29 +1,11 @@
 -- A sound chip through device steps.
 use Rattle.std.proofs.Common.{◌≡◌, ◌⊎◌, inl, inr, ℕ, zero, suc, nat_le, Bool, true, false, not, ◌&&◌, ◌==◌, if◌then◌else◌, Option, Some, None, [], bit_and, refl, sym, ◌∙◌, ap, subst}
-use Rattle.std.specs.Option.{option_map}
-use Rattle.std.proofs.lemmas.Bool.{and_parts, not-true}
-use Rattle.flop_base.specs.declared.key.Chrn.{Chrn}
-use Rattle.fdc_registers.specs.St1.{missing_mark}
+use Rattle.laws_chip.proofs.Common.{option_map, and_parts, not-true, Chrn, missing_mark, Results, Front, TakesFront, interrupts_outside, is_ready_behind, results_outside, results_taken, told_front, StepsFront, ChipState, asks_chip, interrupts_chip, with_front, code_of, GivesOn, drained, identifying, implies, is_size, moves_heads, moving, Ends, EndsAddress, EndsAddressIf, EndsAs, EndsAt, EndsData, EndsIndex, EndsSent, LooksOn, MayEnd, ReadsOn, is_over, judged, looks_for_cylinder, met_key, sector_met, told_results, track_at, unit_of, verified, without_one, EndsPace, GoesOnIf, Paces, PulsesIf, is_due, is_over_pace, step_words, Follows, FollowsTask, RunsChip, StepsChip, Swallows, SwallowsAs, PacedSeek, Place, Index, Address, Data, ChipStage, Ready, Held, Busy, ChipTask, Track, ExecutesBehind, IsBusyAt, IsBusyWith, IsSound, RestsBehind, ServesBehind}
 use Rattle.fdc_commands.specs.declared.command.Command.TheVariants.{ReadId}
-use Rattle.fdc_commands.specs.declared.results.Results.{Results}
-use Rattle.fdc_sequencer.specs.Fronts.{Front, TakesFront, interrupts_outside, is_ready as is_ready_behind, results_outside, results_taken, told_front}
-use Rattle.fdc_sequencer.specs.Moves.{StepsFront}
-use Rattle.fdc_chip.specs.Chips.{ChipState, asks_chip, interrupts_chip, with_front}
-use Rattle.fdc_chip.specs.Codes.{code_of}
-use Rattle.fdc_chip.specs.Doing.{GivesOn, drained, identifying, implies, is_size, moves_heads, moving}
-use Rattle.fdc_chip.specs.Ending.{Ends, EndsAddress, EndsAddressIf, EndsAs, EndsAt, EndsData, EndsIndex, EndsSent, LooksOn, MayEnd, ReadsOn, is_over, judged, looks_for_cylinder, met_key, sector_met, told_results, track_at, unit_of, verified, without_one}
-use Rattle.fdc_chip.specs.Paces.{EndsAt as EndsPace, GoesOnIf, Paces, PulsesIf, is_due, is_over as is_over_pace, stepped}
-use Rattle.fdc_chip.specs.Settings.{step_words}
-use Rattle.fdc_chip.specs.Steps.{Follows, FollowsTask, RunsChip, RunsChipWith, StepsChip, Swallows, SwallowsAs, SwallowsBy}
-use Rattle.fdc_chip.specs.declared.pace.PacedSeek.{PacedSeek}
-use Rattle.fdc_chip.specs.declared.stage.Place.{Place}
-use Rattle.fdc_chip.specs.declared.stage.Place.TheVariants.{Index, Address, Data}
-use Rattle.fdc_chip.specs.declared.stage.ChipStage.{ChipStage}
-use Rattle.fdc_chip.specs.declared.stage.ChipStage.TheVariants.{Ready, Held, Busy, Telling}
-use Rattle.fdc_chip.specs.declared.stage.ChipTask.{ChipTask}
+use Rattle.fdc_chip.specs.Paces.{stepped}
+use Rattle.fdc_chip.specs.Steps.{RunsChipWith, SwallowsBy}
+use Rattle.fdc_chip.specs.declared.stage.ChipStage.TheVariants.{Telling}
 use Rattle.fdc_chip.specs.declared.stage.ChipTask.TheVariants as task
-use Rattle.fdc_chip.specs.declared.stage.Track.{Track}
-use Rattle.laws_chip.specs.Sound.{ExecutesBehind, IsBusyAt, IsBusyWith, IsSound, RestsBehind, ServesBehind}
 use Rattle.laws_chip.proofs.Attended.{attended_sound, done_sound, given_moves, recalibrated_rests}
 use Rattle.laws_chip.proofs.Channels.{IsOverBehind, counts_busy, counts_front_base, counts_over, takes_busy, takes_front_base, takes_over}
 use Rattle.laws_chip.proofs.FieldsRead.{field_serves}
@@ -96,11 +78,10 @@ place_sound Data track results old new basis stands ends =
 
 ends_sound : (what : ChipTask) (results : Results) (old new : ChipState) → IsBasis old → Stands old.front → Ends what results old new → IsSound new
 ends_sound task.Sent results old new basis stands ends = sent_sound (looks_for_cylinder old.order results) results old new basis stands ends
-ends_sound (task.Sought first) results old new basis stands is = told_sound _ old new basis stands is
-ends_sound (task.Refused unit key mfm) results old new basis stands is = told_sound _ old new basis stands is
 ends_sound (task.Verify left) results old new basis stands ends =
     let told = verified old.order results in sent_sound (looks_for_cylinder old.order told) told old new basis stands ends
 ends_sound (task.Track track) results old new basis stands ends = place_sound track.place track results old new basis stands ends
+ends_sound _ results old new basis stands is = told_sound _ old new basis stands is
 
 -- ---- ---- what may wait after a step
 
@@ -112,9 +93,8 @@ serves_none : (front : Front) → ServesBehind front → results_outside front �
 serves_none front serves = none_wait front serves.under_way
 
 place_none : (place : Place) (front : Front) → IsBusyAt place front → results_outside front ≡ None
-place_none Index front serves = serves_none front serves
 place_none Address front executes = executes_none front executes
-place_none Data front serves = serves_none front serves
+place_none _ front serves = serves_none front serves
 
 pub busy_none : (what : ChipTask) (front : Front) → IsBusyWith what front → results_outside front ≡ None
 busy_none task.Sent front (inl serves) = serves_none front serves
@@ -160,11 +140,9 @@ stepped_as what old new busy (goes, base) = record { at = elim goes [ inl still 
 
 place_stepped : (place : Place) (track : Track) (old new : Front) → track.place ≡ place → StepsFront old new → old.adapter.controller.command ≡ [] → old.adapter.controller.non_dma ≡ false → IsBusyAt place old
     → IsStepped (task.Track track) old new
-place_stepped Index track old new at step none clear busy =
-    stepped_as (task.Track track) old new (λ serves. subst (λ place. IsBusyAt place new) (sym at) serves) (serves_stepped old new step none clear busy)
 place_stepped Address track old new at step none clear busy =
     stepped_as (task.Track track) old new (λ executes. subst (λ place. IsBusyAt place new) (sym at) executes) (executes_stepped old new step none busy)
-place_stepped Data track old new at step none clear busy =
+place_stepped _ track old new at step none clear busy =
     stepped_as (task.Track track) old new (λ serves. subst (λ place. IsBusyAt place new) (sym at) serves) (serves_stepped old new step none clear busy)
 
 pub front_stepped : (what : ChipTask) (old new : Front) → StepsFront old new → old.adapter.controller.command ≡ [] → old.adapter.controller.non_dma ≡ false → IsBusyWith what old → IsStepped what old new

@@ -1,27 +1,10 @@
 -- A front whose controller takes a command and executes it, and a command that is given to it.
-use Rattle.std.proofs.Common.{◌≡◌, ℕ, zero, suc, ◌<◌, ◌^◌, Bool, true, false, not, ◌==◌, if◌then◌else◌, List, [], ◌∷◌, Option, Some, None, bit_and, bit_or, refl, sym, ◌∙◌, ap, subst, arith}
-use Rattle.std.specs.Option.{option_map_or}
-use Rattle.std.proofs.lemmas.Bool.{and_parts, and_from, false≢true, not-false, not-true}
-use Rattle.fdc_commands.specs.Seeking.{seek_bits}
+use Rattle.std.proofs.Common.{◌≡◌, ℕ, suc, ◌<◌, ◌^◌, Bool, true, false, not, ◌==◌, if◌then◌else◌, List, [], ◌∷◌, Option, Some, None, bit_and, bit_or, refl, sym, ◌∙◌, ap, subst, arith}
+use Rattle.laws_chip.proofs.Common.{option_map_or, and_parts, and_from, false≢true, not-false, not-true, seek_bits, is_begun, whole, Invalid, Command, Phase, Taking, TakesAs, is_taking, main_status, phase_bits, takes_in, is_held, is_idle, Fdc, Lines, lines_at, Commands, CommandsIf, Front, GivesCommand, is_ready, is_ready_at, status_at, FrontStage, Through, is_size, moves_heads, IsFreeBehind, IsOfFour}
 use Rattle.fdc_commands.specs.declared.motion.Seek.{Seek}
-use Rattle.fdc_commands.specs.Table.{is_begun, whole}
-use Rattle.fdc_commands.specs.declared.bytes.Accepted.TheVariants.{Invalid, Ready}
-use Rattle.fdc_commands.specs.declared.command.Command.{Command}
+use Rattle.fdc_commands.specs.declared.bytes.Accepted.TheVariants.{Ready}
 use Rattle.fdc_commands.specs.declared.command.Command.TheVariants.{FormatTrack}
-use Rattle.fdc_phases.specs.declared.phases.Phase.{Phase}
-use Rattle.fdc_phases.specs.declared.phases.Phase.TheVariants.{Command as Taking, Execute, Result}
-use Rattle.fdc_core.specs.Commands.{Obeys, TakesAs}
-use Rattle.fdc_core.specs.Ports.{is_taking, main_status, phase_bits, takes_in}
-use Rattle.fdc_core.specs.State.{is_held}
-use Rattle.fdc_core.specs.Whole.{is_idle}
-use Rattle.fdc_core.specs.declared.controller.Fdc.{Fdc}
-use Rattle.fdc_core.specs.declared.controller.Lines.{Lines}
-use Rattle.fdc_sequencer.specs.Adapters.{lines_at}
-use Rattle.fdc_sequencer.specs.Fronts.{Commands, CommandsIf, Front, GivesCommand, is_ready, is_ready_at, status_at}
-use Rattle.fdc_sequencer.specs.declared.stage.FrontStage.{FrontStage}
-use Rattle.fdc_sequencer.specs.declared.stage.FrontStage.TheVariants.{Through, Seeking, Moving, Telling}
-use Rattle.fdc_chip.specs.Doing.{is_size, moves_heads}
-use Rattle.laws_chip.specs.Beginning.{IsFreeBehind, IsOfFour}
+use Rattle.fdc_core.specs.Commands.{Obeys}
 
 -- the controller takes the first byte of a command, and executes what comes: no seek bit is set, and SPECIFY didn't set
 -- ND
@@ -37,8 +20,7 @@ pub record Stands (front : Front) : Type 0 where
 
 taking_phase : (phase : Phase) (held : Bool) → takes_in phase held ≡ true → (phase ≡ Taking) × (held ≡ false)
 taking_phase Taking held is = (refl, not-true held is)
-taking_phase (Execute execution) held is = absurd (false≢true is)
-taking_phase (Result ended) held is = absurd (false≢true is)
+taking_phase _ held is = absurd (false≢true is)
 
 begun_none : (command : List ℕ) → is_begun command ≡ false → command ≡ []
 begun_none [] is = refl
@@ -46,17 +28,12 @@ begun_none (byte ∷ rest) is = absurd (false≢true (sym is))
 
 ready_through : (stage : FrontStage) (fdc : Fdc) → is_ready_at stage fdc ≡ true → (stage ≡ Through) × (is_idle fdc ≡ true)
 ready_through Through fdc is = (refl, is)
-ready_through (Seeking transfer counted) fdc is = absurd (false≢true is)
-ready_through (Moving moving) fdc is = absurd (false≢true is)
-ready_through (Telling results) fdc is = absurd (false≢true is)
+ready_through _ fdc is = absurd (false≢true is)
 
 -- MSR shows that no seek bit is set
 no_drive : (drive : ℕ) → drive < 4 → (bit_and (bit_or 0x80 (2 ^ drive)) 0x0F == 0) ≡ true → ⊥
-no_drive zero few none = false≢true none
-no_drive (suc zero) few none = false≢true none
-no_drive (suc (suc zero)) few none = false≢true none
-no_drive (suc (suc (suc zero))) few none = false≢true none
 no_drive (suc (suc (suc (suc drive)))) few none = absurd (omega arith)
+no_drive _ few none = false≢true none
 
 no_seek : (seek : Option Seek) → IsOfFour seek → (bit_and (bit_or 0x80 (option_map_or (λ (s : Seek). 2 ^ s.drive) seek 0)) 0x0F == 0) ≡ true → option_map_or (λ (s : Seek). 2 ^ s.drive) seek 0 ≡ 0
 no_seek None few none = refl

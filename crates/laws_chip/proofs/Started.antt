@@ -1,36 +1,10 @@
 -- How the controller's own command for a sector begins.
 use Rattle.std.proofs.Common.{◌≡◌, ◌⊎◌, inl, inr, ℕ, zero, suc, ◌+◌, nat_le, Bool, true, false, not, ◌&&◌, ◌||◌, ◌==◌, if◌then◌else◌, Option, None, [], length, refl, sym, ◌∙◌, ap, subst, arith, zero-add}
-use Rattle.std.proofs.lemmas.Bool.{false≢true, and_from, and_parts, eqb-true, leb-true}
-use Rattle.flop_base.specs.declared.key.Chrn.{Chrn}
-use Rattle.track_model.specs.Fields.{IsSizeCode, content_size}
-use Rattle.fdc_registers.specs.Fifo.{emptied}
-use Rattle.fdc_commands.specs.Seeking.{seek_bits}
-use Rattle.fdc_commands.specs.Table.{is_begun}
-use Rattle.fdc_commands.specs.declared.bytes.Accepted.TheVariants.{Ready, Invalid}
-use Rattle.fdc_commands.specs.declared.command.Command.{Command}
-use Rattle.fdc_commands.specs.declared.command.Command.TheVariants.{ReadData, Seek, WriteData, WriteDeleted}
-use Rattle.fdc_stages.specs.History.{Past, begun as new_past}
-use Rattle.fdc_core.specs.Commands.{BeginsData, Obeys, TakesAs, answered}
-use Rattle.fdc_core.specs.Dma.{told_count}
-use Rattle.fdc_core.specs.Fields.{ReadsField, address_words, heard_words}
+use Rattle.laws_chip.proofs.Common.{false≢true, and_from, and_parts, eqb-true, leb-true, Chrn, IsSizeCode, content_size, emptied, seek_bits, is_begun, Invalid, Command, ReadData, WriteData, WriteDeleted, Past, new_past, BeginsData, TakesAs, answered, told_count, ReadsField, address_words, heard_words, Sent, told_in, is_executing, is_taking, TakesWhole, is_idle, mark_of, MayWrite, Short, Fdc, Lines, Result, AdapterState, moving_of, sector_alone, told_if, Accounts, Carries, IsFree, IsOfOther, MayMove, bytes_moved, sent_of, command_for, command_of, is_skipping, size_of, Operation, Read, Write, MovingSector, Transfer}
+use Rattle.fdc_commands.specs.declared.bytes.Accepted.TheVariants.{Ready}
+use Rattle.fdc_commands.specs.declared.command.Command.TheVariants.{Seek}
+use Rattle.fdc_core.specs.Commands.{Obeys}
 use Rattle.fdc_core.specs.Heard.{MayRead}
-use Rattle.fdc_phases.specs.Heard.{Sent, told_in}
-use Rattle.fdc_core.specs.Listening.{is_executing}
-use Rattle.fdc_core.specs.Ports.{is_taking}
-use Rattle.fdc_core.specs.Whole.{TakesWhole, is_idle, mark_of}
-use Rattle.fdc_core.specs.Written.{MayWrite}
-use Rattle.fdc_phases.specs.declared.answers.Answer.TheVariants.{Short}
-use Rattle.fdc_core.specs.declared.controller.Fdc.{Fdc}
-use Rattle.fdc_core.specs.declared.controller.Lines.{Lines}
-use Rattle.fdc_phases.specs.declared.phases.Phase.TheVariants.{Result}
-use Rattle.fdc_sequencer.specs.Adapters.{AdapterState}
-use Rattle.fdc_sequencer.specs.Fronts.{moving_of, sector_alone, told_if}
-use Rattle.laws_chip.specs.Serving.{Accounts, Carries, IsFree, IsOfOther, MayMove, bytes_moved, sent_of}
-use Rattle.fdc_sequencer.specs.Transfers.{command_for, command_of, is_skipping, size_of}
-use Rattle.fdc_sequencer.specs.declared.opcode.Operation.{Operation}
-use Rattle.fdc_sequencer.specs.declared.opcode.Operation.TheVariants.{Read, Write}
-use Rattle.fdc_sequencer.specs.declared.stage.Moving.{Moving as MovingSector}
-use Rattle.fdc_sequencer.specs.declared.transfer.Transfer.{Transfer}
 use Rattle.laws_chip.proofs.Known.{clash, either_way, told_busy, told_on}
 use Rattle.laws_chip.proofs.Marks.{fresh_mark, told_mark}
 
@@ -39,23 +13,13 @@ use Rattle.laws_chip.proofs.Marks.{fresh_mark, told_mark}
 -- the bytes of a sector
 pub size_is : (n : ℕ) → IsSizeCode n → size_of n ≡ content_size n
 size_is zero (some, few) = absurd (omega arith)
-size_is (suc zero) sized = refl
-size_is (suc (suc zero)) sized = refl
-size_is (suc (suc (suc zero))) sized = refl
-size_is (suc (suc (suc (suc zero)))) sized = refl
-size_is (suc (suc (suc (suc (suc zero))))) sized = refl
-size_is (suc (suc (suc (suc (suc (suc zero)))))) sized = refl
 size_is (suc (suc (suc (suc (suc (suc (suc n))))))) (some, few) = absurd (omega arith)
+size_is _ sized = refl
 
 pub size_some : (n : ℕ) → IsSizeCode n → (size_of n == 0) ≡ false
 size_some zero (some, few) = absurd (omega arith)
-size_some (suc zero) sized = refl
-size_some (suc (suc zero)) sized = refl
-size_some (suc (suc (suc zero))) sized = refl
-size_some (suc (suc (suc (suc zero)))) sized = refl
-size_some (suc (suc (suc (suc (suc zero))))) sized = refl
-size_some (suc (suc (suc (suc (suc (suc zero)))))) sized = refl
 size_some (suc (suc (suc (suc (suc (suc (suc n))))))) (some, few) = absurd (omega arith)
+size_some _ sized = refl
 
 pub in_range : (n : ℕ) → (nat_le 1 n && nat_le n 6) ≡ true → IsSizeCode n
 in_range n is = let (some, few) = and_parts (nat_le 1 n) (nat_le n 6) is in (leb-true 1 n some, leb-true n 6 few)

@@ -1,21 +1,11 @@
 -- The results that the sequencer gives, taken by the chip in the step in which they come.
 use Rattle.std.proofs.Common.{◌≡◌, inl, inr, ℕ, Bool, true, false, not, ◌&&◌, ◌||◌, ◌==◌, if◌then◌else◌, Option, Some, None, bit_or, refl, sym, ◌∙◌, ap, subst}
-use Rattle.std.specs.Option.{option_map}
-use Rattle.std.proofs.lemmas.Bool.{and_left, and_right}
+use Rattle.laws_chip.proofs.Common.{option_map, and_left, and_right, Results, Front, asks_outside, is_through, results_outside, results_taken, taken_at, ChipState, asks_chip, interrupts_chip, passes, passes_at, shows_behind, with_front, EndsAs, EndsSent, cylinder_bits, done_if, fits_selected, has_room, judged, looks_for_cylinder, results_judged, with_cylinder_passed, is_format, is_by_port, Follows, StepsChip, Busy, Sought, AddsCylinder, AreOfCylinder, LooksFor, LooksOrTells, Tells}
 use Rattle.std.proofs.lemmas.Nat.{or_comm}
 use Rattle.fdc_registers.specs.St2.{wrong_cylinder, bad_cylinder}
-use Rattle.fdc_commands.specs.declared.results.Results.{Results}
-use Rattle.fdc_sequencer.specs.Fronts.{Front, asks_outside, is_through, results_outside, results_taken, taken_at}
 use Rattle.fdc_sequencer.specs.declared.stage.FrontStage.TheVariants as behind
 use Rattle.laws_chip.proofs.Shown.{tells_results}
-use Rattle.fdc_chip.specs.Chips.{ChipState, asks_chip, interrupts_chip, passes, passes_at, shows_behind, with_front}
-use Rattle.fdc_chip.specs.Ending.{EndsAs, EndsSent, cylinder_bits, done_if, fits_selected, has_room, judged, looks_for_cylinder, results_judged, with_cylinder_passed}
-use Rattle.fdc_chip.specs.Orders.{is_format}
-use Rattle.fdc_chip.specs.Settings.{is_by_port}
-use Rattle.fdc_chip.specs.Steps.{Follows, StepsChip}
-use Rattle.fdc_chip.specs.declared.stage.ChipStage.TheVariants.{Busy}
-use Rattle.fdc_chip.specs.declared.stage.ChipTask.TheVariants.{Sent, Sought}
-use Rattle.laws_chip.specs.Told.{AddsCylinder, AreOfCylinder, LooksFor, LooksOrTells, Tells}
+use Rattle.fdc_chip.specs.declared.stage.ChipTask.TheVariants.{Sent}
 
 -- ---- ---- the results of a front that gives them
 

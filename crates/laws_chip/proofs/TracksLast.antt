@@ -1,37 +1,12 @@
 -- A READ TRACK ends: it looks for the index, and each sector that it reads leaves one fewer.
 use Rattle.std.proofs.Common.{◌≡◌, inl, inr, ℕ, zero, suc, ◌+◌, ◌-◌, ◌*◌, ◌%◌, ◌<◌, ◌≤◌, Bool, true, false, not, ◌&&◌, ◌||◌, ◌==◌, if◌then◌else◌, Option, Some, None, is_some, option_map, List, [], ◌∷◌, bit_and, refl, sym, ◌∙◌, ap, subst, arith}
-use Rattle.std.proofs.lemmas.Bool.{eqb-false, false≢true}
-use Rattle.flop_base.specs.declared.key.Chrn.{Chrn}
-use Rattle.fdc_registers.specs.St1.{missing_mark, overrun}
-use Rattle.fdc_commands.specs.declared.results.Results.{Results}
-use Rattle.fdc_core.specs.Ranges.{IsInRange}
+use Rattle.laws_chip.proofs.Common.{eqb-false, false≢true, Chrn, missing_mark, overrun, Results, IsInRange, Front, GivesTransfer, ReadsSector, results_outside, results_taken, sector_alone, StepsFront, is_last, transfer_with, Read, Transfer, HasRecords, most_steps, ChipState, with_front, Obeys, TransfersIf, absent_key, implies, is_size, reading_one, sectors_of_track, track_begun, transfer_sent, with_last, EndsAddress, EndsAddressIf, EndsAt, EndsAs, EndsData, EndsIndex, LooksOn, ReadsOn, is_over, judged, met_key, sector_met, without_one, Follows, StepsChip, ReadTrack, Order, Place, Index, Address, Data, Busy, ChipTask, Track, IsFreeBehind, Call, Does, is_step, steps_in, steps_of, AreTracked, IsTracking, most_track_steps, IsBusyAt, IsSound, ServesBehind, has_command}
 use Rattle.fdc_core.specs.Steps.{steps_left}
-use Rattle.fdc_sequencer.specs.Fronts.{Front, GivesTransfer, ReadsSector, results_outside, results_taken, sector_alone}
-use Rattle.fdc_sequencer.specs.Moves.{StepsFront}
-use Rattle.fdc_sequencer.specs.Transfers.{is_last, transfer_with}
-use Rattle.fdc_sequencer.specs.declared.opcode.Operation.TheVariants.{Read}
-use Rattle.fdc_sequencer.specs.declared.transfer.Transfer.{Transfer}
 use Rattle.laws_chip.specs.SectorCalls as behind
 use Rattle.laws_chip.specs.SectorLasting as lasting
-use Rattle.laws_chip.specs.SectorLasting.{HasRecords, most_steps}
 use Rattle.laws_chip.proofs.Lasted.{Lasts, call_lasts, calls_last, field_lasts, first_lasts, lasts_some}
-use Rattle.fdc_chip.specs.Chips.{ChipState, with_front}
-use Rattle.fdc_chip.specs.Doing.{Obeys, TransfersIf, absent_key, implies, is_size, reading_one, sectors_of_track, track_begun, transfer_sent, with_last}
-use Rattle.fdc_chip.specs.Ending.{EndsAddress, EndsAddressIf, EndsAt, EndsAs, EndsData, EndsIndex, LooksOn, ReadsOn, is_over, judged, met_key, sector_met, without_one}
-use Rattle.fdc_chip.specs.Steps.{Follows, StepsChip}
-use Rattle.fdc_chip.specs.declared.code.ChipOpcode.TheVariants.{ReadTrack}
-use Rattle.fdc_chip.specs.declared.order.Order.{Order}
-use Rattle.fdc_chip.specs.declared.stage.Place.{Place}
-use Rattle.fdc_chip.specs.declared.stage.Place.TheVariants.{Index, Address, Data}
-use Rattle.fdc_chip.specs.declared.stage.ChipStage.TheVariants.{Busy}
-use Rattle.fdc_chip.specs.declared.stage.ChipTask.{ChipTask}
 use Rattle.fdc_chip.specs.declared.stage.ChipTask.TheVariants as task
-use Rattle.fdc_chip.specs.declared.stage.Track.{Track}
-use Rattle.laws_chip.specs.Beginning.{IsFreeBehind}
 use Rattle.laws_chip.specs.Calls as made
-use Rattle.laws_chip.specs.Calls.{Call, Does, is_step, steps_in, steps_of}
-use Rattle.laws_chip.specs.Lasting.{AreTracked, IsTracking, most_track_steps}
-use Rattle.laws_chip.specs.Sound.{IsBusyAt, IsSound, ServesBehind}
 use Rattle.laws_chip.proofs.CommandsBegun.{sought_sent}
 use Rattle.laws_chip.proofs.FirstSectors.{first_begins}
 use Rattle.laws_chip.proofs.ServedSteps.{serves_step, tells_shown}
@@ -42,7 +17,6 @@ use Rattle.laws_chip.proofs.Standing.{Stands, stands_free}
 use Rattle.laws_chip.proofs.UnderWay.{clash, either_way, not_through}
 use Rattle.laws_chip.proofs.VerifiesLast.{IsWithin, makes_within}
 use Rattle.laws_chip.proofs.NextStages.{Makes, call_stays, is_change}
-use Rattle.laws_chip.specs.Bounds.{has_command}
 
 -- ---- how many device steps are left
 
@@ -190,9 +164,8 @@ positive zero some = absurd (some refl)
 positive (suc n) some = omega arith
 
 not_last : (counted last overran : Bool) → ((counted || last) || overran) ≡ false → last ≡ false
-not_last true last overran on = absurd (false≢true (sym on))
-not_last false true overran on = absurd (false≢true (sym on))
 not_last false false overran on = refl
+not_last _ _ overran on = absurd (false≢true (sym on))
 
 data_leaves : (b : Bool) (n : ℕ) (results : Results) (track : Track) (old new : ChipState) → 1 ≤ track.left → SpentAt Data n track.left → IsTracking new → is_over results (without_one results track) ≡ b
     → EndsData b (without_one results track) old new → Leaves (n - 1) new
@@ -245,8 +218,7 @@ as_many now was more n fewer few = omega arith
 leaves_within : (b : Bool) (place : Place) (n left : ℕ) (old new : Front) → Makes b old new → IsBusyAt place old → IsBusyAt place new → LeavesAt place n left old → LeavesAt place n left new
 leaves_within b Address n left old new does was now few =
     as_many (steps_left new.adapter.controller.phase) (steps_left old.adapter.controller.phase) (65792 + 131328 * left) (n + 131328) (makes_single b old new does was).left few
-leaves_within b Index n left old new does was now (here, lasts, few) = (here, serves_within here old new was lasts (makes_within b old new does now.under_way), few)
-leaves_within b Data n left old new does was now (here, lasts, few) = (here, serves_within here old new was lasts (makes_within b old new does now.under_way), few)
+leaves_within b _ n left old new does was now (here, lasts, few) = (here, serves_within here old new was lasts (makes_within b old new does now.under_way), few)
 
 pub none_of : (call : Call) → is_step call ≡ false → steps_of call ≡ 0
 none_of made.Steps other = absurd (false≢true (sym other))

@@ -1,11 +1,7 @@
 -- A front whose command is under way, through the calls that don't end it.
 use Rattle.std.proofs.Common.{◌≡◌, ℕ, Bool, true, false, ◌==◌, Option, Some, None, refl, sym, ◌∙◌, ap, subst}
-use Rattle.std.proofs.lemmas.Bool.{false≢true, eqb-true}
-use Rattle.fdc_core.specs.Ports.{resets}
-use Rattle.fdc_sequencer.specs.Fronts.{Front, GivesAt, TakesAt, WritesFront, count_told, reset_if, told_front}
-use Rattle.fdc_sequencer.specs.declared.stage.FrontStage.{FrontStage}
-use Rattle.fdc_sequencer.specs.declared.stage.FrontStage.TheVariants.{Through, Seeking, Moving, Telling}
-use Rattle.laws_chip.specs.SectorLasting.{is_under_way}
+use Rattle.laws_chip.proofs.Common.{false≢true, eqb-true, resets, Front, GivesAt, TakesAt, WritesFront, count_told, told_front, FrontStage, Through, Seeking, Moving, is_under_way}
+use Rattle.fdc_sequencer.specs.Fronts.{reset_if}
 
 pub clash : {A : Type 0} (b : Bool) → b ≡ false → b ≡ true → A
 clash b is other = absurd (false≢true (sym is ∙ other))
@@ -24,24 +20,21 @@ same_under old new is under = ap (λ front. is_under_way front.stage) is ∙ und
 -- ---- the channel
 
 pub takes_under : (stage : FrontStage) (byte : Option ℕ) (old new : Front) → old.stage ≡ stage → is_under_way stage ≡ true → TakesAt stage old byte new → is_under_way new.stage ≡ true
-takes_under Through byte old new at under takes = absurd (false≢true under)
-takes_under (Telling results) byte old new at under takes = absurd (false≢true under)
 takes_under (Seeking transfer counted) byte old new at under (none, is) = ap (λ front. is_under_way front.stage) is ∙ ap is_under_way at
 takes_under (Moving moving) None old new at under (quiet, is) = ap (λ front. is_under_way front.stage) is ∙ ap is_under_way at
 takes_under (Moving moving) (Some byte) old new at under (up, byte_is, is) = ap (λ front. is_under_way front.stage) is
+takes_under _ byte old new at under takes = absurd (false≢true under)
 
 pub gives_under : (stage : FrontStage) (byte : ℕ) (was : Bool) (old new : Front) → old.stage ≡ stage → is_under_way stage ≡ true → GivesAt stage byte old was new → is_under_way new.stage ≡ true
-gives_under Through byte was old new at under gives = absurd (false≢true under)
-gives_under (Telling results) byte was old new at under gives = absurd (false≢true under)
 gives_under (Seeking transfer counted) byte was old new at under (none, is) = ap (λ front. is_under_way front.stage) is ∙ ap is_under_way at
 gives_under (Moving moving) byte false old new at under (quiet, is) = ap (λ front. is_under_way front.stage) is ∙ ap is_under_way at
 gives_under (Moving moving) byte true old new at under (up, is) = ap (λ front. is_under_way front.stage) is
+gives_under _ byte was old new at under gives = absurd (false≢true under)
 
 counted_under : (stage : FrontStage) (old new : Front) → is_under_way stage ≡ true → new ≡ count_told stage old → is_under_way new.stage ≡ true
-counted_under Through old new under is = absurd (false≢true under)
-counted_under (Telling results) old new under is = absurd (false≢true under)
 counted_under (Seeking transfer counted) old new under is = ap (λ front. is_under_way front.stage) is
 counted_under (Moving moving) old new under is = ap (λ front. is_under_way front.stage) is
+counted_under _ old new under is = absurd (false≢true under)
 
 pub counts_under : (old new : Front) → is_under_way old.stage ≡ true → new ≡ told_front old → is_under_way new.stage ≡ true
 counts_under old new under is = counted_under old.stage old new under is

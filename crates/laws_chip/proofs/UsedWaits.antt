@@ -1,26 +1,9 @@
 -- A chip that was made new and used by any calls: a command that it holds waits for heads for a bounded number of device
 -- steps.
-use Rattle.std.proofs.Common.{◌≡◌, inl, inr, ℕ, ◌<◌, ◌≤◌, Bool, true, false, not, ◌&&◌, ◌==◌, Option, Some, None, List, [], ◌∷◌, refl, sym, ◌∙◌, ap, subst, arith}
-use Rattle.std.proofs.lemmas.Bool.{and_from, false≢true}
-use Rattle.drive_model.specs.Drive.{DriveState}
-use Rattle.fdc_commands.specs.Seeking.{at_rest}
-use Rattle.fdc_commands.specs.declared.motion.Seek.{Seek as DriveSeek}
-use Rattle.fdc_core.specs.declared.controller.Fdc.{Fdc}
-use Rattle.fdc_chip.specs.Chips.{ChipState, IsNewChip}
-use Rattle.fdc_chip.specs.Doing.{AttendsIf, MovesIf, Obeys, drained, is_moving, needs_heads, ready, relative_target}
-use Rattle.fdc_chip.specs.Interrupts.{cylinder_of}
-use Rattle.fdc_chip.specs.Ports.{WritesChip}
-use Rattle.fdc_chip.specs.Settings.{step_words}
-use Rattle.fdc_chip.specs.declared.code.ChipOpcode.{ChipOpcode}
+use Rattle.std.proofs.Common.{◌≡◌, ℕ, ◌<◌, ◌≤◌, Bool, true, false, ◌==◌, Option, Some, None, List, [], ◌∷◌, refl, sym, ◌∙◌, ap, subst, arith}
+use Rattle.laws_chip.proofs.Common.{and_from, false≢true, DriveState, Fdc, ChipState, IsNewChip, AttendsIf, MovesIf, Obeys, drained, is_moving, needs_heads, relative_target, cylinder_of, WritesChip, step_words, ChipOpcode, PacedSeek, ChipStage, Ready, Held, Completes, still_moves, AreUses, HasRanges, HeadsMove, IsGiven, IsUsed, IsWorking, WaitsFor, heads_of, heads_steps, wait_of, wait_at, Call, IsSound}
 use Rattle.fdc_chip.specs.declared.code.ChipOpcode.TheVariants as code
-use Rattle.fdc_chip.specs.declared.pace.PacedSeek.{PacedSeek}
-use Rattle.fdc_chip.specs.declared.stage.ChipStage.{ChipStage}
-use Rattle.fdc_chip.specs.declared.stage.ChipStage.TheVariants.{Ready, Held, Busy, Telling}
-use Rattle.laws_chip.specs.Beginning.{Completes, still_moves}
-use Rattle.laws_chip.specs.Bounds.{AreUses, HasRanges, HeadsMove, IsGiven, IsUsed, IsWorking, WaitsFor, heads_of, heads_steps, wait_of, wait_at}
 use Rattle.laws_chip.specs.Bounds as bounds
-use Rattle.laws_chip.specs.Calls.{Call}
-use Rattle.laws_chip.specs.Sound.{IsSound}
 use Rattle.laws_chip.proofs.HeadsTold.{TellsEnd, drained_runs}
 use Rattle.laws_chip.proofs.HeadsWait.{heads_some, range_steps, taken_idle}
 use Rattle.laws_chip.proofs.KnownEnds.{KnowsEnd, call_known}

@@ -1,32 +1,15 @@
 -- A VERIFY is a READ DATA of the sequencer, whose bytes go nowhere, and it ends as that READ DATA does. So does a
 -- transfer.
 use Rattle.std.proofs.Common.{◌≡◌, ℕ, zero, suc, ◌+◌, ◌*◌, ◌<◌, Bool, true, false, ◌==◌, if◌then◌else◌, Option, Some, None, List, [], ◌∷◌, ◌++◌, refl, sym, ◌∙◌, ap, subst}
-use Rattle.std.proofs.lemmas.Bool.{false≢true}
-use Rattle.fdc_commands.specs.declared.results.Results.{Results}
-use Rattle.fdc_core.specs.Ranges.{IsInRange}
-use Rattle.fdc_sequencer.specs.Fronts.{Front, GivesTransfer, TakesAt, count_told as front_told, told_front, results_taken}
-use Rattle.fdc_sequencer.specs.Transfers.{size_of}
-use Rattle.fdc_sequencer.specs.declared.stage.FrontStage.{FrontStage}
-use Rattle.fdc_sequencer.specs.declared.stage.FrontStage.TheVariants.{Through, Seeking, Moving, Telling}
-use Rattle.fdc_sequencer.specs.declared.transfer.Transfer.{Transfer}
+use Rattle.laws_chip.proofs.Common.{false≢true, Results, IsInRange, Front, GivesTransfer, TakesAt, front_told, told_front, results_taken, size_of, FrontStage, Through, Seeking, Moving, Telling, Transfer, HasByteNumbers, is_under_way, most_steps, ChipState, with_front, Obeys, TransfersIf, implies, is_size, sectors_verified, transfer_sent, verifying, with_last, EndsAs, EndsSent, looks_for_cylinder, results_judged, verified, Follows, StepsChip, Swallows, SwallowsAs, VerifyCode, ChipStage, Busy, BeginsBehind, IsBegun, IsFreeBehind, AreServed, Call, Does, steps_in, steps_of, AreVerified, IsVerifying, has_command}
 use Rattle.laws_chip.specs.SectorCalls as behind
 use Rattle.laws_chip.specs.SectorLasting as lasting
-use Rattle.laws_chip.specs.SectorLasting.{HasByteNumbers, is_under_way, most_steps}
 use Rattle.laws_chip.proofs.Called.{both_within}
 use Rattle.laws_chip.proofs.Lasted.{command_within}
 use Rattle.laws_chip.proofs.Sectors.{steps_both}
-use Rattle.fdc_chip.specs.Chips.{ChipState, with_front}
-use Rattle.fdc_chip.specs.Doing.{Obeys, TransfersIf, implies, is_size, sectors_verified, transfer_sent, verifying, with_last}
-use Rattle.fdc_chip.specs.Ending.{EndsAs, EndsSent, looks_for_cylinder, results_judged, verified}
-use Rattle.fdc_chip.specs.Steps.{Follows, StepsChip, Swallows, SwallowsAs, SwallowsBy}
-use Rattle.fdc_chip.specs.declared.code.ChipOpcode.TheVariants.{Verify as VerifyCode}
-use Rattle.fdc_chip.specs.declared.stage.ChipStage.{ChipStage}
-use Rattle.fdc_chip.specs.declared.stage.ChipStage.TheVariants.{Busy}
+use Rattle.fdc_chip.specs.Steps.{SwallowsBy}
 use Rattle.fdc_chip.specs.declared.stage.ChipTask.TheVariants.{Verify}
-use Rattle.laws_chip.specs.Beginning.{BeginsBehind, IsBegun, IsFreeBehind}
 use Rattle.laws_chip.specs.Calls as made
-use Rattle.laws_chip.specs.Calls.{AreServed, Call, Does, steps_in, steps_of}
-use Rattle.laws_chip.specs.Lasting.{AreVerified, IsVerifying}
 use Rattle.laws_chip.proofs.CommandsBegun.{sought_sent}
 use Rattle.laws_chip.proofs.FirstSectors.{first_begins}
 use Rattle.laws_chip.proofs.PassedOn.{all_passed}
@@ -34,7 +17,6 @@ use Rattle.laws_chip.proofs.Standing.{stands_free}
 use Rattle.laws_chip.proofs.UnderWay.{not_through}
 use Rattle.laws_chip.proofs.NextStages as makes
 use Rattle.laws_chip.proofs.NextStages.{Makes, call_stays, is_change}
-use Rattle.laws_chip.specs.Bounds.{has_command}
 
 -- ---- a transfer
 

@@ -1,13 +1,7 @@
 -- A command from its beginning to its results.
 use Rattle.std.proofs.Common.{◌≡◌, inl, inr, ℕ, false, List, ◌++◌, refl, sym, ◌∙◌}
-use Rattle.laws_chip.specs.SectorCalls.{AreWithin, Begins, Call, Served}
-use Rattle.fdc_sequencer.specs.Fronts.{Front}
-use Rattle.laws_chip.specs.Serving.{Serves, all_bytes, nothing_moved}
-use Rattle.fdc_sequencer.specs.declared.opcode.Operation.{Operation}
-use Rattle.fdc_sequencer.specs.declared.opcode.Operation.TheVariants.{Read, Write}
-use Rattle.fdc_sequencer.specs.declared.stage.FrontStage.TheVariants.{Telling}
-use Rattle.fdc_sequencer.specs.declared.transfer.Transfer.{Transfer}
-use Rattle.fdc_commands.specs.declared.results.Results.{Results}
+use Rattle.laws_chip.proofs.Common.{AreWithin, Served, Front, Serves, all_bytes, nothing_moved, Operation, Read, Write, Telling, Transfer, Results}
+use Rattle.laws_chip.specs.SectorCalls.{Begins, Call}
 use Rattle.laws_chip.proofs.Called.{calls_serve}
 use Rattle.laws_chip.proofs.Outcome.{passes_of, results_say}
 use Rattle.laws_chip.proofs.Served.{begins_serving}

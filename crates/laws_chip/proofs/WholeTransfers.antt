@@ -1,23 +1,10 @@
 -- The last byte of a command: the inner controller is free for it, and it begins; or it is held until heads stand.
 use Rattle.std.proofs.Common.{if◌then◌else◌, ◌≡◌, ℕ, zero, suc, ◌+◌, ◌%◌, ◌<◌, nat_le, Bool, true, false, not, ◌||◌, ◌==◌, Option, Some, None, is_some, refl, sym, ◌∙◌, ap, subst}
-use Rattle.std.proofs.lemmas.Bool.{and_from, and_right, eqb-true, false≢true, or_parts}
-use Rattle.fdc_sequencer.specs.Fronts.{Front, is_ready}
-use Rattle.fdc_sequencer.specs.Senses.{pending_outside, sensed_outside}
-use Rattle.fdc_chip.specs.Chips.{ChipState, passes_by_channel, passes_by_port, with_front}
-use Rattle.fdc_chip.specs.Codes.{code_of, parameters}
-use Rattle.fdc_chip.specs.Doing.{Attends, AttendsIf, AttendsTo, drained, drained_by, implies, is_moving, is_size, is_told, kept, moves_heads, needs_heads, transfer_sent}
-use Rattle.fdc_chip.specs.Interrupts.{with_result}
-use Rattle.fdc_chip.specs.Paces.{Paces}
-use Rattle.fdc_chip.specs.Ports.{CollectsIf, ComesIf, GivesChipIf, GivesIf, ReadsAt, ReadsIf, TakesByte, TakesIf, WritesChip, count_told, latched_by, given_one, is_whole, may_come, reset_if, with_next}
-use Rattle.fdc_chip.specs.Steps.{Follows, StepsChip}
-use Rattle.fdc_chip.specs.declared.code.ChipOpcode.{ChipOpcode}
-use Rattle.fdc_chip.specs.declared.code.ChipOpcode.TheVariants.{ReadTrack, Specify, SenseDrive, Transfer, Recalibrate, SenseInterrupt, ReadId, FormatTrack, DumpRegisters, Seek, RelativeSeek, Version, Perpendicular, Configure, Lock, Verify}
-use Rattle.fdc_chip.specs.declared.order.Order.{Order}
-use Rattle.fdc_chip.specs.declared.stage.ChipStage.TheVariants.{Ready, Held}
-use Rattle.laws_chip.specs.Beginning.{BeginsUnless, Completes, CompletesTransfer, IsBegun, IsDoneFree, IsFreeBehind, IsHeldFor, IsTransferOf, completed, still_moves}
+use Rattle.laws_chip.proofs.Common.{and_from, and_right, eqb-true, false≢true, or_parts, Front, is_ready, pending_outside, sensed_outside, ChipState, passes_by_channel, passes_by_port, with_front, code_of, parameters, Attends, AttendsIf, AttendsTo, drained, implies, is_moving, is_size, is_told, kept, moves_heads, needs_heads, transfer_sent, with_result, Paces, CollectsIf, ComesIf, GivesChipIf, GivesIf, ReadsAt, ReadsIf, TakesByte, TakesIf, WritesChip, latched_by, given_one, is_whole, may_come, reset_if, with_next, Follows, StepsChip, ChipOpcode, Specify, SenseInterrupt, DumpRegisters, Version, Perpendicular, Lock, Order, Ready, Held, BeginsUnless, Completes, CompletesTransfer, IsBegun, IsDoneFree, IsFreeBehind, IsHeldFor, IsTransferOf, completed, still_moves, Call, Does, is_reset, is_step, IsSound, RestsBehind}
+use Rattle.fdc_chip.specs.Doing.{drained_by}
+use Rattle.fdc_chip.specs.Ports.{count_told}
+use Rattle.fdc_chip.specs.declared.code.ChipOpcode.TheVariants.{Transfer}
 use Rattle.laws_chip.specs.Calls as made
-use Rattle.laws_chip.specs.Calls.{Call, Does, is_reset, is_step}
-use Rattle.laws_chip.specs.Sound.{IsSound, RestsBehind}
 use Rattle.laws_chip.proofs.Attended.{free_stands}
 use Rattle.laws_chip.proofs.CommandsBegun.{transfer_begun}
 use Rattle.laws_chip.proofs.PassedOn.{other_read}
@@ -127,16 +114,7 @@ last_bytes Version heads = absurd (false≢true heads)
 last_bytes Perpendicular heads = absurd (false≢true heads)
 last_bytes DumpRegisters heads = absurd (false≢true heads)
 last_bytes (Lock on) heads = absurd (false≢true heads)
-last_bytes SenseDrive heads = (refl, refl)
-last_bytes Recalibrate heads = (refl, refl)
-last_bytes Seek heads = (refl, refl)
-last_bytes (RelativeSeek inward) heads = (refl, refl)
-last_bytes Configure heads = (refl, refl)
-last_bytes (ReadId mfm) heads = (refl, refl)
-last_bytes (FormatTrack mfm) heads = (refl, refl)
-last_bytes (Transfer mfm) heads = (refl, refl)
-last_bytes (Verify mfm) heads = (refl, refl)
-last_bytes (ReadTrack mfm) heads = (refl, refl)
+last_bytes _ heads = (refl, refl)
 
 pub byte_attends : (code : ChipOpcode) (byte : ℕ) (old new : ChipState) → IsSound old → byte < 256 → needs_heads code ≡ true → Completes code byte old → WritesChip 0x3F5 byte old new → IsAttended code (attending byte old) new
 byte_attends code byte old new sound few heads completes writes =
@@ -253,7 +231,5 @@ call_held order (made.Writes port value) old new was does no_step no_reset = eit
     (λ no_data. front_held order (latched_by port value old) new (subst (λ b. new ≡ with_front new.front (reset_if b (latched_by port value old))) no_reset (does.others no_data).1)
     (record { held = was.held; order_is = was.order_is }))
 call_held order made.Changes old new was does no_step no_reset = front_held order old new does.rest was
-call_held order (made.Straps on) old new was does no_step no_reset =
-    record { held = ap (λ (chip : ChipState). chip.stage) does ∙ was.held; order_is = ap (λ (chip : ChipState). chip.order) does ∙ was.order_is }
-call_held order (made.StrapsSteps on) old new was does no_step no_reset =
+call_held order _ old new was does no_step no_reset =
     record { held = ap (λ (chip : ChipState). chip.stage) does ∙ was.held; order_is = ap (λ (chip : ChipState). chip.order) does ∙ was.order_is }

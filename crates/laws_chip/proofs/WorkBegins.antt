@@ -1,30 +1,10 @@
 -- A command begins in an inner controller that is free: so many device steps at most are left of it.
 use Rattle.std.proofs.Common.{◌≡◌, inl, inr, ℕ, ◌+◌, ◌*◌, ◌≤◌, Bool, true, false, ◌&&◌, Some, [], refl, ◌∙◌, ap, subst, arith}
-use Rattle.std.proofs.lemmas.Bool.{and_parts, false≢true}
-use Rattle.flop_base.specs.declared.key.Chrn.{Chrn}
-use Rattle.fdc_stages.specs.Formats.{Numbers}
+use Rattle.laws_chip.proofs.Common.{and_parts, false≢true, Chrn, Numbers, BeginsData, Fdc, GivesCommand, size_of, FrontStage, Through, Seeking, Moving, Telling, Transfer, HasByteNumbers, HasByteRecords, is_under_way, most_steps, sectors_from, ServesAt, nothing_moved, ChipState, code_of, FormatsIf, Obeys, Refuses, TransfersIf, absent_key, formatting, identifying, implies, is_size, no_key, reading_one, sectors_of_track, sectors_verified, track_begun, transfer_sent, verifying, with_keys, with_last, ChipOpcode, Order, BeginsBehind, IsDoneFree, IsFreeBehind, IsWorking, most_steps_of, sectors_of, most_track_steps, IsSound}
 use Rattle.fdc_commands.specs.declared.command.Command.TheVariants as command
-use Rattle.fdc_core.specs.Commands.{BeginsData}
-use Rattle.fdc_core.specs.declared.controller.Fdc.{Fdc}
-use Rattle.fdc_sequencer.specs.Fronts.{GivesCommand}
-use Rattle.fdc_sequencer.specs.Transfers.{size_of}
-use Rattle.fdc_sequencer.specs.declared.stage.FrontStage.{FrontStage}
-use Rattle.fdc_sequencer.specs.declared.stage.FrontStage.TheVariants.{Through, Seeking, Moving, Telling}
-use Rattle.fdc_sequencer.specs.declared.transfer.Transfer.{Transfer}
-use Rattle.laws_chip.specs.SectorLasting.{HasByteNumbers, HasByteRecords, is_under_way, most_steps, sectors_from}
-use Rattle.laws_chip.specs.Serving.{ServesAt, nothing_moved}
 use Rattle.laws_chip.proofs.Lasted.{first_lasts}
-use Rattle.fdc_chip.specs.Chips.{ChipState}
-use Rattle.fdc_chip.specs.Codes.{code_of}
-use Rattle.fdc_chip.specs.Doing.{FormatsIf, Obeys, Refuses, TransfersIf, absent_key, formatting, identifying, implies, is_size, no_key, reading_one, sectors_of_track, sectors_verified, track_begun, transfer_sent, verifying, with_keys, with_last}
-use Rattle.fdc_chip.specs.declared.code.ChipOpcode.{ChipOpcode}
 use Rattle.fdc_chip.specs.declared.code.ChipOpcode.TheVariants as code
-use Rattle.fdc_chip.specs.declared.order.Order.{Order}
 use Rattle.fdc_chip.specs.declared.stage.ChipTask.TheVariants as task
-use Rattle.laws_chip.specs.Beginning.{BeginsBehind, IsDoneFree, IsFreeBehind}
-use Rattle.laws_chip.specs.Bounds.{IsWorking, most_steps_of, sectors_of}
-use Rattle.laws_chip.specs.Lasting.{most_track_steps}
-use Rattle.laws_chip.specs.Sound.{IsSound}
 use Rattle.laws_chip.proofs.BusyLeft.{BusyLeft, ServedLeft, leaves_left, more_left}
 use Rattle.laws_chip.proofs.CommandsBegun.{begins_sent, transfer_begun}
 use Rattle.laws_chip.proofs.FormatsEnd.{begins_formats, formats}

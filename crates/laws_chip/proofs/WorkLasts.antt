@@ -1,24 +1,8 @@
 -- A command that was given ends: it waits for heads, if it is held, and each of its device steps leaves fewer.
 use Rattle.std.proofs.Common.{◌≡◌, ◌⊎◌, inl, inr, ℕ, zero, suc, ◌+◌, ◌-◌, ◌<◌, ◌≤◌, true, false, not, ◌&&◌, ◌==◌, Option, Some, List, [], ◌∷◌, refl, sym, ◌∙◌, ap, subst, arith}
-use Rattle.std.proofs.lemmas.Bool.{and_left, and_right, eqb-true, false≢true}
-use Rattle.fdc_chip.specs.Chips.{ChipState, passes, passes_at, passes_by_port}
-use Rattle.fdc_chip.specs.Codes.{code_of}
-use Rattle.fdc_chip.specs.Doing.{implies, needs_heads}
-use Rattle.fdc_chip.specs.Orders.{is_format}
-use Rattle.fdc_chip.specs.Ports.{GivesIf, ReadsAt, ReadsIf, TakesByte}
-use Rattle.fdc_chip.specs.Settings.{is_by_port}
-use Rattle.fdc_chip.specs.declared.code.ChipOpcode.{ChipOpcode}
-use Rattle.fdc_chip.specs.declared.order.Order.{Order}
-use Rattle.fdc_chip.specs.declared.stage.ChipStage.TheVariants.{Held}
-use Rattle.laws_chip.specs.Beginning.{IsHeldFor, completed, still_moves}
-use Rattle.laws_chip.specs.Bounds.{AreWorking, IsGiven, HeadsMove, IsWorking, WaitsFor, heads_of, most_steps_of}
+use Rattle.laws_chip.proofs.Common.{and_left, and_right, eqb-true, false≢true, ChipState, passes, passes_at, passes_by_port, code_of, implies, needs_heads, is_format, GivesIf, ReadsAt, ReadsIf, TakesByte, is_by_port, ChipOpcode, Order, Held, IsHeldFor, completed, still_moves, AreWorking, IsGiven, HeadsMove, IsWorking, WaitsFor, heads_of, most_steps_of, Call, Does, is_reset, is_step, steps_in, steps_of, HeadsPaced, is_of_data_port, HeadsGo, IsSoundInRange, most_of, IsSound}
 use Rattle.laws_chip.specs.Bounds as bounds
 use Rattle.laws_chip.specs.Calls as made
-use Rattle.laws_chip.specs.Calls.{Call, Does, is_reset, is_step, steps_in, steps_of}
-use Rattle.laws_chip.specs.PacedSeeks.{HeadsPaced}
-use Rattle.laws_chip.specs.Resets.{is_of_data_port}
-use Rattle.laws_chip.specs.Seeks.{HeadsGo, IsSoundInRange, most_of}
-use Rattle.laws_chip.specs.Sound.{IsSound}
 use Rattle.laws_chip.proofs.BusyLeft.{BusyLeft, call_left, left_positive, more_left}
 use Rattle.laws_chip.proofs.HeadsGoing.{heads_some}
 use Rattle.laws_chip.proofs.HeadsWait.{move_call, move_step}

@@ -1,36 +1,19 @@
 -- The stages of a command that writes, as word times pass.
-use Rattle.std.proofs.Common.{◌≡◌, ◌⊎◌, inl, inr, ℕ, zero, suc, ◌+◌, ◌≤◌, Bool, true, false, List, [], ◌∷◌, ◌++◌, length, refl, sym, ap, arith, length-append}
-use Rattle.std.proofs.lemmas.Bool.{false≢true}
-use Rattle.flop_base.specs.declared.key.Chrn.{Chrn}
-use Rattle.track_model.specs.Fields.{IsAddressAt}
-use Rattle.fdc_registers.specs.Fifo.{Fifo}
-use Rattle.fdc_stages.specs.History.{Past, wrote}
-use Rattle.fdc_stages.specs.Searches.{HasTurned}
-use Rattle.fdc_stages.specs.Writings.{IsAtStage, IsWriting, is_due, opens}
-use Rattle.fdc_stages.specs.declared.writing.WriteNext.{WriteNext}
+use Rattle.std.proofs.Common.{◌≡◌, ◌⊎◌, inl, inr, ℕ, zero, ◌+◌, ◌≤◌, Bool, true, false, List, [], ◌∷◌, ◌++◌, length, refl, sym, ap, arith, length-append}
+use Rattle.laws_chip.proofs.Common.{false≢true, Chrn, IsAddressAt, Fifo, Past, wrote, HasTurned, IsAtStage, IsWriting, opens, WriteNext, WriteStage, Sent, stepped, MayWriteIn, MayWriteTask, Phase, Execute, Result, Task, Writing, is_executing, WordTime, Stopped, after_next, Fdc}
+use Rattle.fdc_stages.specs.Writings.{is_due}
 use Rattle.fdc_stages.specs.declared.writing.WriteNext.TheVariants as next
-use Rattle.fdc_stages.specs.declared.writing.WriteStage.{WriteStage}
 use Rattle.fdc_stages.specs.declared.writing.WriteStage.TheVariants as stage
-use Rattle.fdc_phases.specs.Heard.{Sent, stepped}
 use Rattle.fdc_phases.specs.Writing.{is_ended}
-use Rattle.fdc_phases.specs.Written.{MayWriteIn, MayWriteTask}
-use Rattle.fdc_phases.specs.declared.phases.Phase.{Phase}
-use Rattle.fdc_phases.specs.declared.phases.Phase.TheVariants.{Command, Execute, Result}
-use Rattle.fdc_phases.specs.declared.phases.Task.{Task}
+use Rattle.fdc_phases.specs.declared.phases.Phase.TheVariants.{Command}
 use Rattle.fdc_phases.specs.declared.phases.Task.TheVariants.{Write}
-use Rattle.fdc_phases.specs.declared.transfers.Writing.{Writing}
-use Rattle.fdc_core.specs.Listening.{is_executing}
-use Rattle.fdc_core.specs.Times.{WordTime, Stopped}
-use Rattle.fdc_core.specs.Writing.{after_next}
-use Rattle.fdc_core.specs.declared.controller.Fdc.{Fdc}
 
 -- ---- stages
 
 -- where no word is due, none was written
 pub due_words : (past : Past) (key : Chrn) (deleted : Bool) (handed : List ℕ) (now : WriteStage) → IsWriting past key deleted handed now → is_due now ≡ false → past.words ≡ []
-due_words past key deleted handed (stage.Search searching) was due = was.1.1.0
-due_words past key deleted handed (stage.Gap left) was due = was.1.1.0
 due_words past key deleted handed (stage.Window window) was due = absurd (false≢true (sym due))
+due_words past key deleted handed _ was due = was.1.1.0
 
 -- where a word is due, it is the first or some were written, and an address field was heard
 pub record IsDueNow (past : Past) (key : Chrn) (now : WriteStage) : Type 0 where
@@ -40,18 +23,15 @@ pub record IsDueNow (past : Past) (key : Chrn) (now : WriteStage) : Type 0 where
   pub later : opens now ≡ false → 1 ≤ length past.words
 
 pub due_now : (past : Past) (key : Chrn) (deleted : Bool) (handed : List ℕ) (now : WriteStage) → IsWriting past key deleted handed now → is_due now ≡ true → IsDueNow past key now
-due_now past key deleted handed (stage.Search searching) was due = absurd (false≢true due)
 due_now past key deleted handed (stage.Gap zero) (place, ((p, before), unwritten)) due =
     record { place = p; address = before.address; first = λ _. unwritten.0; later = λ no. absurd (false≢true (sym no)) }
-due_now past key deleted handed (stage.Gap (suc left)) was due = absurd (false≢true due)
 due_now past key deleted handed (stage.Window window) (place, ((p, inside), some)) due =
     record { place = p; address = inside.address; first = λ no. absurd (false≢true no); later = λ _. some }
+due_now past key deleted handed _ was due = absurd (false≢true due)
 
 pub opens_due : (now : WriteStage) → opens now ≡ true → is_due now ≡ true
-opens_due (stage.Search searching) opening = absurd (false≢true opening)
 opens_due (stage.Gap zero) opening = refl
-opens_due (stage.Gap (suc left)) opening = absurd (false≢true opening)
-opens_due (stage.Window window) opening = absurd (false≢true opening)
+opens_due _ opening = absurd (false≢true opening)
 
 -- at most one index has passed
 few_turned : (turned : Bool) (turns : List (List ℕ)) → HasTurned turned turns → length turns ≤ 1

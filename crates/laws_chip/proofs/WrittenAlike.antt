@@ -1,34 +1,16 @@
 -- Whatever history the calls gather, the sectors are the same, and so are the bytes that were taken of each.
 use Rattle.std.proofs.Common.{◌≡◌, inl, inr, ℕ, suc, ◌-◌, ◌==◌, Bool, true, false, Option, Some, None, List, [], ◌∷◌, ◌++◌, length, refl, sym, ◌∙◌, ap, subst}
-use Rattle.raw_image.specs.Disk.{Disk}
-use Rattle.fdc_commands.specs.declared.results.Results.{Results}
-use Rattle.fdc_commands.specs.Seeking.{has_ended_seek}
-use Rattle.fdc_stages.specs.History.{Past}
-use Rattle.fdc_stages.specs.declared.ending.Ending.{Ending}
-use Rattle.fdc_stages.specs.declared.ending.Ending.TheVariants.{Done}
-use Rattle.fdc_phases.specs.Heard.{gave, told_in}
-use Rattle.fdc_phases.specs.Written.{IsContent, took}
-use Rattle.fdc_core.specs.Times.{WordTime, after_time}
-use Rattle.fdc_core.specs.Whole.{ending_told, mark_of}
-use Rattle.fdc_core.specs.declared.controller.Fdc.{Fdc}
-use Rattle.fdc_sequencer.specs.Fronts.{Front}
-use Rattle.fdc_sequencer.specs.Moves.{goes_on, is_unwanted, judged_if}
-use Rattle.fdc_sequencer.specs.declared.stage.Moving.{Moving as MovingSector}
-use Rattle.fdc_sequencer.specs.declared.stage.FrontStage.{FrontStage}
-use Rattle.fdc_sequencer.specs.declared.stage.FrontStage.TheVariants.{Seeking, Moving}
-use Rattle.fdc_sequencer.specs.declared.transfer.Transfer.{Transfer}
-use Rattle.laws_chip.specs.SectorCalls.{AreWithin, Call, Counts, Does, Gather, Gives, Grows, Steps, Takes}
+use Rattle.laws_chip.proofs.Common.{Disk, Results, has_ended_seek, Past, Ending, Done, gave, told_in, IsContent, took, WordTime, after_time, ending_told, mark_of, Fdc, Front, goes_on, is_unwanted, judged_if, MovingSector, FrontStage, Seeking, Moving, Transfer, AreWithin, Counts, Gather, Gives, Grows, Steps, Takes, History, Part, history_counted, history_ended, history_given, history_moved, history_sought, history_stepped, history_taken, sector_after, AreWritten, HasWindow, IsDone, IsWrittenTo}
+use Rattle.laws_chip.specs.SectorCalls.{Call, Does}
 use Rattle.laws_chip.specs.Media.{Place}
-use Rattle.laws_chip.specs.Serving.{History, Part, history_counted, history_ended, history_given, history_moved, history_sought, history_stepped, history_taken, sector_after}
-use Rattle.laws_chip.specs.Written.{AreWritten, HasWindow, IsBegun, IsDone, IsWrittenTo}
+use Rattle.laws_chip.specs.Written.{IsBegun}
 use Rattle.laws_chip.proofs.Known.{time_counted, time_taken}
 
 -- the same sectors, and the same bytes were taken of each
 abbrev pub AreAlike : List Part → List Part → Type 0
 AreAlike [] [] = Unit {0}
-AreAlike [] (part ∷ parts) = ⊥
-AreAlike (part ∷ parts) [] = ⊥
 AreAlike (part ∷ parts) (other ∷ others) = (part.at ≡ other.at) × (part.past.taken ≡ other.past.taken) × AreAlike parts others
+AreAlike _ _ = ⊥
 
 -- the same bytes were taken of a sector, and the terminal count came to both or to none
 abbrev pub IsSame : Past → Past → Type 0
@@ -47,15 +29,13 @@ alike_self history = record { parts = all history.parts; past = (refl, refl) }
 
 one_more : (parts others : List Part) (part other : Part) → AreAlike parts others → part.at ≡ other.at → part.past.taken ≡ other.past.taken → AreAlike (parts ++ part ∷ []) (others ++ other ∷ [])
 one_more [] [] part other were at taken = (at, taken, tt)
-one_more [] (next ∷ others) part other were at taken = absurd were
-one_more (first ∷ parts) [] part other were at taken = absurd were
 one_more (first ∷ parts) (next ∷ others) part other (here, same, were) at taken = (here, same, one_more parts others part other were at taken)
+one_more _ _ part other were at taken = absurd were
 
 same_length : (parts others : List Part) → AreAlike parts others → length parts ≡ length others
 same_length [] [] were = refl
-same_length [] (next ∷ others) were = absurd were
-same_length (first ∷ parts) [] were = absurd were
 same_length (first ∷ parts) (next ∷ others) (here, same, were) = ap (λ n. suc n) (same_length parts others were)
+same_length _ _ were = absurd were
 
 -- ---- one call
 

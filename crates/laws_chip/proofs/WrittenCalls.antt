@@ -1,39 +1,9 @@
 -- A write over a medium that stays in, through all calls from its beginning on.
 use Rattle.std.proofs.Common.{◌≡◌, ◌⊎◌, inl, inr, ℕ, ◌+◌, ◌-◌, ◌==◌, Bool, true, false, if◌then◌else◌, Option, Some, None, List, [], ◌∷◌, ◌++◌, length, replicate, refl, sym, ◌∙◌, ap, subst, arith}
-use Rattle.std.proofs.lemmas.Bool.{eqb-true, false≢true}
-use Rattle.std.proofs.lemmas.List.{append-nil, length-replicate}
-use Rattle.drive_model.specs.Drive.{DriveState}
-use Rattle.fdc_commands.specs.declared.results.Results.{Results}
-use Rattle.fdc_stages.specs.History.{Past}
-use Rattle.fdc_stages.specs.Writings.{WritesWhole}
-use Rattle.fdc_stages.specs.declared.ending.Ending.{Ending}
-use Rattle.fdc_stages.specs.declared.ending.Ending.TheVariants.{Done, NoCount}
-use Rattle.flop_base.specs.declared.key.Chrn.{Chrn}
-use Rattle.raw_image.specs.Disk.{Disk}
-use Rattle.track_model.specs.Fields.{content_size}
-use Rattle.fdc_phases.specs.Answers.{st1_of}
-use Rattle.fdc_phases.specs.Heard.{gave, told_in}
-use Rattle.fdc_phases.specs.Written.{took}
-use Rattle.fdc_core.specs.Dma.{taken_in, taken_out}
-use Rattle.fdc_core.specs.Listening.{is_executing}
-use Rattle.fdc_core.specs.Ports.{resets}
-use Rattle.fdc_core.specs.Times.{Closes}
-use Rattle.fdc_core.specs.Whole.{is_idle}
-use Rattle.fdc_core.specs.declared.controller.Fdc.{Fdc}
-use Rattle.fdc_core.specs.Drives.Following.{FollowsDor, FollowsWrite}
-use Rattle.fdc_sequencer.specs.Adapters.{AdapterState, WritesAdapter, drive_at, lines_at}
-use Rattle.fdc_sequencer.specs.Fronts.{Front, GivesAt, SeeksFirst, StartsIf, TakesAt, WritesFront, begun_if, count_told, moving_of, passed_one, reset_if}
-use Rattle.fdc_sequencer.specs.Transfers.{results_told}
-use Rattle.fdc_sequencer.specs.declared.opcode.Operation.TheVariants.{Write}
-use Rattle.fdc_sequencer.specs.declared.stage.Moving.{Moving as MovingSector}
-use Rattle.fdc_sequencer.specs.declared.stage.FrontStage.{FrontStage}
-use Rattle.fdc_sequencer.specs.declared.stage.FrontStage.TheVariants.{Through, Seeking, Moving, Telling}
-use Rattle.fdc_sequencer.specs.declared.transfer.Transfer.{Transfer}
-use Rattle.laws_chip.specs.SectorCalls.{AreWithin, Begins, Call, Changes, Counts, Does, Gather, Gives, Steps, Takes, Writes}
+use Rattle.laws_chip.proofs.Common.{eqb-true, false≢true, append-nil, length-replicate, DriveState, Results, Past, WritesWhole, Ending, Done, NoCount, Chrn, Disk, content_size, st1_of, gave, told_in, took, taken_in, taken_out, is_executing, resets, Closes, is_idle, Fdc, FollowsDor, FollowsWrite, AdapterState, WritesAdapter, drive_at, lines_at, Front, GivesAt, SeeksFirst, StartsIf, TakesAt, WritesFront, begun_if, count_told, moving_of, passed_one, results_told, Write, MovingSector, FrontStage, Through, Seeking, Moving, Telling, Transfer, AreWithin, Changes, Counts, Gather, Gives, Steps, Takes, EndsSo, IsFailure, History, Part, Serves, has_other, history_counted, history_given, history_passed, history_taken, nothing_moved, AreWritten, HasFirst, HasWindow, IsDone, IsOverCylinderWhile, IsWrittenTo, KeepsIn, KeepsSpeed, KeepsSpeedWhile, LeavesPut, StaysPut, TellsDone}
+use Rattle.fdc_sequencer.specs.Fronts.{reset_if}
+use Rattle.laws_chip.specs.SectorCalls.{Begins, Call, Does, Writes}
 use Rattle.laws_chip.specs.Media.{Place}
-use Rattle.laws_chip.specs.Outcomes.{EndsSo, IsFailure}
-use Rattle.laws_chip.specs.Serving.{History, Part, Serves, has_other, history_counted, history_given, history_passed, history_taken, nothing_moved}
-use Rattle.laws_chip.specs.Written.{AreWritten, HasFirst, HasWindow, IsDone, IsOverCylinderWhile, IsWrittenTo, KeepsIn, KeepsSpeed, KeepsSpeedWhile, LeavesPut, StaysPut, TellsDone}
 use Rattle.laws_chip.proofs.Called.{call_serves}
 use Rattle.laws_chip.proofs.Courses.{written_whole}
 use Rattle.laws_chip.proofs.Given.{given_starts, ignored, served_on}

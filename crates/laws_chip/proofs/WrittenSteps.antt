@@ -1,42 +1,11 @@
 -- A write over a medium that stays in, through a device step: the sector goes on, or it is over. Then the next one
 -- begins, or results are given.
 use Rattle.std.proofs.Common.{◌≡◌, inl, inr, ℕ, zero, suc, ◌≤◌, ◌==◌, Bool, true, false, not, ◌&&◌, if◌then◌else◌, Option, Some, None, List, [], ◌∷◌, ◌++◌, length, refl, sym, ◌∙◌, ap, subst, arith}
-use Rattle.std.proofs.lemmas.Bool.{and_parts, false≢true}
-use Rattle.raw_image.specs.Disk.{Disk}
-use Rattle.track_model.specs.Fields.{IsSizeCode}
-use Rattle.fdc_commands.specs.Seeking.{has_ended_seek}
-use Rattle.fdc_commands.specs.Table.{is_begun}
-use Rattle.fdc_commands.specs.declared.results.Results.{Results}
-use Rattle.fdc_stages.specs.History.{Past, begun as new_past}
-use Rattle.fdc_stages.specs.declared.ending.Ending.{Ending}
-use Rattle.fdc_stages.specs.declared.ending.Ending.TheVariants.{Done}
-use Rattle.fdc_phases.specs.Heard.{told_in}
-use Rattle.fdc_phases.specs.Phases.{head_of}
-use Rattle.fdc_phases.specs.declared.phases.Phase.{Phase}
-use Rattle.fdc_phases.specs.declared.phases.Phase.TheVariants.{Command, Execute, Result}
-use Rattle.fdc_core.specs.Courses.{Works}
-use Rattle.fdc_core.specs.Listening.{is_executing}
-use Rattle.fdc_core.specs.Ports.{is_taking, takes_in}
-use Rattle.fdc_core.specs.State.{is_held}
-use Rattle.fdc_core.specs.Steps.{polled}
-use Rattle.fdc_core.specs.Times.{WordTime, IsTime, after_time}
-use Rattle.fdc_core.specs.Whole.{ending_told, given_up, given_up_if, is_idle, mark_of, without_seek}
-use Rattle.fdc_core.specs.Written.{MayWrite}
-use Rattle.fdc_core.specs.declared.controller.Fdc.{Fdc}
-use Rattle.fdc_sequencer.specs.Adapters.{AdapterState, StepsAdapter, drive_at, selected_at}
-use Rattle.fdc_sequencer.specs.Fronts.{Front, begun_if, moving_of, told_if, with_controller}
-use Rattle.fdc_sequencer.specs.Moves.{EndsIf, EndsSector, FollowsStep, MovesOn, SeeksOn, StepsFront, goes_on, has_met_other, is_unwanted, judged, judged_if, passed_over_if, results_behind, results_failed}
-use Rattle.fdc_sequencer.specs.Transfers.{is_other, is_skipping, next_of, size_of}
-use Rattle.fdc_sequencer.specs.declared.opcode.Operation.{Operation}
-use Rattle.fdc_sequencer.specs.declared.opcode.Operation.TheVariants.{Write}
-use Rattle.fdc_sequencer.specs.declared.stage.Moving.{Moving as MovingSector}
-use Rattle.fdc_sequencer.specs.declared.stage.FrontStage.{FrontStage}
-use Rattle.fdc_sequencer.specs.declared.stage.FrontStage.TheVariants.{Through, Seeking, Moving, Telling}
-use Rattle.fdc_sequencer.specs.declared.transfer.Transfer.{Transfer}
-use Rattle.laws_chip.specs.SectorCalls.{Call, Does, Grows, Steps}
-use Rattle.laws_chip.specs.Media.{IsClean, Place}
-use Rattle.laws_chip.specs.Serving.{AreMoved, History, IsMoved, IsTimeOf, MayMove, Part, Passes, PassesAt, Serves, ServesAt, StopsAtEnd, bytes_moved, history_ended, history_moved, history_sought, history_stepped, sector_after, sent_of}
-use Rattle.laws_chip.specs.Written.{AreWritten, HasWindow, IsOverCylinder, IsOverCylinderWhile}
+use Rattle.laws_chip.proofs.Common.{and_parts, false≢true, Disk, IsSizeCode, has_ended_seek, is_begun, Results, Past, new_past, Ending, Done, told_in, head_of, Phase, Execute, Result, Works, is_executing, is_taking, takes_in, is_held, polled, WordTime, IsTime, after_time, ending_told, given_up, given_up_if, is_idle, mark_of, without_seek, MayWrite, Fdc, AdapterState, StepsAdapter, drive_at, selected_at, Front, begun_if, moving_of, told_if, with_controller, EndsIf, EndsSector, FollowsStep, MovesOn, SeeksOn, StepsFront, goes_on, has_met_other, is_unwanted, judged_if, passed_over_if, results_behind, results_failed, is_other, is_skipping, next_of, size_of, Operation, Write, MovingSector, FrontStage, Through, Seeking, Moving, Telling, Transfer, Grows, Steps, IsClean, AreMoved, History, IsMoved, IsTimeOf, MayMove, Part, Passes, PassesAt, Serves, ServesAt, StopsAtEnd, bytes_moved, history_ended, history_moved, history_sought, history_stepped, sector_after, sent_of, AreWritten, HasWindow, IsOverCylinder, IsOverCylinderWhile}
+use Rattle.fdc_phases.specs.declared.phases.Phase.TheVariants.{Command}
+use Rattle.fdc_sequencer.specs.Moves.{judged}
+use Rattle.laws_chip.specs.SectorCalls.{Call, Does}
+use Rattle.laws_chip.specs.Media.{Place}
 use Rattle.laws_chip.proofs.Called.{call_serves}
 use Rattle.laws_chip.proofs.Courses.{sector_more, sector_opcode, written_whole}
 use Rattle.laws_chip.proofs.Known.{BadGoes, KnownOn, MarkGoes, polled_rate, time_counted, time_taken, which_drive}

@@ -1,48 +1,15 @@
 -- A write at the drive of its medium: a word time, and what a sector that is over left there.
 use Rattle.std.proofs.Common.{◌≡◌, inl, inr, ℕ, ◌+◌, ◌*◌, ◌<◌, ◌≤◌, Bool, true, false, Some, None, List, [], ◌++◌, length, get_or, take, refl, sym, ◌∙◌, ap, subst, arith, length-append}
-use Rattle.std.proofs.lemmas.Bool.{false≢true}
-use Rattle.std.proofs.Math.ListN.{get_or-append}
-use Rattle.std.proofs.lemmas.List.{append-nil, ext_get_or, get_or-take, length-take}
-use Rattle.flop_base.specs.Counts.{last_count}
+use Rattle.laws_chip.proofs.Common.{false≢true, get_or-append, append-nil, ext_get_or, get_or-take, length-take, last_count, Chrn, Disk, IsDisk, IsWithTrack, IsAddressAt, content_size, DriveState, Fifo, Past, new_past, HasBegun, IsFirstOf, WritesWhole, Ending, Sent, told_in, ending_of_phase, head_of, IsContent, MayWriteIn, MayWriteTask, Long, Phase, Execute, Result, Task, is_executing, WordTime, IsTime, after_time, WritesIn, WritesTask, MayWrite, Fdc, start_of, Outset, track_heard, ArePut, IsAtWindow, start_in, IsTurningIn, led, turn_led, address_heard, address_in, heard_met, drive_at, Front, Transfer, StopsAtEnd, sent_of, HasWindow, HasWords, IsOverCylinder, KeepsSpeed, StaysPut, track_on}
 use Rattle.flop_base.specs.Lists.{with_items}
-use Rattle.flop_base.specs.declared.key.Chrn.{Chrn}
-use Rattle.raw_image.specs.Disk.{Disk, IsDisk, IsWithTrack}
 use Rattle.sector_map.proofs.RegularTracks.{length-track_of}
-use Rattle.track_model.specs.Fields.{IsAddressAt, content_size}
 use Rattle.track_model.specs.Windows.{IsCuttable, cut_of, window_word}
 use Rattle.track_model.specs.Writing.{window}
 use Rattle.track_model.proofs.Written.{length-window}
-use Rattle.drive_model.specs.Drive.{DriveState}
-use Rattle.fdc_registers.specs.Fifo.{Fifo}
-use Rattle.fdc_stages.specs.History.{Past, begun as new_past}
-use Rattle.fdc_stages.specs.Writings.{HasBegun, IsFirstOf, WritesWhole}
-use Rattle.fdc_stages.specs.declared.ending.Ending.{Ending}
-use Rattle.fdc_phases.specs.Heard.{Sent, told_in}
-use Rattle.fdc_phases.specs.Phases.{ending_of_phase, head_of}
-use Rattle.fdc_phases.specs.Written.{IsContent, MayWriteIn, MayWriteTask}
-use Rattle.fdc_phases.specs.declared.answers.Answer.TheVariants.{Long, Short}
-use Rattle.fdc_phases.specs.declared.phases.Phase.{Phase}
-use Rattle.fdc_phases.specs.declared.phases.Phase.TheVariants.{Command, Execute, Result}
-use Rattle.fdc_phases.specs.declared.phases.Task.{Task}
+use Rattle.fdc_phases.specs.declared.phases.Phase.TheVariants.{Command}
 use Rattle.fdc_phases.specs.declared.phases.Task.TheVariants.{Write}
-use Rattle.fdc_core.specs.Listening.{is_executing}
-use Rattle.fdc_core.specs.Times.{WordTime, IsTime, after_time}
-use Rattle.fdc_core.specs.Writes.{WritesIn, WritesTask}
-use Rattle.fdc_core.specs.Written.{MayWrite}
-use Rattle.fdc_core.specs.declared.controller.Fdc.{Fdc}
-use Rattle.fdc_core.specs.Drives.Heard.{start_of}
-use Rattle.fdc_core.specs.Drives.Hearing.{Outset, track_heard}
-use Rattle.fdc_core.specs.Drives.Writing.{ArePut, IsAtWindow, start_in}
-use Rattle.fdc_core.specs.Drives.Spinning.{IsTurningIn, led, turn_led}
-use Rattle.fdc_core.proofs.drives.Fields.{address_heard}
-use Rattle.fdc_core.proofs.drives.LateFields.{address_in}
-use Rattle.fdc_core.proofs.drives.WritingWords.{heard_met}
-use Rattle.fdc_sequencer.specs.Adapters.{drive_at}
-use Rattle.fdc_sequencer.specs.Fronts.{Front}
-use Rattle.fdc_sequencer.specs.declared.transfer.Transfer.{Transfer}
 use Rattle.laws_chip.specs.Media.{Place}
-use Rattle.laws_chip.specs.Serving.{StopsAtEnd, sent_of}
-use Rattle.laws_chip.specs.Written.{HasWindow, HasWords, IsBegun, IsOverCylinder, KeepsSpeed, StaysPut, track_on}
+use Rattle.laws_chip.specs.Written.{IsBegun}
 use Rattle.laws_chip.proofs.Known.{write_stops}
 use Rattle.laws_chip.proofs.LateWriting.{IsWindowLed, window_bytes, window_first, window_over, window_stays, window_timed}
 
@@ -163,15 +130,13 @@ HasHanded past key deleted = (handed : List ℕ) × IsContent past.counted past.
 
 pub ended_has : (past : Past) (sent : Sent) (deleted : Bool) (phase : Phase) (asking : Bool) (fifo : Fifo) (ending : Ending) → ending_of_phase phase ≡ Some ending → MayWriteIn past sent deleted phase asking fifo
     → HasHanded past sent.key deleted
-ended_has past sent deleted Command asking fifo ending is may = absurd may
 ended_has past sent deleted (Execute execution) asking fifo ending is may = absurd (cc is)
-ended_has past sent deleted (Result (Short next last)) asking fifo ending is may = absurd may
 ended_has past sent deleted (Result (Long other results read)) asking fifo ending is (low, are, (handed, has)) = (handed, has.content, has.written.begun)
+ended_has past sent deleted _ asking fifo ending is may = absurd may
 
 pub ended_idle : (phase : Phase) (ending : Ending) → ending_of_phase phase ≡ Some ending → is_executing phase ≡ false
-ended_idle Command ending is = refl
 ended_idle (Execute execution) ending is = absurd (cc is)
-ended_idle (Result answer) ending is = refl
+ended_idle _ ending is = refl
 
 -- ---- ---- what the sector left
 

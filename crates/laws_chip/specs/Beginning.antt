@@ -1,24 +1,12 @@
 -- How a command of several sectors begins, and what is then known of it.
 use Rattle.std.specs.Prelude.{◌≡◌, ◌<◌, ◌+◌, ℕ, Bool, true, false, List, [], ◌∷◌, ◌++◌, Option, Some, None, if◌then◌else◌}
 use Rattle.fdc_commands.specs.declared.motion.Seek.{Seek}
-use Rattle.fdc_commands.specs.declared.results.Results.{Results}
-use Rattle.fdc_sequencer.specs.Fronts.{Front, is_ready}
+use Rattle.laws_chip.specs.Common.{Results, Front, is_ready, Operation, Read, Write, Transfer, ChipState, code_of, parameters, Obeys, drained, implies, is_moving, is_size, moves_heads, transfer_sent, StepsChip, ChipOpcode, TransferCode, Order, Held}
 use Rattle.fdc_sequencer.specs.declared.opcode.Opcode.{Opcode}
-use Rattle.fdc_sequencer.specs.declared.opcode.Operation.{Operation}
-use Rattle.fdc_sequencer.specs.declared.opcode.Operation.TheVariants.{Read, Write}
-use Rattle.fdc_sequencer.specs.declared.transfer.Transfer.{Transfer}
 use Rattle.laws_chip.specs.SectorCalls as behind
 use Rattle.laws_chip.specs.SectorCalls.{Served}
 use Rattle.laws_chip.specs.Serving.{Serves, nothing_moved}
-use Rattle.fdc_chip.specs.Chips.{ChipState}
-use Rattle.fdc_chip.specs.Codes.{code_of, parameters}
-use Rattle.fdc_chip.specs.Doing.{Obeys, drained, implies, is_moving, is_size, moves_heads, transfer_sent}
 use Rattle.fdc_chip.specs.Orders.{with_byte}
-use Rattle.fdc_chip.specs.Steps.{StepsChip}
-use Rattle.fdc_chip.specs.declared.code.ChipOpcode.{ChipOpcode}
-use Rattle.fdc_chip.specs.declared.code.ChipOpcode.TheVariants.{Transfer as TransferCode}
-use Rattle.fdc_chip.specs.declared.order.Order.{Order}
-use Rattle.fdc_chip.specs.declared.stage.ChipStage.TheVariants.{Held}
 use Rattle.laws_chip.specs.Calls.{AreServed, Call, IsServing, MakesAll}
 
 -- if a seek runs, it is of one of four drives

@@ -1,23 +1,8 @@
 -- Commands that are under way, from their last byte on, and for how many device steps they are at most.
 use Rattle.std.specs.Prelude.{◌≡◌, ◌⊎◌, ◌<◌, ◌≤◌, ℕ, ◌+◌, ◌*◌, max, Bool, true, false, not, ◌&&◌, ◌||◌, Option, None, Some, is_some, List, [], ◌∷◌, if◌then◌else◌}
-use Rattle.drive_model.specs.Drive.{DriveState}
-use Rattle.fdc_commands.specs.Seeking.{has_ended_seek, is_seeking}
-use Rattle.fdc_commands.specs.declared.motion.Seek.{Seek as DriveSeek}
-use Rattle.fdc_commands.specs.declared.results.Results.{Results}
-use Rattle.fdc_core.specs.Ranges.{IsInRange}
-use Rattle.fdc_core.specs.State.{is_held}
+use Rattle.laws_chip.specs.Common.{DriveState, has_ended_seek, is_seeking, DriveSeek, Results, IsInRange, is_held, ChipState, IsNewChip, has_bit, has_multitrack, sectors_to, verifying, WritesChip, step_words, ChipOpcode, Order, PacedSeek, ChipStage, Busy, Held}
 use Rattle.laws_chip.specs.SectorLasting.{HasByteNumbers}
-use Rattle.fdc_chip.specs.Chips.{ChipState, IsNewChip}
-use Rattle.fdc_chip.specs.Codes.{has_bit, has_multitrack}
-use Rattle.fdc_chip.specs.Doing.{sectors_to, verifying}
-use Rattle.fdc_chip.specs.Ports.{WritesChip}
-use Rattle.fdc_chip.specs.Settings.{step_words}
-use Rattle.fdc_chip.specs.declared.code.ChipOpcode.{ChipOpcode}
 use Rattle.fdc_chip.specs.declared.code.ChipOpcode.TheVariants.{FormatTrack, ReadId, ReadTrack, Transfer, Verify}
-use Rattle.fdc_chip.specs.declared.order.Order.{Order}
-use Rattle.fdc_chip.specs.declared.pace.PacedSeek.{PacedSeek}
-use Rattle.fdc_chip.specs.declared.stage.ChipStage.{ChipStage}
-use Rattle.fdc_chip.specs.declared.stage.ChipStage.TheVariants.{Busy, Held}
 use Rattle.laws_chip.specs.Beginning.{Completes}
 use Rattle.laws_chip.specs.Calls.{Call, Does, WritesByte, is_reset}
 use Rattle.laws_chip.specs.Lasting.{most_track_steps}

@@ -1,11 +1,6 @@
 -- Calls of a chip, one after the other, and the calls of its sequencer that they come to.
 use Rattle.std.specs.Prelude.{◌≡◌, ℕ, ◌+◌, ◌<◌, Bool, true, false, ◌&&◌, ◌==◌, Option, List, [], ◌∷◌, ◌++◌, unwrap_or}
-use Rattle.fdc_core.specs.Ports.{resets}
-use Rattle.fdc_chip.specs.Chips.{ChipState, KeepsChip, passes_by_channel, passes_by_port}
-use Rattle.fdc_chip.specs.Ports.{GivesChip, ReadsChip, TakesChip, WritesChip, told_chip, value_behind}
-use Rattle.fdc_chip.specs.Steps.{StepsChip}
-use Rattle.fdc_chip.specs.declared.stage.ChipStage.TheVariants.{Busy}
-use Rattle.fdc_chip.specs.declared.stage.ChipTask.TheVariants.{Sent}
+use Rattle.laws_chip.specs.Common.{resets, ChipState, KeepsChip, passes_by_channel, passes_by_port, GivesChip, ReadsChip, TakesChip, WritesChip, told_chip, value_behind, StepsChip, Busy, Sent}
 use Rattle.laws_chip.specs.SectorCalls as behind
 use Rattle.laws_chip.specs.SectorLasting as lasting
 use Rattle.laws_chip.specs.SectorLasting.{is_under_way}

@@ -1,7 +1,6 @@
 -- INT between calls.
 use Rattle.std.specs.Prelude.{◌≡◌, ℕ, Bool, true, false}
-use Rattle.fdc_sequencer.specs.Fronts.{interrupts_outside}
-use Rattle.fdc_chip.specs.Chips.{ChipState}
+use Rattle.laws_chip.specs.Common.{interrupts_outside, ChipState}
 use Rattle.fdc_chip.specs.declared.answer.ChipAnswer.{ChipAnswer}
 use Rattle.fdc_chip.specs.declared.stage.ChipStage.TheVariants.{Ready, Telling}
 use Rattle.laws_chip.specs.Calls as call

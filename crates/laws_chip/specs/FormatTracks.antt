@@ -1,22 +1,8 @@
 -- FORMAT TRACK over a medium at speed that nobody touches.
 use Rattle.std.specs.Prelude.{◌≡◌, ◌≤◌, ℕ, ◌+◌, Bool, true, false, ◌==◌, Some, List, [], ◌∷◌, ◌++◌}
-use Rattle.raw_image.specs.Disk.{IsDisk}
-use Rattle.drive_model.specs.Drive.{DriveState}
-use Rattle.fdc_stages.specs.Formats.{Numbers}
-use Rattle.fdc_stages.specs.History.{Past}
-use Rattle.fdc_phases.specs.Phases.{head_of}
+use Rattle.laws_chip.specs.Common.{IsDisk, DriveState, Numbers, Past, head_of, Outset, FormatTells, LaysTrack, Fdc, drive_at, selected_at, GivesCommand, GivesFront, ChipState, passes_by_port, Begins, is_size, Order, ChipStage, Sent}
 use Rattle.fdc_commands.specs.declared.command.Command.TheVariants.{FormatTrack}
-use Rattle.fdc_core.specs.Drives.Hearing.{Outset}
 use Rattle.fdc_core.specs.Drives.Writing.{HasMedium, start_in}
-use Rattle.fdc_core.specs.Tellings.{FormatTells, LaysTrack}
-use Rattle.fdc_core.specs.declared.controller.Fdc.{Fdc}
-use Rattle.fdc_sequencer.specs.Adapters.{drive_at, selected_at}
-use Rattle.fdc_sequencer.specs.Fronts.{GivesCommand, GivesFront}
-use Rattle.fdc_chip.specs.Chips.{ChipState, passes_by_port}
-use Rattle.fdc_chip.specs.Doing.{Begins, is_size}
-use Rattle.fdc_chip.specs.declared.order.Order.{Order}
-use Rattle.fdc_chip.specs.declared.stage.ChipStage.{ChipStage}
-use Rattle.fdc_chip.specs.declared.stage.ChipTask.TheVariants.{Sent}
 use Rattle.laws_chip.specs.Serving.{passed_in}
 use Rattle.laws_chip.specs.Beginning.{IsFreeBehind}
 use Rattle.laws_chip.specs.Calls as call

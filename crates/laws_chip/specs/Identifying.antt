@@ -1,13 +1,6 @@
 -- READ ID over a medium that stays in.
 use Rattle.std.specs.Prelude.{◌≡◌, ℕ, Bool, true, ◌==◌, List, [], ◌∷◌, bit_and}
-use Rattle.drive_model.specs.Drive.{DriveState}
-use Rattle.fdc_sequencer.specs.Adapters.{drive_at}
-use Rattle.fdc_sequencer.specs.Fronts.{GivesCommand}
-use Rattle.fdc_chip.specs.Chips.{ChipState}
-use Rattle.fdc_chip.specs.Doing.{Begins, identifying}
-use Rattle.fdc_chip.specs.declared.order.Order.{Order}
-use Rattle.fdc_chip.specs.declared.stage.ChipStage.{ChipStage}
-use Rattle.fdc_chip.specs.declared.stage.ChipTask.TheVariants.{Sent}
+use Rattle.laws_chip.specs.Common.{DriveState, drive_at, GivesCommand, ChipState, Begins, identifying, Order, ChipStage, Sent}
 use Rattle.laws_chip.specs.Media.{IsAt, Place, TurnsOn}
 use Rattle.laws_chip.specs.Beginning.{IsFreeBehind}
 use Rattle.laws_chip.specs.Calls as call

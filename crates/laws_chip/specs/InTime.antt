@@ -1,8 +1,6 @@
 -- A host that serves each request in time.
 use Rattle.std.specs.Prelude.{◌≡◌, ◌≤◌, false, List, [], ◌∷◌}
-use Rattle.fdc_sequencer.specs.Adapters.{selected_at}
-use Rattle.fdc_sequencer.specs.Fronts.{asks_outside}
-use Rattle.fdc_chip.specs.Chips.{ChipState}
+use Rattle.laws_chip.specs.Common.{selected_at, asks_outside, ChipState}
 use Rattle.laws_chip.specs.Calls as call
 use Rattle.laws_chip.specs.Calls.{Call, Does, IsServing, WritesByte}
 

@@ -1,11 +1,7 @@
 -- How long a command lasts, in device steps.
 use Rattle.std.specs.Prelude.{◌≡◌, ℕ, ◌+◌, ◌*◌, true, List, [], ◌∷◌}
 use Rattle.laws_chip.specs.SectorLasting.{is_under_way}
-use Rattle.fdc_chip.specs.Chips.{ChipState}
-use Rattle.fdc_chip.specs.Doing.{sectors_of_track}
-use Rattle.fdc_chip.specs.declared.order.Order.{Order}
-use Rattle.fdc_chip.specs.declared.stage.ChipStage.{ChipStage}
-use Rattle.fdc_chip.specs.declared.stage.ChipStage.TheVariants.{Busy}
+use Rattle.laws_chip.specs.Common.{ChipState, sectors_of_track, Order, ChipStage, Busy}
 use Rattle.fdc_chip.specs.declared.stage.ChipTask.TheVariants as task
 use Rattle.fdc_chip.specs.declared.stage.ChipTask.TheVariants.{Verify}
 use Rattle.fdc_chip.specs.declared.stage.Track.{Track}

@@ -1,3 +1,4 @@
+pub mod Common
 pub mod Serving
 pub mod Outcomes
 pub mod SectorCalls

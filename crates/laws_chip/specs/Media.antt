@@ -1,26 +1,10 @@
 -- A read over a medium that stays in: what it gathers is of that medium.
 use Rattle.std.specs.Prelude.{◌≡◌, ◌+◌, ◌++◌, ◌⊎◌, ℕ, ◌<◌, ◌≤◌, Bool, true, false, ◌&&◌, nat_lt, Some, List, [], ◌∷◌, length, if◌then◌else◌}
-use Rattle.flop_base.specs.declared.key.Chrn.{Chrn}
-use Rattle.raw_image.specs.Disk.{Disk, IsDisk, track_of}
+use Rattle.laws_chip.specs.Common.{Chrn, Disk, IsDisk, track_of, BadCrc, NoData, IsAddressAt, IsDataMark, IsWhole, DriveState, Past, head_of, rate_fits, drive_at, selected_at, Front, is_other, is_skipping, Operation, FrontStage, Moving, Telling, Transfer, FindsBadCheck, FindsNoField, FindsNoMark, FindsNoSector, FindsSector, HasAddressMark}
 use Rattle.sector_map.specs.Met.{HasLook, unrecorded}
-use Rattle.track_model.specs.declared.Look.TheVariants.{BadCrc, NoData}
-use Rattle.track_model.specs.Fields.{IsAddressAt, IsDataMark, IsWhole}
-use Rattle.drive_model.specs.Drive.{DriveState}
-use Rattle.fdc_stages.specs.History.{Past}
-use Rattle.fdc_phases.specs.Phases.{head_of}
-use Rattle.fdc_phases.specs.Rates.{rate_fits}
 use Rattle.fdc_phases.specs.declared.rates.DataRate.{DataRate}
-use Rattle.fdc_sequencer.specs.Adapters.{drive_at, selected_at}
-use Rattle.fdc_sequencer.specs.Fronts.{Front}
-use Rattle.fdc_sequencer.specs.Transfers.{is_other, is_skipping}
-use Rattle.fdc_sequencer.specs.declared.opcode.Operation.{Operation}
-use Rattle.fdc_sequencer.specs.declared.stage.FrontStage.{FrontStage}
-use Rattle.fdc_sequencer.specs.declared.stage.FrontStage.TheVariants.{Moving, Telling}
-use Rattle.fdc_sequencer.specs.declared.transfer.Transfer.{Transfer}
 use Rattle.laws_chip.specs.SectorCalls.{AreWithin, Call, Changes}
-use Rattle.fdc_stages.specs.Findings.{FindsBadCheck, FindsNoField, FindsNoMark, FindsNoSector, FindsSector}
 use Rattle.fdc_stages.specs.Searches.{HasNoClear}
-use Rattle.track_model.specs.Looks.{HasAddressMark}
 use Rattle.track_model.specs.Bytes.{bytes_at}
 use Rattle.flop_base.specs.Counts.{last_count}
 use Rattle.laws_chip.specs.Serving.{FindsField, History, Part, sector_after}

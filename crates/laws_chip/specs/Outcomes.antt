@@ -1,21 +1,7 @@
 -- What the results of a command of several sectors say.
 use Rattle.std.specs.Prelude.{◌≡◌, ◌⊎◌, ℕ, ◌+◌, Bool, true, false, ◌||◌, Option, List, ◌++◌, length, replicate}
-use Rattle.flop_base.specs.declared.key.Chrn.{Chrn}
-use Rattle.track_model.specs.Fields.{IsAddressAt, content_at, content_size}
-use Rattle.track_model.specs.Looks.{LookAt}
-use Rattle.track_model.specs.declared.Look.TheVariants.{Found}
-use Rattle.fdc_stages.specs.History.{IsTurn, Past}
-use Rattle.fdc_stages.specs.Findings.{FindsSector}
-use Rattle.fdc_stages.specs.declared.ending.Ending.{Ending}
-use Rattle.fdc_stages.specs.declared.ending.Ending.TheVariants.{BadCheck, Done, NoCount}
-use Rattle.fdc_stages.specs.Writings.{WritesWhole}
-use Rattle.fdc_commands.specs.declared.results.Results.{Results}
+use Rattle.laws_chip.specs.Common.{Chrn, IsAddressAt, content_at, content_size, LookAt, Found, IsTurn, Past, FindsSector, Ending, BadCheck, Done, NoCount, WritesWhole, Results, is_bad_other, is_last, is_other, is_skipping, next_of, results_told, Operation, Read, Write, Transfer}
 use Rattle.laws_chip.specs.Serving.{HasBadField, History, IsMoved, IsOfSector, IsPassedOver, Means, Part, bytes_moved, has_other, sector_after, sent_of}
-use Rattle.fdc_sequencer.specs.Moves.{is_bad_other}
-use Rattle.fdc_sequencer.specs.Transfers.{is_last, is_other, is_skipping, next_of, results_told}
-use Rattle.fdc_sequencer.specs.declared.opcode.Operation.{Operation}
-use Rattle.fdc_sequencer.specs.declared.opcode.Operation.TheVariants.{Read, Write}
-use Rattle.fdc_sequencer.specs.declared.transfer.Transfer.{Transfer}
 
 -- an intact field of the key, with this mark and this content, in the words of one revolution
 pub record HasField (past : Past) (key : Chrn) (marked : Bool) (content : List ℕ) : Type 0 where

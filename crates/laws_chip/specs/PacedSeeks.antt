@@ -1,15 +1,6 @@
 -- Seeks whose pulses come in the time that SPECIFY sets, up to the command that ends them.
 use Rattle.std.specs.Prelude.{◌≡◌, ◌⊎◌, ◌≤◌, ℕ, ◌+◌, ◌-◌, ◌*◌, ◌%◌, max, min, Bool, false, Option, Some, None, [], ◌∷◌, length, slice_index}
-use Rattle.fdc_phases.specs.declared.phases.Phase.TheVariants.{Command as Taking}
-use Rattle.fdc_core.specs.State.{is_held}
-use Rattle.fdc_sequencer.specs.Fronts.{Front}
-use Rattle.fdc_sequencer.specs.declared.stage.FrontStage.TheVariants.{Through}
-use Rattle.fdc_chip.specs.Chips.{ChipState}
-use Rattle.fdc_chip.specs.Codes.{code_of}
-use Rattle.fdc_chip.specs.Ports.{is_whole, with_next}
-use Rattle.fdc_chip.specs.Settings.{step_words}
-use Rattle.fdc_chip.specs.declared.pace.PacedSeek.{PacedSeek}
-use Rattle.fdc_chip.specs.declared.stage.ChipStage.{ChipStage}
+use Rattle.laws_chip.specs.Common.{Taking, is_held, Front, Through, ChipState, code_of, is_whole, with_next, step_words, PacedSeek, ChipStage}
 use Rattle.laws_chip.specs.Seeks.{SeeksBehind}
 
 -- ---- pulses

@@ -1,14 +1,8 @@
 -- A reset, and the results of its poll.
 use Rattle.std.specs.Prelude.{◌≡◌, ℕ, ◌+◌, Bool, true, false, ◌==◌, Option, Some, None, List, [], ◌∷◌, if◌then◌else◌, nat_lt}
 use Rattle.fdc_commands.specs.Seeking as seeking
-use Rattle.fdc_core.specs.State.{is_held}
-use Rattle.fdc_phases.specs.declared.phases.Phase.TheVariants.{Command as Taking}
-use Rattle.fdc_sequencer.specs.Fronts.{Front}
-use Rattle.fdc_sequencer.specs.declared.stage.FrontStage.TheVariants.{Through}
-use Rattle.fdc_chip.specs.Chips.{ChipState}
-use Rattle.fdc_chip.specs.Interrupts.{at_rest}
+use Rattle.laws_chip.specs.Common.{is_held, Taking, Front, Through, ChipState, at_rest, ChipStage}
 use Rattle.fdc_chip.specs.declared.answer.ChipAnswer.TheVariants.{Sensed}
-use Rattle.fdc_chip.specs.declared.stage.ChipStage.{ChipStage}
 use Rattle.fdc_chip.specs.declared.stage.ChipStage.TheVariants.{Ready, Telling}
 use Rattle.laws_chip.specs.Calls as call
 use Rattle.laws_chip.specs.Calls.{Call}

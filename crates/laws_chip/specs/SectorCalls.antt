@@ -1,15 +1,8 @@
 -- Calls one after the other, within a command of several sectors.
 use Rattle.std.specs.Prelude.{◌≡◌, ℕ, Bool, true, false, ◌||◌, ◌&&◌, Option, List, [], ◌∷◌, ◌++◌, flat_map}
-use Rattle.fdc_core.specs.Times.{WordTime}
-use Rattle.track_model.specs.Fields.{IsSizeCode}
-use Rattle.fdc_commands.specs.declared.command.Command.{Command}
-use Rattle.fdc_commands.specs.declared.results.Results.{Results}
-use Rattle.fdc_sequencer.specs.Fronts.{Front, GivesCommand, GivesFront, GivesTransfer, KeepsFront, TakesFront, WritesFront, is_ready, results_taken, told_front}
-use Rattle.fdc_sequencer.specs.Moves.{StepsFront}
+use Rattle.laws_chip.specs.Common.{WordTime, IsSizeCode, Command, Results, Front, GivesCommand, GivesFront, GivesTransfer, KeepsFront, TakesFront, WritesFront, is_ready, results_taken, told_front, StepsFront, Through, Transfer}
 use Rattle.laws_chip.specs.Outcomes.{PassesOfSector, ResultsSay}
 use Rattle.laws_chip.specs.Serving.{AreMoved, History, Passes, Serves, all_bytes, hears_count, history_counted, history_given, history_stepped, history_taken, nothing_moved, passed_in, passed_out}
-use Rattle.fdc_sequencer.specs.declared.stage.FrontStage.TheVariants.{Through}
-use Rattle.fdc_sequencer.specs.declared.transfer.Transfer.{Transfer}
 
 -- one call, which does one of these things:
 -- - a device step passes;

@@ -1,12 +1,7 @@
 -- How long a command of several sectors lasts, in device steps.
 use Rattle.std.specs.Prelude.{◌≡◌, ◌+◌, ◌-◌, ◌*◌, ◌%◌, ℕ, Bool, true, false, not, ◌&&◌, List, [], ◌∷◌, if◌then◌else◌}
-use Rattle.fdc_commands.specs.declared.results.Results.{Results}
-use Rattle.fdc_sequencer.specs.Fronts.{Front}
+use Rattle.laws_chip.specs.Common.{Results, Front, is_last, is_second_head, FrontStage, Seeking, Moving, Telling, Transfer}
 pub use Rattle.fdc_sequencer.specs.Ranges.{HasByteRecords, HasByteNumbers}
-use Rattle.fdc_sequencer.specs.Transfers.{is_last, is_second_head}
-use Rattle.fdc_sequencer.specs.declared.stage.FrontStage.{FrontStage}
-use Rattle.fdc_sequencer.specs.declared.stage.FrontStage.TheVariants.{Seeking, Moving, Telling}
-use Rattle.fdc_sequencer.specs.declared.transfer.Transfer.{Transfer}
 use Rattle.laws_chip.specs.SectorCalls.{Call, Steps}
 
 -- ---- sectors

@@ -1,22 +1,8 @@
 -- Seeks that give a pulse in each device step.
 use Rattle.std.specs.Prelude.{◌≡◌, ◌≤◌, ℕ, ◌+◌, ◌-◌, Bool, true, false, Option, Some, None, [], ◌∷◌, length, unwrap_or}
-use Rattle.fdc_commands.specs.Seeking.{recalibrated, sought}
+use Rattle.laws_chip.specs.Common.{recalibrated, sought, Taking, IsInRange, is_held, lines_at, Front, Through, ChipState, moves_heads, relative_target, Interrupting, cylinder_of, with_result, ChipOpcode, Recalibrate, RelativeSeek, Seek, Order, ChipStage, Ready, Held}
 use Rattle.fdc_commands.specs.declared.motion.Motion.{Motion}
 use Rattle.fdc_commands.specs.declared.motion.Motion.TheVariants.{Outward, Toward, Ended}
-use Rattle.fdc_phases.specs.declared.phases.Phase.TheVariants.{Command as Taking}
-use Rattle.fdc_core.specs.Ranges.{IsInRange}
-use Rattle.fdc_core.specs.State.{is_held}
-use Rattle.fdc_sequencer.specs.Adapters.{lines_at}
-use Rattle.fdc_sequencer.specs.Fronts.{Front}
-use Rattle.fdc_sequencer.specs.declared.stage.FrontStage.TheVariants.{Through}
-use Rattle.fdc_chip.specs.Chips.{ChipState}
-use Rattle.fdc_chip.specs.Doing.{moves_heads, relative_target}
-use Rattle.fdc_chip.specs.Interrupts.{Interrupting, cylinder_of, with_result}
-use Rattle.fdc_chip.specs.declared.code.ChipOpcode.{ChipOpcode}
-use Rattle.fdc_chip.specs.declared.code.ChipOpcode.TheVariants.{Recalibrate, RelativeSeek, Seek}
-use Rattle.fdc_chip.specs.declared.order.Order.{Order}
-use Rattle.fdc_chip.specs.declared.stage.ChipStage.{ChipStage}
-use Rattle.fdc_chip.specs.declared.stage.ChipStage.TheVariants.{Ready, Held}
 use Rattle.laws_chip.specs.Sound.{IsSound}
 
 -- a sound chip, whose controller has numbers that its registers hold

@@ -2,39 +2,15 @@
 -- found in the words of its own search.
 use Rattle.std.specs.Prelude.{◌≡◌, ◌≤◌, ◌⊎◌, ℕ, zero, suc, ◌+◌, ◌-◌, Bool, true, false, ◌||◌, ◌==◌, Option, None, Some, List, [], ◌∷◌, ◌++◌, length, flat_map}
 use Rattle.std.specs.List.{list_any}
-use Rattle.flop_base.specs.declared.key.Chrn.{Chrn}
-use Rattle.track_model.specs.Fields.{IsAddressAt, IsSizeCode, content_size}
-use Rattle.track_model.specs.Looks.{HasDataField, IsIntact}
-use Rattle.fdc_stages.specs.History.{IsTurn, Past, begun as new_past}
-use Rattle.fdc_stages.specs.Findings.{FindsSector}
-use Rattle.fdc_stages.specs.declared.ending.Ending.{Ending}
-use Rattle.fdc_stages.specs.declared.ending.Ending.TheVariants.{BadCheck, Done}
-use Rattle.fdc_stages.specs.Writings.{WritesWhole}
-use Rattle.fdc_commands.specs.declared.results.Results.{Results}
+use Rattle.laws_chip.specs.Common.{Chrn, IsAddressAt, IsSizeCode, content_size, HasDataField, IsIntact, IsTurn, Past, new_past, FindsSector, Ending, BadCheck, Done, WritesWhole, Results, head_of, took, WordTime, Saw, KeptOut, Wrote, Stopped, IsTime, after_time, has_ended_seek, seek_bits, AdapterState, selected_at, WriteMeans, WritesWindow, Fdc, Result, Front, StepsFront, goes_on, is_unwanted, judged_if, results_behind, results_failed, next_of, is_other, is_skipping, Operation, Read, Write, FrontStage, Through, Seeking, Moving, Telling, Transfer}
 use Rattle.fdc_core.specs.Heard.{MayRead}
 use Rattle.fdc_phases.specs.Heard.{Sent, gave, results_sent, told_in}
-use Rattle.fdc_phases.specs.Phases.{head_of}
-use Rattle.fdc_phases.specs.Written.{took}
-use Rattle.fdc_core.specs.Times.{WordTime, Saw, KeptOut, Wrote, Stopped, IsTime, after_time}
-use Rattle.fdc_commands.specs.Seeking.{has_ended_seek, seek_bits}
-use Rattle.fdc_sequencer.specs.Adapters.{AdapterState, selected_at}
 use Rattle.fdc_core.specs.Listening.{is_executing}
 use Rattle.fdc_core.specs.Meaning.{AreOfField, ReadMeans}
-use Rattle.fdc_core.specs.Tellings.{WriteMeans, WritesWindow}
 use Rattle.fdc_core.specs.Whole.{ending_told, mark_of}
 use Rattle.fdc_core.specs.Written.{MayWrite}
 use Rattle.fdc_phases.specs.declared.answers.Answer.TheVariants.{Short}
-use Rattle.fdc_core.specs.declared.controller.Fdc.{Fdc}
-use Rattle.fdc_phases.specs.declared.phases.Phase.TheVariants.{Result}
-use Rattle.fdc_sequencer.specs.Fronts.{Front}
-use Rattle.fdc_sequencer.specs.Moves.{StepsFront, goes_on, is_unwanted, judged_if, results_behind, results_failed}
-use Rattle.fdc_sequencer.specs.Transfers.{next_of, is_other, is_skipping}
-use Rattle.fdc_sequencer.specs.declared.opcode.Operation.{Operation}
-use Rattle.fdc_sequencer.specs.declared.opcode.Operation.TheVariants.{Read, Write}
 use Rattle.fdc_sequencer.specs.declared.stage.Moving.{Moving as MovingSector}
-use Rattle.fdc_sequencer.specs.declared.stage.FrontStage.{FrontStage}
-use Rattle.fdc_sequencer.specs.declared.stage.FrontStage.TheVariants.{Through, Seeking, Moving, Telling}
-use Rattle.fdc_sequencer.specs.declared.transfer.Transfer.{Transfer}
 
 -- ---- the controller's own command for a sector
 

@@ -1,24 +1,14 @@
 -- A chip whose parts agree.
 use Rattle.std.specs.Prelude.{◌≡◌, ◌<◌, ◌⊎◌, Bool, true, false, ◌==◌, []}
-use Rattle.fdc_commands.specs.Seeking.{seek_bits}
+use Rattle.laws_chip.specs.Common.{seek_bits, Taking, Execute, is_gated, is_held, Front, FrontStage, Through, Seeking, Transfer, ChipState, ChipStage, Ready, Busy, ChipTask}
 use Rattle.fdc_phases.specs.declared.phases.Phase.{Phase}
-use Rattle.fdc_phases.specs.declared.phases.Phase.TheVariants.{Command as Taking, Execute}
 use Rattle.fdc_phases.specs.declared.phases.Task.{Task}
 use Rattle.fdc_phases.specs.declared.phases.Task.TheVariants.{ReadId, Format}
-use Rattle.fdc_core.specs.State.{is_gated, is_held}
 use Rattle.fdc_core.specs.Steps.{IsCounted}
-use Rattle.fdc_sequencer.specs.Fronts.{Front}
-use Rattle.fdc_sequencer.specs.declared.stage.FrontStage.{FrontStage}
-use Rattle.fdc_sequencer.specs.declared.stage.FrontStage.TheVariants.{Through, Seeking}
-use Rattle.fdc_sequencer.specs.declared.transfer.Transfer.{Transfer}
 use Rattle.laws_chip.specs.SectorLasting.{is_under_way}
 use Rattle.laws_chip.specs.Serving.{History, Serves}
-use Rattle.fdc_chip.specs.Chips.{ChipState}
 use Rattle.fdc_chip.specs.declared.stage.Place.{Place}
 use Rattle.fdc_chip.specs.declared.stage.Place.TheVariants.{Address}
-use Rattle.fdc_chip.specs.declared.stage.ChipStage.{ChipStage}
-use Rattle.fdc_chip.specs.declared.stage.ChipStage.TheVariants.{Ready, Busy}
-use Rattle.fdc_chip.specs.declared.stage.ChipTask.{ChipTask}
 use Rattle.fdc_chip.specs.declared.stage.ChipTask.TheVariants as task
 use Rattle.laws_chip.specs.Beginning.{IsOfFour}
 

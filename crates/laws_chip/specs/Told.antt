@@ -1,16 +1,9 @@
 -- What the chip reports after a command.
 use Rattle.std.specs.Prelude.{◌≡◌, ◌⊎◌, ℕ, true}
-use Rattle.std.specs.Int.RustNames.{bit_or}
+use Rattle.laws_chip.specs.Common.{bit_or, Results, Front, GivesCommand, results_taken, ChipState, identifying, unit_of, ChipTask, Sought}
 use Rattle.fdc_registers.specs.St2.{wrong_cylinder, bad_cylinder}
-use Rattle.fdc_commands.specs.declared.results.Results.{Results}
-use Rattle.fdc_sequencer.specs.Fronts.{Front, GivesCommand, results_taken}
-use Rattle.fdc_chip.specs.Chips.{ChipState}
-use Rattle.fdc_chip.specs.Doing.{identifying}
-use Rattle.fdc_chip.specs.Ending.{unit_of}
 use Rattle.fdc_chip.specs.declared.answer.ChipAnswer.TheVariants as answer
 use Rattle.fdc_chip.specs.declared.stage.ChipStage.TheVariants.{Busy, Telling}
-use Rattle.fdc_chip.specs.declared.stage.ChipTask.{ChipTask}
-use Rattle.fdc_chip.specs.declared.stage.ChipTask.TheVariants.{Sought}
 
 -- the host reads these results, and INT is up, where DOR lets it out
 pub record Tells (results : Results) (chip : ChipState) : Type 0 where

@@ -1,21 +1,9 @@
 -- A write over a medium that stays in: what it leaves on that medium.
 use Rattle.std.specs.Prelude.{◌≡◌, ◌+◌, ◌++◌, ◌⊎◌, ℕ, ◌<◌, ◌≤◌, Bool, true, false, Some, List, [], ◌∷◌, length, replicate}
-use Rattle.raw_image.specs.Disk.{Disk, HasTrack, IsDisk, IsWithTrack, track_of}
-use Rattle.track_model.specs.Fields.{IsAddressAt, content_size}
+use Rattle.laws_chip.specs.Common.{Disk, HasTrack, IsDisk, IsWithTrack, track_of, IsAddressAt, content_size, DriveState, Past, Results, head_of, rate_fits, IsContent, drive_at, selected_at, Front, FrontStage, Moving, Telling, Transfer}
 use Rattle.track_model.specs.Laid.{with_window}
 use Rattle.track_model.specs.Windows.{IsCuttable, cut_of}
 use Rattle.track_model.specs.Writing.{window}
-use Rattle.drive_model.specs.Drive.{DriveState}
-use Rattle.fdc_stages.specs.History.{Past}
-use Rattle.fdc_commands.specs.declared.results.Results.{Results}
-use Rattle.fdc_phases.specs.Phases.{head_of}
-use Rattle.fdc_phases.specs.Rates.{rate_fits}
-use Rattle.fdc_phases.specs.Written.{IsContent}
-use Rattle.fdc_sequencer.specs.Adapters.{drive_at, selected_at}
-use Rattle.fdc_sequencer.specs.Fronts.{Front}
-use Rattle.fdc_sequencer.specs.declared.stage.FrontStage.{FrontStage}
-use Rattle.fdc_sequencer.specs.declared.stage.FrontStage.TheVariants.{Moving, Telling}
-use Rattle.fdc_sequencer.specs.declared.transfer.Transfer.{Transfer}
 use Rattle.laws_chip.specs.SectorCalls.{AreWithin, Call, Changes}
 use Rattle.laws_chip.specs.Media.{IsClean, Place}
 use Rattle.laws_chip.specs.Serving.{History, Part, sector_after}

@@ -1,14 +1,8 @@
 // INT from call to call: whoever looks at INT after each call sees each edge. A run of device steps stops at the first
 // edge. The bodies are empty: the contracts say what follows from what each call does.
 ghost use Rattle.std.specs.Prelude.{◌≡◌, ℕ, true, false, Some};
-ghost use Rattle.fdc_commands.specs.declared.results.Results.{Results};
-ghost use Rattle.fdc_chip.specs.Chips.{ChipState, KeepsRest, interrupts_chip};
-ghost use Rattle.fdc_chip.specs.Doing.{Opens, sensing};
-ghost use Rattle.fdc_chip.specs.Interrupts.{sensed};
-ghost use Rattle.fdc_chip.specs.Ports.{ReadsChip, byte_told, told_chip};
-ghost use Rattle.fdc_chip.specs.Settings.{is_by_port};
+ghost use Rattle.laws_chip.specs.Common.{Results, ChipState, KeepsRest, interrupts_chip, Opens, sensing, sensed, ReadsChip, byte_told, told_chip, is_by_port, ChipTask};
 ghost use Rattle.fdc_chip.specs.declared.answer.ChipAnswer.TheVariants as answer;
-ghost use Rattle.fdc_chip.specs.declared.stage.ChipTask.{ChipTask};
 ghost use Rattle.laws_chip.specs.Calls.{Call, Does};
 ghost use Rattle.laws_chip.specs.Edges.{EndsAnswer, is_of_channel};
 

@@ -1,14 +1,8 @@
 // How long a command lasts. `ranges` says of a chip at each time what is assumed of numbers here. The bodies are empty:
 // the contracts say what follows from what each call does.
 ghost use Rattle.std.specs.Prelude.{◌≡◌, ◌<◌, true, List};
-ghost use Rattle.fdc_core.specs.Ranges.{IsInRange};
-ghost use Rattle.fdc_sequencer.specs.declared.transfer.Transfer.{Transfer};
+ghost use Rattle.laws_chip.specs.Common.{IsInRange, Transfer, ChipState, Obeys, implies, is_size, transfer_sent, verifying, ReadTrack, VerifyCode, Busy, ChipTask};
 ghost use Rattle.laws_chip.specs.SectorLasting.{HasByteNumbers, most_steps};
-ghost use Rattle.fdc_chip.specs.Chips.{ChipState};
-ghost use Rattle.fdc_chip.specs.Doing.{Obeys, implies, is_size, transfer_sent, verifying};
-ghost use Rattle.fdc_chip.specs.declared.code.ChipOpcode.TheVariants.{ReadTrack, Verify as VerifyCode};
-ghost use Rattle.fdc_chip.specs.declared.stage.ChipStage.TheVariants.{Busy};
-ghost use Rattle.fdc_chip.specs.declared.stage.ChipTask.{ChipTask};
 ghost use Rattle.laws_chip.specs.Beginning.{BeginsBehind, IsBegun, IsFreeBehind};
 ghost use Rattle.laws_chip.specs.Calls.{AreServed, Call, steps_in};
 ghost use Rattle.laws_chip.specs.Lasting.{AreAt, AreTracked, AreVerified, IsVerifying, most_track_steps};

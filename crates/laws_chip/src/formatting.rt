@@ -1,15 +1,7 @@
 // What FORMAT TRACK leaves of the medium. The bodies are empty: the contracts say what follows from what each call
 // does.
 ghost use Rattle.std.specs.Prelude.{◌≡◌, ℕ, true, List};
-ghost use Rattle.fdc_stages.specs.Formats.{Numbers};
-ghost use Rattle.fdc_core.specs.Drives.Hearing.{Outset};
-ghost use Rattle.fdc_sequencer.specs.Adapters.{drive_at};
-ghost use Rattle.fdc_chip.specs.Chips.{ChipState};
-ghost use Rattle.fdc_chip.specs.Doing.{Obeys, is_size};
-ghost use Rattle.fdc_chip.specs.Steps.{StepsChip};
-ghost use Rattle.fdc_chip.specs.declared.code.ChipOpcode.TheVariants.{FormatTrack};
-ghost use Rattle.fdc_chip.specs.declared.stage.ChipStage.TheVariants.{Busy};
-ghost use Rattle.fdc_chip.specs.declared.stage.ChipTask.TheVariants.{Sent};
+ghost use Rattle.laws_chip.specs.Common.{Numbers, Outset, drive_at, ChipState, Obeys, is_size, StepsChip, FormatTrack, Busy, Sent};
 ghost use Rattle.laws_chip.specs.Beginning.{IsFreeBehind};
 ghost use Rattle.laws_chip.specs.Calls.{Call};
 ghost use Rattle.laws_chip.specs.FormatTracks.{GiveAll, IsFormatBegun, LaysKeys, LetDrives, TurnsAtSpeed, numbers_of};

@@ -1,15 +1,6 @@
 // What READ ID reports of the medium. The bodies are empty: the contracts say what follows from what each call does.
 ghost use Rattle.std.specs.Prelude.{◌≡◌, ℕ, true, Some, List};
-ghost use Rattle.track_model.specs.Fields.{IsAddressAt};
-ghost use Rattle.fdc_commands.specs.declared.results.Results.{Results};
-ghost use Rattle.fdc_phases.specs.Phases.{head_of};
-ghost use Rattle.fdc_chip.specs.Chips.{ChipState};
-ghost use Rattle.fdc_chip.specs.Codes.{code_of};
-ghost use Rattle.fdc_chip.specs.Doing.{Obeys};
-ghost use Rattle.fdc_chip.specs.Steps.{StepsChip};
-ghost use Rattle.fdc_chip.specs.declared.code.ChipOpcode.TheVariants.{ReadId};
-ghost use Rattle.fdc_chip.specs.declared.stage.ChipStage.TheVariants.{Busy};
-ghost use Rattle.fdc_chip.specs.declared.stage.ChipTask.TheVariants.{Sent};
+ghost use Rattle.laws_chip.specs.Common.{IsAddressAt, Results, head_of, ChipState, code_of, Obeys, StepsChip, ReadId, Busy, Sent};
 ghost use Rattle.laws_chip.specs.Media.{Place, track_at};
 ghost use Rattle.laws_chip.specs.Beginning.{IsFreeBehind};
 ghost use Rattle.laws_chip.specs.Calls.{Call};

@@ -1,7 +1,7 @@
 // Each command ends, whatever the host does. The bodies are empty: the contracts say what follows from what each call
 // does.
 ghost use Rattle.std.specs.Prelude.{◌≡◌, ◌+◌, ◌<◌, ◌≤◌, ℕ, Bool, List};
-ghost use Rattle.fdc_chip.specs.Chips.{ChipState};
+ghost use Rattle.laws_chip.specs.Common.{ChipState};
 ghost use Rattle.fdc_chip.specs.declared.code.ChipOpcode.TheVariants.{FormatTrack, ReadId, ReadTrack, Transfer, Verify};
 ghost use Rattle.laws_chip.specs.Beginning.{completed};
 ghost use Rattle.laws_chip.specs.Bounds.{AreWithoutReset, AreWorking, EndsAmong, IsGiven, most_steps_of};

@@ -1,16 +1,11 @@
 // A command of several sectors and the medium under it. The bodies are empty: the contracts say what follows from what
 // each call does.
 ghost use Rattle.std.specs.Prelude.{◌≡◌, ◌++◌, ◌∷◌, [], Bool, Some, List};
-ghost use Rattle.fdc_sequencer.specs.Adapters.{drive_at};
-ghost use Rattle.fdc_commands.specs.declared.results.Results.{Results};
-ghost use Rattle.fdc_sequencer.specs.declared.opcode.Operation.TheVariants.{Read, Write};
+ghost use Rattle.laws_chip.specs.Common.{drive_at, Results, Read, Write, Transfer, ChipState, StepsChip};
 ghost use Rattle.fdc_sequencer.specs.declared.stage.FrontStage.TheVariants as behind;
-ghost use Rattle.fdc_sequencer.specs.declared.transfer.Transfer.{Transfer};
 ghost use Rattle.laws_chip.specs.SectorCalls.{Steps};
 ghost use Rattle.laws_chip.specs.Media.{IsReadFrom, Place, StaysIn};
 ghost use Rattle.laws_chip.specs.Written.{IsWrittenTo, KeepsIn};
-ghost use Rattle.fdc_chip.specs.Chips.{ChipState};
-ghost use Rattle.fdc_chip.specs.Steps.{StepsChip};
 ghost use Rattle.laws_chip.specs.Beginning.{IsBegun, IsServed};
 ghost use Rattle.laws_chip.specs.Calls.{AreServed, Call};
 

@@ -1,10 +1,7 @@
 // Pulses that come in the time that SPECIFY sets. The bodies are empty: the contracts say what follows from what each
 // call does.
 ghost use Rattle.std.specs.Prelude.{◌≡◌, ◌<◌, ◌+◌, ℕ, true, false, Option, None, Some};
-ghost use Rattle.fdc_chip.specs.Chips.{ChipState};
-ghost use Rattle.fdc_chip.specs.Doing.{drained, is_told, pace_begun};
-ghost use Rattle.fdc_chip.specs.Paces.{Paces, is_over, stepped};
-ghost use Rattle.fdc_chip.specs.declared.pace.PacedSeek.{PacedSeek};
+ghost use Rattle.laws_chip.specs.Common.{ChipState, drained, is_told, pace_begun, Paces, is_over, stepped, PacedSeek};
 
 /// The results of the poll after a reset are reported, even while such pulses are to come. The result of a single pulse
 /// isn't reported. A device step first takes over all results, and then leaves them as they are.

@@ -1,14 +1,8 @@
 // A reset, and what the host reads after it. The bodies are empty: the contracts say what follows from what each call
 // does.
 ghost use Rattle.std.specs.Prelude.{◌≡◌, ◌⊎◌, ◌+◌, ◌<◌, ℕ, true, false};
-ghost use Rattle.fdc_core.specs.Ports.{resets};
-ghost use Rattle.fdc_core.specs.State.{is_held};
-ghost use Rattle.fdc_chip.specs.Chips.{ChipState, interrupts_chip};
-ghost use Rattle.fdc_chip.specs.Ports.{ReadsChip, WritesChip, value_behind};
+ghost use Rattle.laws_chip.specs.Common.{resets, is_held, ChipState, interrupts_chip, ReadsChip, WritesChip, value_behind, StepsChip, ChipStage, Ready};
 ghost use Rattle.fdc_chip.specs.Quiet.{rests_at};
-ghost use Rattle.fdc_chip.specs.Steps.{StepsChip};
-ghost use Rattle.fdc_chip.specs.declared.stage.ChipStage.{ChipStage};
-ghost use Rattle.fdc_chip.specs.declared.stage.ChipStage.TheVariants.{Ready};
 ghost use Rattle.laws_chip.specs.Calls.{Call, Does, is_reset, is_step};
 ghost use Rattle.laws_chip.specs.Resets.{AwaitsPoll, HasPolls, is_of_data_port, telling_poll};
 ghost use Rattle.laws_chip.specs.Sound.{IsSound};

@@ -1,16 +1,6 @@
 // Seeks and their end. The bodies are empty: the contracts say what follows from what each call does.
 ghost use Rattle.std.specs.Prelude.{◌≡◌, ◌⊎◌, ◌+◌, ◌<◌, ◌≤◌, ◌%◌, ℕ, Option, Some, None, unwrap_or, true, false};
-ghost use Rattle.fdc_chip.specs.Chips.{ChipState, interrupts_chip};
-ghost use Rattle.fdc_chip.specs.Codes.{code_of};
-ghost use Rattle.fdc_chip.specs.Doing.{drained, implies, needs_heads, pace_begun};
-ghost use Rattle.fdc_chip.specs.Interrupts.{cylinder_of};
-ghost use Rattle.fdc_chip.specs.Ports.{WritesChip};
-ghost use Rattle.fdc_chip.specs.Settings.{step_words};
-ghost use Rattle.fdc_chip.specs.Steps.{StepsChip};
-ghost use Rattle.fdc_chip.specs.declared.code.ChipOpcode.{ChipOpcode};
-ghost use Rattle.fdc_chip.specs.declared.order.Order.{Order};
-ghost use Rattle.fdc_chip.specs.declared.stage.ChipStage.{ChipStage};
-ghost use Rattle.fdc_chip.specs.declared.stage.ChipStage.TheVariants.{Ready, Held};
+ghost use Rattle.laws_chip.specs.Common.{ChipState, interrupts_chip, code_of, drained, implies, needs_heads, pace_begun, cylinder_of, WritesChip, step_words, StepsChip, ChipOpcode, Order, ChipStage, Ready, Held};
 ghost use Rattle.laws_chip.specs.Beginning.{Completes, IsDoneFree, IsHeldFor, completed, still_moves};
 ghost use Rattle.laws_chip.specs.Calls.{Call, Does, is_reset, is_step};
 ghost use Rattle.laws_chip.specs.PacedSeeks.{HeadsPaced, completes, most_paced, pulses_left};

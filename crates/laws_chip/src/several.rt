@@ -1,23 +1,11 @@
 // What is known of a command of several sectors. The bodies are empty: the contracts say what follows from what each
 // call does.
 ghost use Rattle.std.specs.Prelude.{◌≡◌, ℕ, Bool, Option, true, List, [], ◌++◌, length, replicate};
-ghost use Rattle.fdc_sequencer.specs.Fronts.{Front, KeepsFront, TakesFront, GivesCommand, GivesFront, GivesTransfer, WritesFront, is_ready, results_taken, told_front};
-ghost use Rattle.fdc_sequencer.specs.Moves.{RunsFront, StepsFront};
+ghost use Rattle.laws_chip.specs.Common.{Front, KeepsFront, TakesFront, GivesCommand, GivesFront, GivesTransfer, WritesFront, is_ready, results_taken, told_front, RunsFront, StepsFront, Chrn, IsSizeCode, content_size, FindsSector, Past, resets, Operation, Read, Command, Results, Through, Telling, Transfer};
 ghost use Rattle.laws_chip.specs.SectorCalls.{AreWithin, Begins, Behind, Call, Gather, Served, Steps, passed_in_all};
 ghost use Rattle.laws_chip.specs.Outcomes.{HasField, PassedWhole, PassesOfSector, ResultsSay};
 ghost use Rattle.laws_chip.specs.Serving.{History, IsMoved, KeepsServing, Part, Serves, ServesCounted, ServesStep, ServesUnless, BeginsServing, has_results, history_given, history_taken, passed_in, passed_out};
 ghost use Rattle.laws_chip.specs.Media.{IsReadFrom, Place, StaysIn};
-ghost use Rattle.flop_base.specs.declared.key.Chrn.{Chrn};
-ghost use Rattle.track_model.specs.Fields.{IsSizeCode, content_size};
-ghost use Rattle.fdc_stages.specs.Findings.{FindsSector};
-ghost use Rattle.fdc_stages.specs.History.{Past};
-ghost use Rattle.fdc_core.specs.Ports.{resets};
-ghost use Rattle.fdc_sequencer.specs.declared.opcode.Operation.{Operation};
-ghost use Rattle.fdc_sequencer.specs.declared.opcode.Operation.TheVariants.{Read};
-ghost use Rattle.fdc_commands.specs.declared.command.Command.{Command};
-ghost use Rattle.fdc_commands.specs.declared.results.Results.{Results};
-ghost use Rattle.fdc_sequencer.specs.declared.stage.FrontStage.TheVariants.{Through, Telling};
-ghost use Rattle.fdc_sequencer.specs.declared.transfer.Transfer.{Transfer};
 
 /// A command that is given is served from then on, or refused. It goes on through each call, and while it is served no
 /// other command can be given. It is over only where its results are taken or the controller is reset. It is over too

@@ -1,15 +1,8 @@
 // A command of several sectors ends, and its end is seen in a certain way. The bodies are empty: the contracts say what
 // follows from what each call does.
 ghost use Rattle.std.specs.Prelude.{◌≡◌, ◌<◌, ◌≤◌, ◌+◌, ℕ, true, false, List, ◌++◌, Some, replicate};
-ghost use Rattle.std.specs.Int.RustNames.{bit_or};
+ghost use Rattle.laws_chip.specs.Common.{bit_or, Results, IsInRange, is_gated, Front, asks_outside, interrupts_outside, results_outside, results_taken, seeking_bit, value_outside, is_last, next_of, Through, Telling, Transfer};
 ghost use Rattle.fdc_registers.specs.Msr.{busy};
-ghost use Rattle.fdc_commands.specs.declared.results.Results.{Results};
-ghost use Rattle.fdc_core.specs.Ranges.{IsInRange};
-ghost use Rattle.fdc_core.specs.State.{is_gated};
-ghost use Rattle.fdc_sequencer.specs.Fronts.{Front, asks_outside, interrupts_outside, results_outside, results_taken, seeking_bit, value_outside};
-ghost use Rattle.fdc_sequencer.specs.Transfers.{is_last, next_of};
-ghost use Rattle.fdc_sequencer.specs.declared.stage.FrontStage.TheVariants.{Through, Telling};
-ghost use Rattle.fdc_sequencer.specs.declared.transfer.Transfer.{Transfer};
 ghost use Rattle.laws_chip.specs.SectorCalls.{AreWithin, Begins, Call, Steps};
 ghost use Rattle.laws_chip.specs.SectorLasting.{HasByteNumbers, HasByteRecords, HasResults, is_under_way, most_steps, sectors_from, steps_in};
 

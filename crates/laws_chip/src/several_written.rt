@@ -1,11 +1,6 @@
 // What is known of the medium under a command of several sectors that writes. The bodies are empty.
 ghost use Rattle.std.specs.Prelude.{◌≡◌, Bool, Some, List};
-ghost use Rattle.fdc_sequencer.specs.Adapters.{drive_at};
-ghost use Rattle.fdc_commands.specs.declared.results.Results.{Results};
-ghost use Rattle.fdc_sequencer.specs.Fronts.{Front};
-ghost use Rattle.fdc_sequencer.specs.declared.opcode.Operation.TheVariants.{Write};
-ghost use Rattle.fdc_sequencer.specs.declared.stage.FrontStage.TheVariants.{Telling};
-ghost use Rattle.fdc_sequencer.specs.declared.transfer.Transfer.{Transfer};
+ghost use Rattle.laws_chip.specs.Common.{drive_at, Results, Front, Write, Telling, Transfer};
 ghost use Rattle.laws_chip.specs.SectorCalls.{AreWithin, Begins, Call, Served};
 ghost use Rattle.laws_chip.specs.Media.{Place};
 ghost use Rattle.laws_chip.specs.Written.{IsWrittenTo, KeepsIn};

@@ -1,17 +1,7 @@
 // What is true of a chip at each time. The bodies are empty: the contracts say what follows from what each call does.
 ghost use Rattle.std.specs.Prelude.{◌≡◌, ◌<◌, ℕ, true, false, Some, List};
-ghost use Rattle.drive_model.specs.Drive.{DriveState};
-ghost use Rattle.fdc_chip.specs.Chips.{ChipState, IsNewChip, with_front};
-ghost use Rattle.fdc_chip.specs.Codes.{code_of};
-ghost use Rattle.fdc_chip.specs.Doing.{implies, needs_heads};
-ghost use Rattle.fdc_chip.specs.Paces.{Paces};
+ghost use Rattle.laws_chip.specs.Common.{DriveState, ChipState, IsNewChip, with_front, code_of, implies, needs_heads, Paces, WritesChip, RunsChip, StepsChip, ChipOpcode, Order, Busy, Held, ChipTask};
 ghost use Rattle.fdc_chip.specs.Pins.{ResetsByPin};
-ghost use Rattle.fdc_chip.specs.Ports.{WritesChip};
-ghost use Rattle.fdc_chip.specs.Steps.{RunsChip, StepsChip};
-ghost use Rattle.fdc_chip.specs.declared.code.ChipOpcode.{ChipOpcode};
-ghost use Rattle.fdc_chip.specs.declared.order.Order.{Order};
-ghost use Rattle.fdc_chip.specs.declared.stage.ChipStage.TheVariants.{Busy, Held};
-ghost use Rattle.fdc_chip.specs.declared.stage.ChipTask.{ChipTask};
 ghost use Rattle.laws_chip.specs.Beginning.{BeginsUnless, Completes, CompletesTransfer, IsDoneFree, IsHeldFor, IsTransferOf, completed, still_moves};
 ghost use Rattle.laws_chip.specs.Calls.{AreMade, Call, Does, WritesByte, is_reset, is_step};
 ghost use Rattle.laws_chip.specs.Sound.{IsSound};

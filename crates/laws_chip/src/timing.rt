@@ -2,12 +2,8 @@
 // does.
 ghost use Rattle.std.specs.Prelude.{◌≡◌, true, List, bit_and};
 ghost use Rattle.fdc_registers.specs.St1.{overrun};
-ghost use Rattle.fdc_commands.specs.declared.results.Results.{Results};
-ghost use Rattle.fdc_sequencer.specs.Fronts.{asks_outside};
+ghost use Rattle.laws_chip.specs.Common.{Results, asks_outside, Transfer, ChipState, asks_chip, interrupts_chip, passes_by_channel, passes_by_port, StepsChip};
 ghost use Rattle.fdc_sequencer.specs.declared.stage.FrontStage.TheVariants as behind;
-ghost use Rattle.fdc_sequencer.specs.declared.transfer.Transfer.{Transfer};
-ghost use Rattle.fdc_chip.specs.Chips.{ChipState, asks_chip, interrupts_chip, passes_by_channel, passes_by_port};
-ghost use Rattle.fdc_chip.specs.Steps.{StepsChip};
 ghost use Rattle.laws_chip.specs.Beginning.{IsBegun};
 ghost use Rattle.laws_chip.specs.Calls.{Call};
 ghost use Rattle.laws_chip.specs.InTime.{AreInTime, IsPrompt};

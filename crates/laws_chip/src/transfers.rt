@@ -1,19 +1,10 @@
 // A command of several sectors, from its last byte to what the host reads. The bodies are empty: the contracts say what
 // follows from what each call does.
 ghost use Rattle.std.specs.Prelude.{◌≡◌, ◌<◌, ℕ, true, false, Some, List};
-ghost use Rattle.fdc_commands.specs.declared.results.Results.{Results};
+ghost use Rattle.laws_chip.specs.Common.{Results, Transfer, ChipState, with_front, interrupts_chip, asks_chip, code_of, Obeys, implies, is_size, transfer_sent, looks_for_cylinder, StepsChip, TransferCode, Busy, Sent, Sought};
 ghost use Rattle.fdc_sequencer.specs.Opcodes.{opcode_of};
 ghost use Rattle.fdc_sequencer.specs.declared.stage.FrontStage.TheVariants as behind;
-ghost use Rattle.fdc_sequencer.specs.declared.transfer.Transfer.{Transfer};
 ghost use Rattle.laws_chip.specs.SectorLasting.{is_under_way};
-ghost use Rattle.fdc_chip.specs.Chips.{ChipState, with_front, interrupts_chip, asks_chip};
-ghost use Rattle.fdc_chip.specs.Codes.{code_of};
-ghost use Rattle.fdc_chip.specs.Doing.{Obeys, implies, is_size, transfer_sent};
-ghost use Rattle.fdc_chip.specs.Ending.{looks_for_cylinder};
-ghost use Rattle.fdc_chip.specs.Steps.{StepsChip};
-ghost use Rattle.fdc_chip.specs.declared.code.ChipOpcode.TheVariants.{Transfer as TransferCode};
-ghost use Rattle.fdc_chip.specs.declared.stage.ChipStage.TheVariants.{Busy};
-ghost use Rattle.fdc_chip.specs.declared.stage.ChipTask.TheVariants.{Sent, Sought};
 ghost use Rattle.laws_chip.specs.Beginning.{IsBegun, IsFreeBehind, IsServed, spelled_opcode};
 ghost use Rattle.laws_chip.specs.Calls.{AreServed, ArePassedOn, Call, Does, IsPassedOn, IsServing, is_reset, is_step};
 ghost use Rattle.laws_chip.specs.Told.{LooksFor, LooksOrTells, Tells};

@@ -1,11 +1,7 @@
 // How long a command waits for heads, whatever was done before. The bodies are empty: the contracts say what follows from
 // what each call does.
 ghost use Rattle.std.specs.Prelude.{◌≡◌, ◌+◌, ◌*◌, ◌<◌, ◌≤◌, ℕ, List, Option, None, Some, max, true};
-ghost use Rattle.fdc_chip.specs.Chips.{ChipState};
-ghost use Rattle.fdc_chip.specs.Doing.{needs_heads, pace_begun};
-ghost use Rattle.fdc_chip.specs.Ports.{WritesChip};
-ghost use Rattle.fdc_chip.specs.Settings.{step_words};
-ghost use Rattle.fdc_chip.specs.declared.code.ChipOpcode.{ChipOpcode};
+ghost use Rattle.laws_chip.specs.Common.{ChipState, needs_heads, pace_begun, WritesChip, step_words, ChipOpcode};
 ghost use Rattle.fdc_chip.specs.declared.settings.Settings.{Settings};
 ghost use Rattle.laws_chip.specs.Beginning.{Completes};
 ghost use Rattle.laws_chip.specs.Bounds.{AreSeeking, HasRanges, HeadsGoOn, IsGiven, IsUsed, IsWorking, heads_of, heads_steps, wait_of};

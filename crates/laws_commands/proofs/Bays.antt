@@ -2,35 +2,11 @@
 -- here is what holds after them.
 use Rattle.std.proofs.Common.{arith, ◌≡◌, ◌∙◌, ◌<◌, ◌≤◌, ℕ, Bool, true, false, true≢false, List, length, refl, sym, ap, subst, inl, inr, Option, Some, None, Result, Ok, Err, IsOk, le-leb, unwrap_or}
 use Rattle.std.specs.Prelude.{◌&&◌, ◌==◌, not, is_some, IsSomeAnd, MatchBool, if◌then◌else◌}
-use Rattle.std.specs.Option.{option_map}
-use Rattle.flop_base.specs.Shelf.{Files, file_at}
-use Rattle.flop_base.specs.declared.answers.Code.{Code}
-use Rattle.flop_base.specs.declared.answers.Code.TheVariants.{BadRequest, Changed}
-use Rattle.flop_base.specs.declared.answers.Rate.{Rate}
-use Rattle.flop_base.specs.declared.answers.Rate.TheVariants.{R500, R250}
-use Rattle.raw_image.specs.Disk.{Disk}
-use Rattle.raw_image.specs.Image.{image_of}
-use Rattle.raw_image.specs.declared.error.ImageError.{ImageError}
-use Rattle.flop_base.specs.Bays.{Two, in_bay}
-use Rattle.flop_base.specs.Counters.{IsUndisturbed}
-use Rattle.floppy_jobs.specs.declared.request.Request.{Request}
+use Rattle.laws_commands.proofs.Common.{option_map, Files, file_at, Code, BadRequest, Changed, Rate, R500, R250, Disk, image_of, ImageError, Two, in_bay, IsUndisturbed, Request, Reply, Stop, StationState, Bay, Becomes, IsFresh, bay_of, set_bay, fresh_bay, is_bay, is_acknowledged, rate_refusal, AcksDrive, State, Step, StopsAt, IsImageOf, refusal_of, reply_of, is_loaded, unless_bad, is_blank_request, most_image_bytes, is_refusal, IsEndStop, blank_request, Shape, shape_of, Script, carries, no_tracks, shape_at}
 use Rattle.floppy_jobs.specs.declared.request.Request.TheVariants as request
-use Rattle.sector_model.specs.declared.reply.Reply.{Reply}
 use Rattle.sector_model.specs.declared.reply.Reason.TheVariants as reason
-use Rattle.sector_model.specs.declared.reply.Stop.{Stop}
 use Rattle.sector_model.specs.declared.reply.Stop.TheVariants as stop
-use Rattle.sector_model.specs.Stations.{StationState, Bay, Becomes, IsFresh, bay_of, set_bay, fresh_bay}
-use Rattle.sector_model.specs.Orders.{is_bay, is_acknowledged, rate_refusal}
-use Rattle.sector_model.specs.Calls.{AcksDrive}
-use Rattle.sector_model.specs.States.{State}
-use Rattle.sector_model.specs.Steps.{Step, StopsAt, IsImageOf, refusal_of, reply_of, is_loaded, unless_bad, is_blank_request, most_image_bytes}
-use Rattle.sector_model.specs.Texts.{is_refusal}
-use Rattle.sector_model.specs.Runs.{IsEndStop}
-use Rattle.floppy_session.specs.Blanks.{blank_request}
-use Rattle.floppy_session.specs.declared.shape.Shape.{Shape}
-use Rattle.floppy_session.specs.Shapes.{shape_of}
-use Rattle.commands.specs.Scripts.{Script}
-use Rattle.commands.specs.Parts.{carries, no_tracks, shape_at, opens, sets_rate, acknowledges}
+use Rattle.commands.specs.Parts.{opens, sets_rate, acknowledges}
 use Rattle.laws_commands.proofs.Prepared.{IsBlank, IsAcked, blanks, acks, in_with}
 use Rattle.laws_commands.proofs.Reading.{reaches}
 use Rattle.laws_commands.proofs.Steps.{keeps_drives}
@@ -43,11 +19,10 @@ both_true a b e f = rw (e, f) refl
 -- if a request puts no file in, only the outside can stop it
 stops_outside : (asked : Request) (old new : State) (told after : Option Files) (cause : Stop)
     → ((bay : ℕ) (name : List ℕ) → asked ≡ request.Insert bay name → ⊥) → StopsAt asked old told cause new after → IsEndStop cause
-stops_outside asked old new told after stop.FileFault other stops = tt
-stops_outside asked old new told after stop.NoMemory other stops = tt
 stops_outside asked old new told after (stop.BadImage name error) other stops = let is = stops.cause.0 in absurd (other is.0 name is.1)
 stops_outside asked old new told after (stop.TooLong name most) other stops = let is = stops.cause.0 in absurd (other is.0 name is.1)
 stops_outside asked old new told after (stop.Absent name) other stops = let is = stops.cause.0 in absurd (other is.0 name is.1)
+stops_outside asked old new told after _ other stops = tt
 
 pub safe : (asked : Request) (old : Stage) → keeps_drives asked ≡ true → ((bay : ℕ) (name : List ℕ) → asked ≡ request.Insert bay name → ⊥) → IsSafe asked old
 safe asked old keeps other = record {

@@ -1,17 +1,7 @@
 -- A blank disk is regular, since nothing is recorded on it.
 use Rattle.std.proofs.Common.{arith, ◌≡◌, ◌∙◌, ◌+◌, ◌-◌, ◌*◌, take, replicate, ℕ, List, length, sym, ap, subst, inl, inr}
-use Rattle.std.proofs.lemmas.Bool.{cases_lt}
-use Rattle.std.proofs.lemmas.List.{take_all, take-replicate, drop-replicate, length-replicate}
-use Rattle.flop_base.specs.Standard.{words_at}
-use Rattle.flop_base.specs.declared.answers.Rate.{Rate}
-use Rattle.raw_image.specs.Disk.{track_of}
-use Rattle.track_model.specs.Regular.{IsRegular}
-use Rattle.sector_map.specs.Disks.{IsRegularDisk}
+use Rattle.laws_commands.proofs.Common.{cases_lt, take_all, take-replicate, drop-replicate, length-replicate, words_at, Rate, track_of, IsRegular, IsRegularDisk, HasNothing, nothing_unrecorded, blank_of, HasLaidFields}
 use Rattle.sector_map.specs.Met.{unrecorded}
-use Rattle.sector_map.specs.MetTracks.{HasNothing}
-use Rattle.sector_map.proofs.MetTracks.{nothing_unrecorded}
-use Rattle.sector_model.specs.Steps.{blank_of}
-use Rattle.laws_commands.specs.LaidFields.{HasLaidFields}
 
 -- a track on which nothing is recorded is regular
 none_regular : (track : List ℕ) (c h : ℕ) → HasNothing track → IsRegular track c h

@@ -1,47 +1,22 @@
 -- The commands go to their end when nothing can disturb them, or the outside failed.
 use Rattle.std.proofs.Common.{sym, ◌≡◌, ◌≤◌, ℕ, List, [], length, refl, ap, ◌∙◌, subst, inl, Option, Some, arith, false, ◌-◌, Bool, get_or, true≢false}
-use Rattle.std.proofs.lemmas.List.{length-replicate}
-use Rattle.flop_base.specs.Shelf.{Files}
-use Rattle.flop_base.specs.declared.answers.Rate.{Rate}
-use Rattle.flop_base.specs.declared.answers.Status.{Status}
+use Rattle.laws_commands.proofs.Common.{length-replicate, Files, Rate, Status, Chrn, Disk, HasTrack, Two, in_bay, Counters, user_bytes, key_of, StationState, Bay, IsFresh, bay_of, IsImageOf, blank_of, Taken, World, whole_status, Script, RunsScript, Runs, script_ties, no_reads, one_more, write_request, no_marks, StoresFormatted, IsSure, StoresCopy, TellsFailing, BeginsSound, EndsWellOrOutside, IsReadable, HaveSameSector, StoresSameSectors, sectors_at, blank_request, formats, record_address, track_address, Reply, is_refusal}
 use Rattle.flop_base.specs.declared.answers.Status.TheVariants as status
-use Rattle.flop_base.specs.declared.key.Chrn.{Chrn}
-use Rattle.raw_image.specs.Disk.{Disk, HasTrack}
-use Rattle.flop_base.specs.Bays.{Two, in_bay}
-use Rattle.flop_base.specs.Counters.{Counters}
-use Rattle.flop_base.specs.Memory.{user_bytes, zeroes}
-use Rattle.sector_map.specs.Standard.{key_of}
-use Rattle.sector_model.specs.Stations.{StationState, Bay, IsFresh, bay_of}
-use Rattle.sector_model.specs.Steps.{IsImageOf, blank_of}
-use Rattle.sector_model.specs.Runs.{Taken}
-use Rattle.sector_model.specs.Plays.{World, whole_status}
-use Rattle.commands.specs.Scripts.{Script, RunsScript}
-use Rattle.commands.specs.Leading.{Runs}
-use Rattle.commands.proofs.Running.{script_ties}
+use Rattle.flop_base.specs.Memory.{zeroes}
 use Rattle.disk_commands.specs.Format.{format_script, formats_disk}
-use Rattle.disk_commands.specs.Verify.{verify_script, no_reads, one_more, tells_failure, verifies_record, verifies_track, reads_disk}
-use Rattle.disk_commands.specs.Copy.{copy_script, write_request, no_marks, reads_record, writes_record, copies_track, makes_copy, copies_disk}
-use Rattle.laws_commands.specs.Formatted.{StoresFormatted}
-use Rattle.laws_commands.specs.Copied.{IsSure, StoresCopy}
-use Rattle.laws_commands.specs.VerifyRuns.{TellsFailing}
+use Rattle.disk_commands.specs.Verify.{verify_script, tells_failure, verifies_record, verifies_track, reads_disk}
+use Rattle.disk_commands.specs.Copy.{copy_script, reads_record, writes_record, copies_track, makes_copy, copies_disk}
 use Rattle.laws_commands.proofs.FormatRun.{format_stores}
 use Rattle.laws_commands.proofs.CopyRun.{copy_stores}
 use Rattle.laws_commands.proofs.VerifyRun.{Tally, verify_tells}
-use Rattle.laws_commands.specs.EndsComplete.{BeginsSound, EndsWellOrOutside, IsReadable, HaveSameSector, StoresSameSectors}
 use Rattle.laws_commands.proofs.SectorRequests.{readable_unmistaken, none_failing, ReadsAlone, read_done, IsMaking, AnyDisk, HasRecords, MakesAlone, any_made, blank_made, made_still, format_done, write_done}
-use Rattle.flop_base.specs.Standard.{sectors_at}
 use Rattle.floppy_jobs.specs.declared.request.Request.TheVariants as request
-use Rattle.floppy_session.specs.Blanks.{blank_request}
-use Rattle.commands.specs.Parts.{formats}
 use Rattle.laws_commands.proofs.Prepared.{IsBlank}
-use Rattle.commands.specs.Records.{record_address, track_address}
 use Rattle.laws_commands.proofs.Reading.{key_is}
 use Rattle.laws_commands.proofs.Sectors.{few_sectors}
 use Rattle.laws_commands.proofs.Verified.{image_ranges}
 use Rattle.std.specs.Prelude.{◌||◌}
-use Rattle.sector_model.specs.declared.reply.Reply.{Reply}
 use Rattle.sector_model.specs.declared.reply.Reply.TheVariants as reply
-use Rattle.sector_model.specs.Texts.{is_refusal}
 use Rattle.laws_commands.proofs.Bays.{IsReadyFor, ready_still, fresh_empty, blank_done, acknowledges_goes, eject_goes, opens_goes}
 use Rattle.laws_commands.proofs.Going.{Stage, at, GoesWell, PartGoes, goes_asks, goes_needs, goes_carries, goes_each, goes_tracks, completes}
 
@@ -193,9 +168,7 @@ module _ (disk : Disk) (readable : IsReadable disk) (few_cylinders : disk.cylind
       → GoesWell (tells_failure key answer rest) old
   unfolding tells_failure
   tells_none key (reply.Refused cause) rest old fine goes = absurd (true≢false fine)
-  tells_none key reply.Done rest old fine goes = goes
-  tells_none key reply.DoneDeleted rest old fine goes = goes
-  tells_none key (reply.Bytes address content) rest old fine goes = goes
+  tells_none key _ rest old fine goes = goes
 
   none_more : (before now : Bool) → before ≡ false → now ≡ false → (before || now) ≡ false
   none_more before now e f = rw (e, f) refl

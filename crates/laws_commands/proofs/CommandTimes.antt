@@ -1,41 +1,15 @@
 -- How long whole commands last at most, and how many port accesses they make.
 use Rattle.std.proofs.Common.{arith, ◌≡◌, ◌∙◌, ℕ, ◌+◌, ◌-◌, ◌*◌, ◌≤◌, Bool, true, false, false, get_or, List, [], ◌∷◌, refl, ap, subst, Option, Some, unwrap_or, Result, Ok, Err}
-use Rattle.std.specs.Option.{option_map}
-use Rattle.flop_base.specs.Bays.{Two, in_bay}
-use Rattle.flop_base.specs.Shelf.{Files}
-use Rattle.flop_base.specs.Standard.{sectors_at, words_at}
-use Rattle.flop_base.specs.declared.answers.Rate.{Rate}
-use Rattle.flop_base.specs.declared.answers.Status.{Status}
+use Rattle.laws_commands.proofs.Common.{option_map, Two, in_bay, Files, sectors_at, words_at, Rate, Status, Chrn, Disk, key_of, sector_place, Request, Reply, turn_of, StationState, Bay, bay_of, fresh_bay, State, Step, IsImageOf, Stop, is_refusal, stop_lines, stop_status, Taken, World, blank_request, Shape, shape_of, Script, RunsScript, carries, shape_at, no_tracks, acknowledges, formats, record_address, track_address, one_more, write_request, IsFlatFile, IsFlatFound, RequestCosts, ready_cost, format_cost, verify_cost, copy_cost, import_cost, export_cost}
 use Rattle.flop_base.specs.declared.answers.Status.TheVariants as status
-use Rattle.flop_base.specs.declared.key.Chrn.{Chrn}
-use Rattle.raw_image.specs.Disk.{Disk}
-use Rattle.sector_map.specs.Standard.{key_of}
-use Rattle.sector_map.specs.Flat.{sector_place}
-use Rattle.floppy_jobs.specs.declared.request.Request.{Request}
 use Rattle.floppy_jobs.specs.declared.request.Request.TheVariants as request
-use Rattle.sector_model.specs.declared.reply.Reply.{Reply}
 use Rattle.sector_model.specs.declared.reply.Reply.TheVariants as reply
-use Rattle.sector_model.specs.Lasting.{turn_of}
-use Rattle.sector_model.specs.Stations.{StationState, Bay, bay_of, fresh_bay}
-use Rattle.sector_model.specs.States.{State}
-use Rattle.sector_model.specs.Steps.{Step, IsImageOf}
-use Rattle.sector_model.specs.declared.reply.Stop.{Stop}
-use Rattle.sector_model.specs.Texts.{is_refusal, stop_lines, stop_status}
-use Rattle.sector_model.specs.Runs.{Taken}
-use Rattle.sector_model.specs.Plays.{World}
-use Rattle.floppy_session.specs.Blanks.{blank_request}
-use Rattle.floppy_session.specs.declared.shape.Shape.{Shape}
-use Rattle.floppy_session.specs.Shapes.{shape_of}
-use Rattle.commands.specs.Scripts.{Script, RunsScript}
-use Rattle.commands.specs.Parts.{asks, says, carries, needs, may_starve, shape_at, no_tracks, opens, acknowledges, formats}
-use Rattle.commands.specs.Records.{record_address, track_address}
+use Rattle.commands.specs.Parts.{asks, says, needs, may_starve, opens}
 use Rattle.disk_commands.specs.Format.{formats_disk, format_script}
-use Rattle.disk_commands.specs.Verify.{tells_failure, verifies_record, verifies_track, verify_script, reads_disk, one_more}
-use Rattle.disk_commands.specs.Copy.{write_request, reads_record, writes_record, copies_track, copies_disk, makes_copy, copy_script}
-use Rattle.disk_commands.specs.FlatFiles.{IsFlatFile, IsFlatFound}
+use Rattle.disk_commands.specs.Verify.{tells_failure, verifies_record, verifies_track, verify_script, reads_disk}
+use Rattle.disk_commands.specs.Copy.{reads_record, writes_record, copies_track, copies_disk, makes_copy, copy_script}
 use Rattle.disk_commands.specs.Import as flat
 use Rattle.disk_commands.specs.Export as out
-use Rattle.laws_commands.specs.Times.{RequestCosts, ready_cost, format_cost, verify_cost, copy_cost, import_cost, export_cost}
 use Rattle.laws_commands.proofs.FlatEnds.{one_flat, one_rate}
 use Rattle.laws_commands.proofs.RequestTimes.{AreCharged, IsOnTracks, IsReady, acknowledges_cost, blank_fair, track_ready}
 use Rattle.laws_commands.proofs.ScriptTimes.{IsSum, Costs, CostsTold, PartCosts, Leads, asks_cost, carries_cost, each_cost, ends_cost, idle_cost, more_cost, needs_cost, says_cost, starve_cost, stores_cost, tracks_cost, unless_run}
@@ -135,9 +109,7 @@ module _ (one : Request → StationState → ℕ) (sum : StationState → List T
       → Costs sum P n (tells_failure key answer rest)
   unfolding tells_failure says
   tells_cost P n key (reply.Refused cause) rest later = says_cost one sum is P n _ (rest tt) later
-  tells_cost P n key reply.Done rest later = later
-  tells_cost P n key reply.DoneDeleted rest later = later
-  tells_cost P n key (reply.Bytes address content) rest later = later
+  tells_cost P n key _ rest later = later
 
   verified : (c h r : ℕ) (tally : Tally) → PartCosts sum (IsReady limit 0 rate) (IsReady limit 0 rate) (costs 0).read (verifies_record c h r tally)
   unfolding verifies_record asks

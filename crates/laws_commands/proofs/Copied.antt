@@ -1,25 +1,7 @@
 -- The run that copies a disk.
 use Rattle.std.proofs.Common.{arith, ◌≡◌, ◌∙◌, ◌≤◌, ℕ, Bool, true, false, List, [], ◌∷◌, ◌++◌, take, drop, refl, sym, ap, subst, inl, inr, Option}
 use Rattle.std.specs.Prelude.{◌⊎◌, ◌&&◌}
-use Rattle.std.specs.List.{list_all}
-use Rattle.std.proofs.lemmas.Bool.{cases_eq}
-use Rattle.std.proofs.lemmas.List.{drop_at}
-use Rattle.flop_base.specs.Shelf.{Files}
-use Rattle.flop_base.specs.Standard.{sectors_at}
-use Rattle.flop_base.specs.declared.answers.Rate.{Rate}
-use Rattle.raw_image.specs.Disk.{Disk, HasTrack, track_of}
-use Rattle.flop_base.specs.Counters.{IsFaultless}
-use Rattle.track_model.specs.Laid.{IsLaid}
-use Rattle.floppy_jobs.specs.declared.request.Request.{Request}
-use Rattle.sector_map.specs.KeptDisks.{AreAlike, KeepsTracks}
-use Rattle.sector_map.specs.Standard.{key_of}
-use Rattle.sector_map.proofs.KeptTracks.{alike_itself, alike_both, alike_tracks, elsewhere_on_map}
-use Rattle.sector_model.specs.States.{State}
-use Rattle.sector_model.specs.Runs.{Taken}
-use Rattle.laws_commands.specs.Done.{DoesAll}
-use Rattle.laws_commands.specs.Requests.{Track, copy_track, copy_each, marks_read, write_records, read_records}
-use Rattle.laws_commands.specs.Copied.{SomeStep, Gave, HasAsGiven, IsSure, copied_entry}
-use Rattle.laws_commands.specs.LaidFields.{HasLaidFields}
+use Rattle.laws_commands.proofs.Common.{list_all, cases_eq, drop_at, Files, sectors_at, Rate, Disk, HasTrack, track_of, IsFaultless, IsLaid, Request, AreAlike, KeepsTracks, key_of, alike_itself, alike_both, alike_tracks, elsewhere_on_map, State, Taken, DoesAll, Track, copy_track, copy_each, marks_read, write_records, read_records, SomeStep, Gave, HasAsGiven, IsSure, copied_entry, HasLaidFields, track_keys}
 use Rattle.laws_commands.proofs.CopiedTrack.{IsReady, copies_track, given_in}
 use Rattle.laws_commands.proofs.DiskRecords.{reads_keep, sure_parts}
 use Rattle.laws_commands.proofs.LaidDisks.{still_laid}
@@ -27,7 +9,6 @@ use Rattle.laws_commands.proofs.Marks.{marks-append, some_first, some_second}
 use Rattle.laws_commands.proofs.Steps.{and_both, splits, ends_there, never_fell, keeps_drives}
 use Rattle.laws_commands.proofs.Tracks.{Among}
 use Rattle.laws_commands.proofs.Written.{AllTidy, writes_keep}
-use Rattle.sector_map.specs.Standard.{track_keys}
 
 pub all_and : (a b : Bool) → a ≡ true → b ≡ true → (a && b) ≡ true
 all_and true b e f = f

@@ -1,31 +1,11 @@
 -- The run of the command that copies a disk, from its opening to its last request.
 use Rattle.std.proofs.Common.{◌≡◌, ◌∙◌, ℕ, true, List, [], ◌∷◌, ◌++◌, length, refl, sym, ap, subst, Option, Some, arith, Bool, inl}
-use Rattle.std.specs.List.{list_all}
-use Rattle.std.proofs.lemmas.List.{append-nil}
-use Rattle.flop_base.specs.Shelf.{Files, stored}
-use Rattle.flop_base.specs.declared.answers.Rate.{Rate}
-use Rattle.flop_base.specs.declared.answers.Rate.TheVariants.{R500, R250}
-use Rattle.raw_image.specs.Disk.{Disk, IsDisk, HasTrack}
-use Rattle.raw_image.specs.Image.{file_of}
-use Rattle.flop_base.specs.Bays.{Two, in_bay}
-use Rattle.flop_base.specs.Memory.{user_bytes}
-use Rattle.flop_base.specs.Counters.{IsFaultless}
-use Rattle.sector_map.specs.Standard.{key_of}
-use Rattle.floppy_jobs.specs.declared.request.Request.{Request}
+use Rattle.laws_commands.proofs.Common.{list_all, append-nil, Files, stored, Rate, R500, R250, Disk, IsDisk, HasTrack, file_of, Two, in_bay, user_bytes, IsFaultless, key_of, Request, StationState, Bay, bay_of, State, IsImageOf, blank_of, Taken, blank_request, rate_requests, DoesAll, copy_opening, tracks_of, copy_each, marks_read, SomeStep, Gave, IsSure, StoresCopy, CopiesDisk}
 use Rattle.floppy_jobs.specs.declared.request.Request.TheVariants as request
-use Rattle.sector_model.specs.Stations.{StationState, Bay, bay_of}
-use Rattle.sector_model.specs.States.{State}
-use Rattle.sector_model.specs.Steps.{IsImageOf, blank_of}
-use Rattle.sector_model.specs.Runs.{Taken}
-use Rattle.floppy_session.specs.Blanks.{blank_request}
-use Rattle.commands.specs.Parts.{rate_requests}
-use Rattle.laws_commands.specs.Done.{DoesAll}
-use Rattle.laws_commands.specs.Requests.{copy_opening, tracks_of, copy_each, marks_read}
 use Rattle.laws_commands.proofs.Marks.{is_no_read, marks-append, no_marks, some_first, some_second}
 use Rattle.laws_commands.proofs.Prepared.{blanks, readies}
 use Rattle.laws_commands.proofs.Steps.{begins, ends_there, keeps_drives, splits, never_fell}
 use Rattle.laws_commands.proofs.Verified.{one_image, image_ranges}
-use Rattle.laws_commands.specs.Copied.{SomeStep, Gave, IsSure, StoresCopy, CopiesDisk}
 use Rattle.laws_commands.proofs.Copied.{copies_each, copies_keep}
 use Rattle.laws_commands.proofs.CopiedTrack.{IsReady, both_fell}
 use Rattle.laws_commands.proofs.DiskRecords.{sure_parts}

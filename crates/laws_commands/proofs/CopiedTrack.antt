@@ -1,33 +1,8 @@
 -- The copy of one track: it is formatted, its records are read, and they are written.
 use Rattle.std.proofs.Common.{arith, ◌≡◌, ◌∙◌, ◌+◌, ◌<◌, ◌≤◌, ℕ, Bool, false, List, [], ◌∷◌, ◌++◌, take, length, refl, sym, ap, subst, inl, inr, Option, Some}
-use Rattle.std.proofs.lemmas.Bool.{cases_eq}
-use Rattle.std.proofs.lemmas.List.{append-nil, take_at}
-use Rattle.flop_base.specs.Shelf.{Files}
-use Rattle.flop_base.specs.Standard.{words_at, gap_at, standard_fill, sectors_at}
-use Rattle.flop_base.specs.declared.key.Chrn.{Chrn}
-use Rattle.flop_base.specs.declared.answers.Rate.{Rate}
-use Rattle.raw_image.specs.Disk.{Disk, IsDisk, HasTrack, track_of}
-use Rattle.flop_base.specs.Memory.{user_bytes}
-use Rattle.flop_base.specs.Counters.{Counters, IsFaultless}
-use Rattle.flop_base.specs.Bays.{Two, in_bay}
-use Rattle.track_model.specs.Laid.{IsLaid}
-use Rattle.track_model.specs.Regular.{IsRegular}
+use Rattle.laws_commands.proofs.Common.{cases_eq, append-nil, take_at, Files, words_at, gap_at, standard_fill, sectors_at, Chrn, Rate, Disk, IsDisk, HasTrack, track_of, user_bytes, Counters, IsFaultless, Two, in_bay, IsLaid, IsRegular, formatted, format_at, IsRegularDisk, KeepsTracks, key_of, alike_tracks, stays_regular, keeps_both, FormatsDrive, format_refusal, StationState, Bay, bay_of, State, Taken, DoesAll, read_records, write_records, copy_track, marks_read, standard_track, standard_content, SomeStep, Gave, HasAsGiven, IsSure}
 use Rattle.floppy_jobs.specs.declared.request.Request.TheVariants as request
-use Rattle.sector_map.specs.Layings.{formatted}
-use Rattle.sector_map.specs.LaidDisks.{format_at}
-use Rattle.sector_map.specs.Disks.{IsRegularDisk}
-use Rattle.sector_map.specs.KeptDisks.{KeepsTracks}
-use Rattle.sector_map.specs.Standard.{key_of, track_keys}
-use Rattle.sector_map.proofs.KeptTracks.{alike_tracks, stays_regular, keeps_both}
-use Rattle.sector_model.specs.Formats.{FormatsDrive}
-use Rattle.sector_model.specs.Orders.{format_refusal}
-use Rattle.sector_model.specs.Stations.{StationState, Bay, bay_of}
-use Rattle.sector_model.specs.States.{State}
-use Rattle.sector_model.specs.Runs.{Taken}
-use Rattle.laws_commands.specs.Done.{DoesAll}
-use Rattle.laws_commands.specs.Requests.{read_records, write_records, copy_track, marks_read}
-use Rattle.laws_commands.specs.Formatted.{standard_track, standard_content}
-use Rattle.laws_commands.specs.Copied.{SomeStep, Gave, HasAsGiven, IsSure}
+use Rattle.sector_map.specs.Standard.{track_keys}
 use Rattle.laws_commands.proofs.Formatting.{drive_formats}
 use Rattle.laws_commands.proofs.Marks.{marks-append, no_marks, writes_are_none, some_first, some_second}
 use Rattle.laws_commands.proofs.DiskRecords.{AreGiven, all_records, keys_from, reads_keep, sure_parts}

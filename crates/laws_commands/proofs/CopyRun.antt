@@ -1,33 +1,10 @@
 -- The command that copies runs the requests of a copy, and stores a copy.
 use Rattle.std.proofs.Common.{arith, ◌≡◌, ◌∙◌, ℕ, Bool, true, false, List, [], ◌∷◌, ◌++◌, length, take, drop, refl, sym, ap, subst, append_assoc, Option, Some}
-use Rattle.std.specs.List.{list_all}
-use Rattle.std.proofs.lemmas.List.{append-nil, length-replicate, take_at, drop_at}
-use Rattle.flop_base.specs.Shelf.{Files}
-use Rattle.flop_base.specs.Standard.{sectors_at}
-use Rattle.flop_base.specs.declared.key.Chrn.{Chrn}
-use Rattle.flop_base.specs.declared.answers.Rate.{Rate}
+use Rattle.laws_commands.proofs.Common.{list_all, append-nil, length-replicate, take_at, drop_at, Files, sectors_at, Chrn, Rate, Disk, IsFaultless, user_bytes, laid_tidy, Request, track_keys, IsImageOf, Taken, World, blank_request, Shape, RunsScript, Part, through, by_track, rate_requests, last_run, Known, Passes, Did, joined, joined_did, did_both, did_nothing, same_part, through_passes, carries_passes, acknowledges_passes, opens_passes, Track, tracks_of, read_records, write_records, copy_track, copy_each, copy_opening, copy_requests, marks_read, DoesAll, CopiesDisk, StoresCopy}
 use Rattle.flop_base.specs.declared.answers.Status.TheVariants as status
-use Rattle.raw_image.specs.Disk.{Disk}
-use Rattle.flop_base.specs.Counters.{IsFaultless}
-use Rattle.flop_base.specs.Memory.{user_bytes}
-use Rattle.track_format.proofs.Laid.{laid_tidy}
-use Rattle.floppy_jobs.specs.declared.request.Request.{Request}
 use Rattle.floppy_jobs.specs.declared.request.Request.TheVariants as request
-use Rattle.sector_map.specs.Standard.{track_keys}
-use Rattle.sector_model.specs.Steps.{IsImageOf}
-use Rattle.sector_model.specs.Runs.{Taken}
-use Rattle.sector_model.specs.Plays.{World}
-use Rattle.floppy_session.specs.Blanks.{blank_request}
-use Rattle.floppy_session.specs.declared.shape.Shape.{Shape}
-use Rattle.commands.specs.Scripts.{RunsScript}
-use Rattle.commands.specs.Parts.{Part, through, by_track, rate_requests}
-use Rattle.commands.proofs.Reading.{last_run}
-use Rattle.commands.proofs.Passed.{Known, Passes, Did, joined, joined_did, did_both, did_nothing, same_part, through_passes, carries_passes, acknowledges_passes, opens_passes}
-use Rattle.disk_commands.specs.Copy.{reads_record, writes_record, copies_track, copy_text, makes_copy, copies_disk as copies_shape, copy_script}
+use Rattle.disk_commands.specs.Copy.{copies_track, makes_copy, copies_disk as copies_shape, copy_script}
 use Rattle.disk_commands.specs.Copy as copy
-use Rattle.laws_commands.specs.Requests.{Track, tracks_of, read_records, write_records, copy_track, copy_each, copy_opening, copy_requests, marks_read}
-use Rattle.laws_commands.specs.Done.{DoesAll}
-use Rattle.laws_commands.specs.Copied.{CopiesDisk, StoresCopy}
 use Rattle.laws_commands.proofs.CopiedDisk.{opening_reads_none, copies_disk}
 use Rattle.laws_commands.proofs.CopiedTrack.{track_keys_from}
 use Rattle.laws_commands.proofs.Marks.{is_no_read, marks-append, no_marks, writes_are_none, ReadsMarks, reads_pass, writes_of, writes_are, writes_pass}

@@ -1,30 +1,10 @@
 -- The opening of a verify isn't refused if bay 0 was empty and nothing disturbs its drive.
 use Rattle.std.proofs.Common.{arith, ◌≡◌, ◌∙◌, ℕ, false, true≢false, List, [], ◌∷◌, refl, ap, subst, Option, Some, None, Result, Ok, Err, inl, inr}
-use Rattle.flop_base.specs.Shelf.{Files}
-use Rattle.flop_base.specs.declared.answers.Code.{Code}
-use Rattle.flop_base.specs.declared.answers.Rate.TheVariants.{R250}
-use Rattle.flop_base.specs.declared.answers.Status.{Status}
-use Rattle.raw_image.specs.Disk.{Disk}
-use Rattle.flop_base.specs.Counters.{IsUndisturbed}
+use Rattle.laws_commands.proofs.Common.{Files, Code, R250, Status, Disk, IsUndisturbed, Reply, StationState, bay_of, rate_refusal, AcksDrive, SetsRate, Reason, State, Step, IsImageOf, refusal_of, reply_of, is_refusal, Taken, World, Shape, shape_of, Script, RunsScript, opens, sets_rate, rate_requests, IsWhole, IsRefused, Passed, Did, joined, joined_did, did_both, carries_passed, sets_rate_passed, opens_passed, verify_opening}
 use Rattle.floppy_jobs.specs.declared.request.Request.TheVariants as request
-use Rattle.sector_model.specs.declared.reply.Reply.{Reply}
-use Rattle.sector_model.specs.Stations.{StationState, bay_of}
-use Rattle.sector_model.specs.Orders.{rate_refusal}
-use Rattle.sector_model.specs.Calls.{AcksDrive, SetsRate}
 use Rattle.sector_model.specs.declared.reply.Reply.TheVariants as reply
-use Rattle.sector_model.specs.declared.reply.Reason.{Reason}
-use Rattle.sector_model.specs.States.{State}
-use Rattle.sector_model.specs.Steps.{Step, IsImageOf, refusal_of, reply_of}
-use Rattle.sector_model.specs.Texts.{is_refusal}
-use Rattle.sector_model.specs.Runs.{Taken}
-use Rattle.sector_model.specs.Plays.{World}
-use Rattle.floppy_session.specs.declared.shape.Shape.{Shape}
-use Rattle.floppy_session.specs.Shapes.{shape_of}
-use Rattle.commands.specs.Scripts.{Script, RunsScript}
-use Rattle.commands.specs.Parts.{opens, sets_rate, acknowledges, rate_requests}
-use Rattle.commands.proofs.Reading.{IsWhole, IsRefused}
-use Rattle.commands.proofs.Passed.{Passed, Does, Did, joined, joined_did, did_both, carries_passed, sets_rate_passed, opens_passed}
-use Rattle.laws_commands.specs.Requests.{verify_opening}
+use Rattle.commands.specs.Parts.{acknowledges}
+use Rattle.commands.proofs.Passed.{Does}
 use Rattle.laws_commands.proofs.Prepared.{acks}
 use Rattle.laws_commands.proofs.PutIn.{opened_shape}
 use Rattle.laws_commands.proofs.Reading.{reaches, quiet_parts}

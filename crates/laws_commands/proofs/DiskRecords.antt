@@ -1,36 +1,9 @@
 -- The records of a track in memory, where each was read to its own place.
 use Rattle.std.proofs.Common.{arith, ◌≡◌, ◌∙◌, ◌+◌, ◌*◌, ◌≤◌, ℕ, zero, suc, Bool, true, false, true≢false, List, [], ◌∷◌, ◌++◌, map, length, refl, sym, ap, subst, inl, inr, Option, Some, Result, Ok, Err, IsOk}
-use Rattle.std.specs.List.{range_with_len, list_all}
-use Rattle.std.proofs.lemmas.List.FromFn.{length-map-range_with_len}
-use Rattle.flop_base.specs.Shelf.{Files}
-use Rattle.flop_base.specs.declared.key.Chrn.{Chrn}
-use Rattle.flop_base.specs.declared.answers.Code.{Code}
-use Rattle.raw_image.specs.Disk.{Disk, HasTrack, track_of}
-use Rattle.flop_base.specs.Bays.{Two, in_bay}
-use Rattle.flop_base.specs.Counters.{Counters}
-use Rattle.track_model.specs.Fields.{IsAddressAt}
-use Rattle.track_model.specs.Sectors.{IsSector, IsUnder, IsLone}
-use Rattle.sector_map.proofs.RegularTracks.{key_cylinder}
-use Rattle.flop_base.specs.Lists.{with_items}
-use Rattle.flop_base.specs.Memory.{user_bytes, bytes_from}
+use Rattle.laws_commands.proofs.Common.{range_with_len, list_all, length-map-range_with_len, Files, Chrn, Code, Disk, HasTrack, track_of, Two, in_bay, Counters, IsAddressAt, IsSector, IsUnder, IsLone, key_cylinder, with_items, user_bytes, bytes_from, Request, key_of, Reply, read_refusal, ReadsDrive, IsRead, StationState, Bay, bay_of, State, Step, Does, read_reply, is_refusal, Taken, requests_of, has_refusal, DoesAll, record_address, read_records, mark_of, marks_read, SomeStep, Gave, IsFieldOf, IsSure, length-with_items}
 use Rattle.track_model.specs.Bytes.{byte_at, bytes_at}
-use Rattle.floppy_jobs.specs.declared.request.Request.{Request}
 use Rattle.floppy_jobs.specs.declared.request.Request.TheVariants as request
-use Rattle.sector_map.specs.Standard.{key_of}
-use Rattle.sector_model.specs.declared.reply.Reply.{Reply}
-use Rattle.sector_model.specs.Orders.{read_refusal}
-use Rattle.sector_model.specs.Reads.{ReadsDrive, IsRead}
-use Rattle.sector_model.specs.Stations.{StationState, Bay, bay_of}
-use Rattle.sector_model.specs.States.{State}
-use Rattle.sector_model.specs.Steps.{Step, Does, read_reply}
-use Rattle.sector_model.specs.Texts.{is_refusal}
-use Rattle.sector_model.specs.Runs.{Taken, requests_of, has_refusal}
-use Rattle.laws_commands.specs.Done.{DoesAll}
-use Rattle.commands.specs.Records.{record_address}
-use Rattle.laws_commands.specs.Requests.{read_records, mark_of, marks_read}
-use Rattle.laws_commands.specs.Copied.{SomeStep, Gave, IsFieldOf, IsSure}
 use Rattle.laws_commands.proofs.Steps.{NeverFell, step_never_fell, never_fell, keeps_drives, reached, or_false, done_does}
-use Rattle.track_model.proofs.Splices.{length-with_items}
 use Rattle.laws_commands.proofs.UserMemory.{below_stays, at_stands}
 
 -- ---- one read
@@ -165,8 +138,6 @@ all_records sure source c h a zero old new told after [] all size least most med
   names = ap (λ (s : State). s.names) all.run.0;
   files = all.run.1;
 }
-all_records sure source c h a zero old new told after (taken ∷ later) all size least most medium calm = let e = all.all in absurd (cc e)
-all_records sure source c h a (suc n) old new told after [] all size least most medium calm = let e = all.all in absurd (cc e)
 all_records sure source c h a (suc n) old new told after (taken ∷ later) all size least most medium calm =
     let key = key_of c h a in
     let address = record_address a in
@@ -210,3 +181,4 @@ all_records sure source c h a (suc n) old new told after (taken ∷ later) all s
       names = rest.names ∙ one.names;
       files = rest.files ∙ one.files;
     }
+all_records sure source c h a _ old new told after _ all size least most medium calm = let e = all.all in absurd (cc e)

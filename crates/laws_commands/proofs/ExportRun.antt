@@ -1,47 +1,17 @@
 -- The command that exports, if it ends well: what its reads gave, joined one after the other, and what it stores.
 use Rattle.std.proofs.Common.{arith, ◌≡◌, ◌∙◌, ◌+◌, ◌-◌, ◌*◌, ◌<◌, ◌≤◌, ℕ, Bool, List, [], ◌∷◌, ◌++◌, length, drop, take, refl, sym, ap, subst, inl, inr, Option, Some, append-nil, append_assoc}
 use Rattle.std.specs.Prelude.{◌⊎◌}
-use Rattle.std.proofs.lemmas.Bool.{cases_eq, cases_lt}
-use Rattle.std.proofs.lemmas.List.{take_all, drop_at, drop-append-le, take-append-le, length-append, length-drop}
-use Rattle.flop_base.specs.Shelf.{Files, stored}
-use Rattle.flop_base.specs.Standard.{sectors_at}
+use Rattle.laws_commands.proofs.Common.{cases_eq, cases_lt, take_all, drop_at, drop-append-le, take-append-le, length-append, length-drop, Files, stored, sectors_at, Disk, track_of, Two, in_bay, Counters, user_bytes, bytes_from, Request, sector_place, key_of, Reply, Bay, bay_of, StationState, State, Step, IsImageOf, Taken, World, may_starve, by_track, rate_requests, record_address, Passes, IsTaken, known, needs_passes, Did, Opened, opens_passes, acknowledges_passes, export_text, export_script, mark_of, SomeStep, Gave, IsFieldOf, IsSure, length-with_items, option_map, Rate, Shape, shape_of, Stores, RunsScript, StoresLast, IsStored, NotStored, last_stored, sectors_of, sector_bytes, IsAsRead, StoresExported}
 use Rattle.flop_base.specs.declared.answers.Status.TheVariants as status
-use Rattle.raw_image.specs.Disk.{Disk, track_of}
 use Rattle.track_model.specs.Sectors as track
-use Rattle.flop_base.specs.Bays.{Two, in_bay}
-use Rattle.flop_base.specs.Counters.{Counters}
-use Rattle.flop_base.specs.Memory.{user_bytes, bytes_from}
-use Rattle.floppy_jobs.specs.declared.request.Request.{Request}
 use Rattle.floppy_jobs.specs.declared.request.Request.TheVariants as request
-use Rattle.sector_map.specs.Flat.{IsSector, sector_place}
-use Rattle.sector_map.specs.Standard.{key_of}
-use Rattle.sector_model.specs.declared.reply.Reply.{Reply}
-use Rattle.sector_model.specs.Stations.{Bay, bay_of, StationState}
-use Rattle.sector_model.specs.States.{State}
-use Rattle.sector_model.specs.Steps.{Step, IsImageOf}
-use Rattle.sector_model.specs.Runs.{Taken}
-use Rattle.sector_model.specs.Plays.{World}
-use Rattle.commands.specs.Parts.{may_starve, by_track, rate_requests}
-use Rattle.commands.specs.Records.{record_address}
-use Rattle.commands.proofs.Passed.{Passes, IsTaken, known, needs_passes, Did, Opened, opens_passes, acknowledges_passes}
-use Rattle.disk_commands.specs.Export.{reads_record, reads_track, export_text, export_script}
-use Rattle.laws_commands.specs.Requests.{mark_of}
-use Rattle.laws_commands.specs.Copied.{SomeStep, Gave, IsFieldOf, IsSure}
+use Rattle.sector_map.specs.Flat.{IsSector}
+use Rattle.disk_commands.specs.Export.{reads_record, reads_track}
 use Rattle.laws_commands.proofs.CopiedTrack.{both_fell}
 use Rattle.laws_commands.proofs.Marks.{some_first, some_second}
 use Rattle.laws_commands.proofs.DiskRecords.{one_record, sure_parts}
 use Rattle.laws_commands.proofs.Steps.{NeverFell, done_does, step_never_fell}
 use Rattle.laws_commands.proofs.UserMemory.{at_stands}
-use Rattle.track_model.proofs.Splices.{length-with_items}
-use Rattle.std.specs.Option.{option_map}
-use Rattle.flop_base.specs.declared.answers.Rate.{Rate}
-use Rattle.floppy_session.specs.declared.shape.Shape.{Shape}
-use Rattle.floppy_session.specs.Shapes.{shape_of}
-use Rattle.commands.specs.Scripts.{Stores, RunsScript, StoresLast, IsStored, NotStored}
-use Rattle.commands.proofs.Reading.{last_stored}
-use Rattle.disk_commands.specs.Import.{sectors_of}
-use Rattle.laws_commands.specs.Imported.{sector_bytes}
-use Rattle.laws_commands.specs.Exported.{IsAsRead, StoresExported}
 use Rattle.laws_commands.proofs.Taking.{some_sectors, one_track, next_track, place_is, Takes, each_takes, fed, counts, readied, did_fell, one_done, tracks_take}
 
 -- ---- one read

@@ -1,49 +1,22 @@
 -- The commands on flat files end well, or the outside failed.
 use Rattle.std.proofs.Common.{arith, ◌≡◌, ◌∙◌, ◌+◌, ◌<◌, ◌≤◌, ℕ, true, false, List, length, refl, sym, ap, subst, Option, Some, None, Result, Ok, Err, le-leb, [], ◌++◌, inl}
 use Rattle.std.specs.Prelude.{nat_le, slice_index}
-use Rattle.flop_base.specs.Shelf.{Files, file_at}
-use Rattle.flop_base.specs.Standard.{sectors_at}
-use Rattle.flop_base.specs.declared.answers.Rate.{Rate}
-use Rattle.flop_base.specs.declared.answers.Rate.TheVariants.{R500, R250}
-use Rattle.flop_base.specs.declared.answers.Status.{Status}
-use Rattle.raw_image.specs.declared.error.ImageError.{ImageError}
-use Rattle.flop_base.specs.Memory.{user_bytes, bytes_from}
-use Rattle.sector_map.specs.Flat.{sector_place, sectors_told}
+use Rattle.laws_commands.proofs.Common.{Files, file_at, sectors_at, Rate, R500, R250, Status, ImageError, user_bytes, bytes_from, sector_place, sectors_told, key_of, Stop, StationState, bay_of, refusal_of, is_loaded, blank_of, IsImageOf, is_refusal, stop_lines, stop_status, Taken, IsEndStop, World, AreUndisturbed, blank_request, RunsScript, Runs, record_address, last_run, script_ties, IsFlatFile, IsFlatFound, IsNotTaken, Imports, import_script, BeginsSound, EndsWellOrOutside, Disk, HasTrack, Counters, IsFaultless, export_script, StoresDisk, StoresImported, StoresExported, StoresFlatOf}
 use Rattle.floppy_jobs.specs.declared.request.Request.TheVariants as request
-use Rattle.sector_map.specs.Standard.{key_of}
-use Rattle.sector_model.specs.declared.reply.Stop.{Stop}
 use Rattle.sector_model.specs.declared.reply.Stop.TheVariants as stop
-use Rattle.sector_model.specs.Stations.{StationState, bay_of}
-use Rattle.sector_model.specs.Steps.{refusal_of, is_loaded, blank_of, IsImageOf}
-use Rattle.sector_model.specs.Texts.{is_refusal, stop_lines, stop_status}
-use Rattle.sector_model.specs.Runs.{Taken, IsEndStop}
-use Rattle.sector_model.specs.Plays.{World}
-use Rattle.sector_model.specs.Ties.{AreUndisturbed}
-use Rattle.floppy_session.specs.Blanks.{blank_request}
-use Rattle.commands.specs.Scripts.{RunsScript}
-use Rattle.commands.specs.Leading.{Runs}
-use Rattle.commands.specs.Records.{record_address}
-use Rattle.commands.proofs.Reading.{last_run}
-use Rattle.commands.proofs.Running.{script_ties}
-use Rattle.disk_commands.specs.FlatFiles.{IsFlatFile, IsFlatFound, IsNotTaken}
-use Rattle.disk_commands.specs.Import.{Imports, fills_byte, fills_record, fills_track, writes_record, writes_track, imports_track, import_script}
+use Rattle.disk_commands.specs.Import.{fills_byte, fills_record, fills_track, writes_record, writes_track, imports_track}
 use Rattle.laws_commands.proofs.Prepared.{IsBlank}
 use Rattle.laws_commands.proofs.Reading.{reaches}
-use Rattle.laws_commands.specs.EndsComplete.{BeginsSound, EndsWellOrOutside}
 use Rattle.laws_commands.proofs.Bays.{of_one, safe, fresh_empty, blank_done, acknowledges_goes, eject_goes, IsReadyFor, opens_goes}
 use Rattle.laws_commands.proofs.CommandEnds.{fresh_memory}
 use Rattle.laws_commands.proofs.Going.{Stage, at, IsDone, GoesWell, PartGoes, goes_carries, goes_each, goes_tracks, prints_outside, stop_outside, completes, goes_needs}
 use Rattle.laws_commands.proofs.SectorRequests.{IsMaking, AnyDisk, HasRecords, MakesAlone, any_made, blank_made, made_still, format_done, write_done, ReadsAlone, read_done}
-use Rattle.raw_image.specs.Disk.{Disk, HasTrack}
-use Rattle.flop_base.specs.Counters.{Counters, IsFaultless}
 use Rattle.commands.specs.Parts.{may_starve}
-use Rattle.disk_commands.specs.Export.{reads_record, reads_track, export_script}
+use Rattle.disk_commands.specs.Export.{reads_record, reads_track}
 use Rattle.laws_commands.proofs.Verified.{one_image}
-use Rattle.laws_commands.specs.Imported.{StoresDisk, StoresImported}
 use Rattle.laws_commands.proofs.ImportRun.{import_stores}
 use Rattle.laws_commands.proofs.Taking.{some_sectors}
 use Rattle.laws_commands.specs.FlatComplete.{IsWholeDisk}
-use Rattle.laws_commands.specs.Exported.{StoresExported, StoresFlatOf}
 use Rattle.laws_commands.proofs.ExportRun.{export_stores}
 
 -- ---- Import.
@@ -146,10 +119,9 @@ pub one_flat : (files : Files) (flat one two : List ℕ) (a b : Rate) → IsFlat
 one_flat files flat one two a b first second = let both = of_one (file_at files flat) first.there second.there in sym both.2.0 ∙ both.3.0
 
 same_rate : (a b : Rate) → sectors_at a ≡ sectors_at b → a ≡ b
-same_rate R500 R500 same = refl
-same_rate R250 R250 same = refl
 same_rate R500 R250 same = absurd (omega (arith, same))
 same_rate R250 R500 same = absurd (omega (arith, same))
+same_rate _ _ same = refl
 
 as_sectors : (told : Result ℕ ImageError) (a b : ℕ) → told ≡ Ok a → told ≡ Ok b → a ≡ b
 as_sectors told a b e f = cc (e, f)

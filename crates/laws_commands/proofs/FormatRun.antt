@@ -1,20 +1,10 @@
 -- The command that formats runs the requests of a format, and stores a formatted disk.
 use Rattle.std.proofs.Common.{◌*◌, ℕ, List, [], ◌∷◌, ◌++◌, sym, subst, append_assoc}
-use Rattle.flop_base.specs.declared.answers.Rate.{Rate}
+use Rattle.laws_commands.proofs.Common.{Rate, IsFaultless, Request, Taken, World, blank_request, RunsScript, carries, acknowledges, by_track, formats, rate_requests, Passes, does_both, carries_passes, acknowledges_passes, over, format_text, tracks_of, format_each, format_requests, DoesAll, StoresFormatted}
 use Rattle.flop_base.specs.declared.answers.Status.TheVariants as status
-use Rattle.flop_base.specs.Counters.{IsFaultless}
-use Rattle.floppy_jobs.specs.declared.request.Request.{Request}
 use Rattle.floppy_jobs.specs.declared.request.Request.TheVariants as request
-use Rattle.sector_model.specs.Runs.{Taken}
-use Rattle.sector_model.specs.Plays.{World}
-use Rattle.floppy_session.specs.Blanks.{blank_request}
-use Rattle.commands.specs.Scripts.{RunsScript}
-use Rattle.commands.specs.Parts.{carries, acknowledges, by_track, formats, rate_requests}
-use Rattle.commands.proofs.Passed.{Passes, Does, does_both, carries_passes, acknowledges_passes, over}
-use Rattle.disk_commands.specs.Format.{formats_disk, format_script, format_text}
-use Rattle.laws_commands.specs.Requests.{tracks_of, format_each, format_requests}
-use Rattle.laws_commands.specs.Done.{DoesAll}
-use Rattle.laws_commands.specs.Formatted.{StoresFormatted}
+use Rattle.commands.proofs.Passed.{Does}
+use Rattle.disk_commands.specs.Format.{formats_disk, format_script}
 use Rattle.laws_commands.proofs.Formatted.{stores_disk}
 use Rattle.laws_commands.proofs.TrackParts.{formats_pass, over_all}
 

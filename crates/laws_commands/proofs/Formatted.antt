@@ -1,23 +1,7 @@
 -- The run that formats a disk.
 use Rattle.std.proofs.Common.{arith, ◌≡◌, ◌∙◌, ℕ, true, List, [], ◌∷◌, ◌++◌, refl, ap, inl, Option, Some}
-use Rattle.flop_base.specs.Shelf.{Files, stored}
-use Rattle.flop_base.specs.declared.answers.Rate.{Rate}
-use Rattle.flop_base.specs.declared.answers.Rate.TheVariants.{R500, R250}
-use Rattle.raw_image.specs.Disk.{Disk}
-use Rattle.raw_image.specs.Image.{file_of}
-use Rattle.flop_base.specs.Bays.{Two, in_bay}
-use Rattle.flop_base.specs.Counters.{IsFaultless}
+use Rattle.laws_commands.proofs.Common.{Files, stored, Rate, R500, R250, Disk, file_of, Two, in_bay, IsFaultless, alike_tracks, bay_of, State, blank_of, Taken, DoesAll, IsFormattedDisk, LeavesFormatted, StoresFormatted, blank_request, rate_requests, tracks_of, format_each, formatting, format_requests}
 use Rattle.floppy_jobs.specs.declared.request.Request.TheVariants as request
-use Rattle.sector_map.proofs.KeptTracks.{alike_tracks}
-use Rattle.sector_model.specs.Stations.{bay_of}
-use Rattle.sector_model.specs.States.{State}
-use Rattle.sector_model.specs.Steps.{blank_of}
-use Rattle.sector_model.specs.Runs.{Taken}
-use Rattle.laws_commands.specs.Done.{DoesAll}
-use Rattle.laws_commands.specs.Formatted.{IsFormattedDisk, LeavesFormatted, StoresFormatted}
-use Rattle.floppy_session.specs.Blanks.{blank_request}
-use Rattle.commands.specs.Parts.{rate_requests}
-use Rattle.laws_commands.specs.Requests.{tracks_of, format_each, formatting, format_requests}
 use Rattle.laws_commands.proofs.Tracks.{among_all}
 use Rattle.laws_commands.proofs.Steps.{begins, ends_there, splits, never_fell, step_never_fell, keeps_drives}
 use Rattle.laws_commands.proofs.Formatting.{FormatsTracks, each_format}

@@ -1,30 +1,8 @@
 -- Formats of tracks one after the other.
 use Rattle.std.proofs.Common.{arith, ◌≡◌, ◌∙◌, ℕ, suc, true, false, All, List, [], ◌∷◌, refl, sym, ap, subst, inl, inr, Option, Some, Result, IsOk}
 use Rattle.std.specs.Prelude.{◌⊎◌}
-use Rattle.std.specs.List.{list_all}
-use Rattle.std.proofs.lemmas.Bool.{cases_eq}
-use Rattle.flop_base.specs.Shelf.{Files}
-use Rattle.flop_base.specs.Standard.{gap_at, standard_fill}
-use Rattle.flop_base.specs.declared.answers.Rate.{Rate}
-use Rattle.flop_base.specs.declared.answers.Code.{Code}
-use Rattle.raw_image.specs.Disk.{Disk, IsDisk, HasTrack, track_of}
-use Rattle.flop_base.specs.Counters.{IsFaultless}
+use Rattle.laws_commands.proofs.Common.{list_all, cases_eq, Files, gap_at, standard_fill, Rate, Code, Disk, IsDisk, HasTrack, track_of, IsFaultless, Format, Laying, formatted, format_at, AreAlike, KeepsTracks, laying_keeps_tracks, alike_itself, alike_both, alike_tracks, keeps_itself, Reply, StationState, bay_of, LaysDisk, Lays, FormatsDrive, format_refusal, State, Does, is_refusal, Taken, DoesAll, Track, format_each}
 use Rattle.floppy_jobs.specs.declared.request.Request.TheVariants as request
-use Rattle.sector_map.specs.Layings.{Format, Laying, formatted}
-use Rattle.sector_map.specs.LaidDisks.{format_at}
-use Rattle.sector_map.specs.KeptDisks.{AreAlike, KeepsTracks}
-use Rattle.sector_map.proofs.Laid.{laying_keeps_tracks}
-use Rattle.sector_map.proofs.KeptTracks.{alike_itself, alike_both, alike_tracks, keeps_itself}
-use Rattle.sector_model.specs.declared.reply.Reply.{Reply}
-use Rattle.sector_model.specs.Stations.{StationState, bay_of}
-use Rattle.sector_model.specs.Formats.{LaysDisk, Lays, FormatsDrive}
-use Rattle.sector_model.specs.Orders.{format_refusal}
-use Rattle.sector_model.specs.States.{State}
-use Rattle.sector_model.specs.Steps.{Does}
-use Rattle.sector_model.specs.Texts.{is_refusal}
-use Rattle.sector_model.specs.Runs.{Taken}
-use Rattle.laws_commands.specs.Done.{DoesAll}
-use Rattle.laws_commands.specs.Requests.{Track, format_each}
 use Rattle.laws_commands.proofs.Tracks.{Among}
 use Rattle.laws_commands.proofs.Steps.{begins, ends_there, ok_called, reached, keeps_drives, never_fell, step_never_fell}
 

@@ -1,28 +1,11 @@
 -- Scripts that go to their end when nothing disturbs them.
 use Rattle.std.proofs.Common.{arith, ◌≡◌, ◌+◌, ◌<◌, ◌≤◌, ℕ, zero, suc, true, false, true≢false, List, [], ◌∷◌, refl, sym, subst, inl, inr, Option}
-use Rattle.std.proofs.lemmas.Bool.{leb-true}
-use Rattle.flop_base.specs.Shelf.{Files}
-use Rattle.flop_base.specs.Sink.{grown}
-use Rattle.flop_base.specs.declared.answers.Status.{Status}
+use Rattle.laws_commands.proofs.Common.{leb-true, Files, grown, Status, Counters, IsFaultless, IsUndisturbed, Request, Reply, Stop, is_bay, State, Step, StopsAt, is_refusal, stop_status, Taken, IsEndStop, has_refusal, World, Prints, IsPutFault, entered_by, AreUndisturbed, Script, Ends, Says, Asks, Stores, MayStarve, Fails, RunsScript, IsStored, NotStored, StoresLast, unless_refused, IsStoreFault, Part, by_track, with_report, BeginsSound, EndsWellOrOutside}
 use Rattle.flop_base.specs.declared.answers.Status.TheVariants as status
-use Rattle.flop_base.specs.Counters.{Counters, IsFaultless, IsUndisturbed}
-use Rattle.floppy_jobs.specs.declared.request.Request.{Request}
-use Rattle.sector_model.specs.declared.reply.Reply.{Reply}
 use Rattle.sector_model.specs.declared.reply.Reply.TheVariants as reply
-use Rattle.sector_model.specs.declared.reply.Stop.{Stop}
-use Rattle.sector_model.specs.Orders.{is_bay}
-use Rattle.sector_model.specs.States.{State}
-use Rattle.sector_model.specs.Steps.{Step, StopsAt}
-use Rattle.sector_model.specs.Texts.{is_refusal, stop_status}
-use Rattle.sector_model.specs.Runs.{Taken, IsEndStop, has_refusal}
-use Rattle.sector_model.specs.Plays.{World, Prints, IsPutFault}
 use Rattle.sector_model.specs.Plays as plays
-use Rattle.sector_model.specs.Ties.{entered_by, AreUndisturbed}
-use Rattle.commands.specs.Scripts.{Script, Ends, Says, Asks, Stores, MayStarve, Fails, RunsScript, IsStored, NotStored, StoresLast, unless_refused, IsStoreFault}
-use Rattle.commands.specs.Parts.{Part, asks, needs, carries, through, each, by_track}
-use Rattle.commands.specs.Leading.{with_report}
+use Rattle.commands.specs.Parts.{asks, needs, carries, through, each}
 use Rattle.laws_commands.proofs.Steps.{keeps_drives, step_never_fell}
-use Rattle.laws_commands.specs.EndsComplete.{BeginsSound, EndsWellOrOutside}
 use Rattle.sector_model.specs.declared.reply.Stop.TheVariants as stop
 use Rattle.floppy_jobs.specs.declared.request.Request.TheVariants as request
 
@@ -121,9 +104,7 @@ goes_asks P asked rest old done next = (
 unrefused : (asked : Request) (answer : Reply) (later : Script) (old : Stage) → is_refusal answer ≡ false → GoesWell later old
     → GoesWell (unless_refused asked answer later) old
 unrefused asked (reply.Refused cause) later old fine goes = absurd (true≢false fine)
-unrefused asked reply.Done later old fine goes = goes
-unrefused asked reply.DoneDeleted later old fine goes = goes
-unrefused asked (reply.Bytes address content) later old fine goes = goes
+unrefused asked _ later old fine goes = goes
 
 pub goes_needs : (P : Stage → Type 0) (asked : Request) (rest : Reply → State → Script) (old : Stage) → IsDone P asked old
     → ((answer : Reply) (new : Stage) → P new → GoesWell (rest answer new.state) new) → GoesWell (needs asked rest) old

@@ -1,46 +1,19 @@
 -- Parts of a rescue that went on to its end: requests that were done, and records that were read. A record that could
 -- be read was then written.
 use Rattle.std.proofs.Common.{arith, ◌≡◌, ◌∙◌, Bool, true, false, true≢false, List, [], ◌∷◌, ◌++◌, refl, sym, ap, subst, inl, inr, append-nil, append_assoc, Option, Result, Ok, Err, ◌+◌, ℕ, length, ap₂}
-use Rattle.std.specs.List.{AllByRecursion}
-use Rattle.flop_base.specs.Shelf.{Files}
-use Rattle.flop_base.specs.declared.key.Chrn.{Chrn}
-use Rattle.flop_base.specs.declared.answers.Code.{Code}
+use Rattle.laws_commands.proofs.Common.{AllByRecursion, Files, Chrn, Code, Status, track_of, user_bytes, bytes_from, content_size, length-with_items, Request, Reply, State, Reads, ReadsDrive, Step, IsDriverCall, read_reply, is_refusal, Taken, World, read_refusal, IsDeviceRefusal, StationState, Script, RunsScript, carries, with_report, IsRefused, IsAnswered, last_run, ask_answered, need_taken, ask_run, carry_run, Known, Passed, at_once, did_nothing, carries_passed, joined_did, IsEndStatus, Gave, mark_of, read_of, write_of, LogLine, gives_up, IsNotStopped, WasRefused, is_write, line_at, log_of}
 use Rattle.flop_base.specs.declared.answers.Code.TheVariants as code
-use Rattle.flop_base.specs.declared.answers.Status.{Status}
 use Rattle.flop_base.specs.declared.answers.Status.TheVariants as status
-use Rattle.raw_image.specs.Disk.{track_of}
-use Rattle.flop_base.specs.Memory.{user_bytes, bytes_from}
-use Rattle.track_model.specs.Fields.{content_size}
-use Rattle.track_model.proofs.Splices.{length-with_items}
-use Rattle.floppy_jobs.specs.declared.request.Request.{Request}
 use Rattle.floppy_jobs.specs.declared.request.Request.TheVariants as request
-use Rattle.sector_model.specs.declared.reply.Reply.{Reply}
 use Rattle.sector_model.specs.declared.reply.Reason.TheVariants as reason
-use Rattle.sector_model.specs.States.{State}
-use Rattle.sector_model.specs.Reads.{Reads, ReadsDrive}
-use Rattle.sector_model.specs.Steps.{Step, IsDriverCall, read_reply}
-use Rattle.sector_model.specs.Texts.{is_refusal}
-use Rattle.sector_model.specs.Runs.{Taken}
-use Rattle.sector_model.specs.Plays.{World}
 use Rattle.sector_model.specs.declared.reply.Reply.TheVariants as reply
-use Rattle.sector_model.specs.Orders.{read_refusal, IsDeviceRefusal}
-use Rattle.sector_model.specs.Stations.{StationState}
-use Rattle.commands.specs.Scripts.{Script, RunsScript}
-use Rattle.commands.specs.Parts.{carries, may_starve, through}
-use Rattle.commands.specs.Leading.{with_report}
-use Rattle.commands.proofs.Reading.{IsRefused, IsAnswered, last_run, ask_answered, need_taken, ask_run, carry_run}
-use Rattle.commands.proofs.Passed.{Known, Passed, at_once, Does, did_nothing, carries_passed, joined_did}
-use Rattle.laws_commands.specs.VerifyRuns.{IsEndStatus}
+use Rattle.commands.specs.Parts.{may_starve, through}
+use Rattle.commands.proofs.Passed.{Does}
 use Rattle.laws_commands.proofs.CopiedTrack.{both_fell}
 use Rattle.laws_commands.proofs.Steps.{NeverFell, step_never_fell, either, keeps_drives}
 use Rattle.laws_commands.proofs.VerifyRun.{end_is_whole}
-use Rattle.laws_commands.specs.Copied.{Gave}
-use Rattle.laws_commands.specs.Requests.{mark_of}
 use Rattle.laws_commands.proofs.DiskRecords.{length-bytes_at}
-use Rattle.rescue.specs.Course.{read_of, write_of}
-use Rattle.rescue.specs.declared.line.LogLine.{LogLine}
-use Rattle.disk_commands.specs.Rescue.{gives_up, does_next, follows, rescues}
-use Rattle.laws_commands.specs.Rescued.{IsNotStopped, WasRefused, is_write, line_at, log_of}
+use Rattle.disk_commands.specs.Rescue.{does_next, follows, rescues}
 
 -- ---- what a read leaves
 
@@ -114,10 +87,8 @@ line_of_refused key cause read asked answered = ap₂ (λ (q : Request) (r : Rep
 
 -- a request that isn't refused has no log line
 pub line_of_done : (asked : Request) (answer : Reply) → is_refusal answer ≡ false → line_at asked answer ≡ []
-line_of_done asked reply.Done fine = refl
-line_of_done asked reply.DoneDeleted fine = refl
-line_of_done asked (reply.Bytes address content) fine = refl
 line_of_done asked (reply.Refused cause) fine = absurd (true≢false fine)
+line_of_done asked _ fine = refl
 
 pub read_done : (deleted : Bool) → is_refusal (read_reply (Ok deleted)) ≡ false
 read_done true = refl

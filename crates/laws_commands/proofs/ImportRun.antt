@@ -2,65 +2,24 @@
 -- they are written.
 use Rattle.std.proofs.Common.{arith, ◌≡◌, ◌∙◌, ◌+◌, ◌-◌, ◌*◌, ◌<◌, ◌≤◌, ℕ, List, [], ◌∷◌, length, get_or, refl, sym, ap, subst, inl, inr, Option, zero, suc, false, ◌++◌, replicate, append_assoc, Some, Bool, true, Result, Ok, Err}
 use Rattle.std.specs.Prelude.{slice_index, ◌==◌, nat_lt, if◌then◌else◌}
-use Rattle.std.proofs.lemmas.Bool.{cases_eq, cases_lt, eqb-true}
-use Rattle.std.proofs.lemmas.List.{ext_get_or, length-replicate}
-use Rattle.flop_base.specs.Lists.{with_items}
-use Rattle.flop_base.specs.Shelf.{Files, stored}
+use Rattle.laws_commands.proofs.Common.{cases_eq, cases_lt, eqb-true, ext_get_or, length-replicate, with_items, Files, stored, Two, in_bay, user_bytes, bytes_from, sector_place, flat_length, sectors_told, StationState, Bay, bay_of, Taken, World, carries, rate_requests, record_address, Passes, Did, known, carries_passes, each_does, acknowledges_passes, Imports, sectors_of, import_text, import_script, length-with_items, with_items_before, flat_map, range_with_len, gap_at, standard_fill, sectors_at, Rate, Disk, HasTrack, track_of, Counters, IsFaultless, IsLaid, IsRegular, laid_tidy, Request, formatted, format_at, IsOnMap, IsRegularDisk, AreAlike, KeepsTracks, key_of, alike_tracks, alike_both, stays_regular, keeps_both, elsewhere_on_map, alike_itself, blank_of, write_records, standard_track, standard_content, copied_entry, HasLaidFields, file_of, TooShort, Trailing, Stop, State, stop_lines, stop_status, blank_request, RunsScript, last_run, prints_status, no_stop_is_ok, IsFlatFound, sector_bytes, HasFlatSector, StoresDisk, StoresImported}
 use Rattle.flop_base.specs.declared.answers.Status.TheVariants as status
-use Rattle.flop_base.specs.Bays.{Two, in_bay}
-use Rattle.flop_base.specs.Memory.{user_bytes, bytes_from}
 use Rattle.floppy_jobs.specs.declared.request.Request.TheVariants as request
-use Rattle.sector_map.specs.Flat.{sector_place, IsSector, flat_length, sectors_told}
-use Rattle.sector_model.specs.Stations.{StationState, Bay, bay_of}
-use Rattle.sector_model.specs.Runs.{Taken}
-use Rattle.sector_model.specs.Plays.{World}
-use Rattle.commands.specs.Parts.{carries, rate_requests}
-use Rattle.commands.specs.Records.{record_address}
-use Rattle.commands.proofs.Passed.{Passes, Does, Did, known, carries_passes, each_does, acknowledges_passes}
-use Rattle.disk_commands.specs.Import.{fills_byte, fills_record, fills_track, writes_record, writes_track, imports_track, Imports, sectors_of, import_text, import_script}
+use Rattle.sector_map.specs.Flat.{IsSector}
+use Rattle.commands.proofs.Passed.{Does}
+use Rattle.disk_commands.specs.Import.{fills_byte, fills_record, fills_track, writes_record, writes_track, imports_track}
 use Rattle.laws_commands.proofs.CopiedTrack.{both_fell}
 use Rattle.laws_commands.proofs.Steps.{NeverFell, step_never_fell}
 use Rattle.laws_commands.proofs.UserMemory.{byte_from, with_at, length-bytes_from}
-use Rattle.track_model.proofs.Splices.{length-with_items, with_items_before}
-use Rattle.std.specs.List.{flat_map, range_with_len}
-use Rattle.flop_base.specs.Standard.{gap_at, standard_fill, sectors_at}
-use Rattle.flop_base.specs.declared.answers.Rate.{Rate}
-use Rattle.raw_image.specs.Disk.{Disk, HasTrack, track_of}
-use Rattle.flop_base.specs.Counters.{Counters, IsFaultless}
-use Rattle.track_model.specs.Laid.{IsLaid}
-use Rattle.track_model.specs.Regular.{IsRegular}
-use Rattle.track_format.proofs.Laid.{laid_tidy}
-use Rattle.floppy_jobs.specs.declared.request.Request.{Request}
-use Rattle.sector_map.specs.Layings.{formatted}
-use Rattle.sector_map.specs.LaidDisks.{format_at}
-use Rattle.sector_map.specs.Disks.{IsOnMap, IsRegularDisk}
-use Rattle.sector_map.specs.KeptDisks.{AreAlike, KeepsTracks}
-use Rattle.sector_map.specs.Standard.{key_of}
-use Rattle.sector_map.proofs.KeptTracks.{alike_tracks, alike_both, stays_regular, keeps_both, elsewhere_on_map, alike_itself}
-use Rattle.sector_model.specs.Steps.{blank_of}
-use Rattle.laws_commands.specs.Requests.{write_records}
-use Rattle.laws_commands.specs.Formatted.{standard_track, standard_content}
-use Rattle.laws_commands.specs.Copied.{copied_entry}
-use Rattle.laws_commands.specs.LaidFields.{HasLaidFields}
 use Rattle.laws_commands.proofs.Formatting.{one_format}
 use Rattle.laws_commands.proofs.DiskRecords.{keys_from}
 use Rattle.laws_commands.proofs.LaidDisks.{still_laid}
 use Rattle.laws_commands.proofs.Sectors.{track_regular, track_laid, track_sector, HasContent}
 use Rattle.laws_commands.proofs.TrackParts.{did_all}
 use Rattle.laws_commands.proofs.Written.{AreCopied, HasSome, all_writes, writes_keep}
-use Rattle.raw_image.specs.Image.{file_of}
-use Rattle.raw_image.specs.declared.error.ImageError.TheVariants.{TooShort, Trailing}
-use Rattle.sector_model.specs.declared.reply.Stop.{Stop}
-use Rattle.sector_model.specs.States.{State}
-use Rattle.sector_model.specs.Texts.{stop_lines, stop_status}
-use Rattle.floppy_session.specs.Blanks.{blank_request}
-use Rattle.commands.specs.Scripts.{RunsScript}
-use Rattle.commands.proofs.Reading.{last_run, prints_status, no_stop_is_ok}
-use Rattle.disk_commands.specs.FlatFiles.{IsFlatFound}
 use Rattle.laws_commands.proofs.BlankDisk.{blank_regular, blank_fields}
 use Rattle.laws_commands.proofs.Prepared.{blanks}
 use Rattle.laws_commands.proofs.Formatted.{blank_keeps}
-use Rattle.laws_commands.specs.Imported.{sector_bytes, HasFlatSector, StoresDisk, StoresImported}
 use Rattle.laws_commands.proofs.Taking.{Takes, each_takes, counts, did_fell, one_done, place_is, some_sectors, place_inside, one_track, Since, since_on, readied, tracks_take}
 
 -- The first n bytes of a part of a flat file are in memory, from the first record's address on. The bays, the names and

@@ -1,16 +1,7 @@
 -- Address fields on Laid tracks. Formatted disks have them, and so do disks of which one track was replaced by a Laid
 -- one.
 use Rattle.std.proofs.Common.{arith, ◌≡◌, ℕ, List, sym, subst, inl, inr}
-use Rattle.std.proofs.lemmas.Bool.{cases_eq}
-use Rattle.flop_base.specs.declared.key.Chrn.{Chrn}
-use Rattle.flop_base.specs.declared.answers.Rate.{Rate}
-use Rattle.raw_image.specs.Disk.{Disk, HasTrack, track_of}
-use Rattle.track_model.specs.Fields.{IsAddressAt}
-use Rattle.track_model.specs.Laid.{IsLaid}
-use Rattle.sector_map.specs.KeptDisks.{KeepsTracks}
-use Rattle.sector_map.proofs.KeptTracks.{alike_tracks}
-use Rattle.laws_commands.specs.Formatted.{IsFormattedDisk}
-use Rattle.laws_commands.specs.LaidFields.{HasLaidFields}
+use Rattle.laws_commands.proofs.Common.{cases_eq, Chrn, Rate, Disk, HasTrack, track_of, IsAddressAt, IsLaid, KeepsTracks, alike_tracks, IsFormattedDisk, HasLaidFields}
 use Rattle.laws_commands.proofs.Sectors.{track_laid}
 
 -- if one track was replaced by a Laid one, each address field is still on a Laid track

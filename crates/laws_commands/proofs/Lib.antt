@@ -1,3 +1,4 @@
+mod Common
 mod BlankDisk
 mod Copied
 mod CopiedDisk

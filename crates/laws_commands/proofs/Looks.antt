@@ -1,20 +1,9 @@
 -- What a read tells of a track on which no address field can be mistaken.
 use Rattle.std.proofs.Common.{arith, ◌≡◌, ◌+◌, ◌<◌, ◌≤◌, ℕ, Bool, List, [], ◌∷◌, refl, inl, inr}
 use Rattle.flop_base.specs.Counts.{RoseBy, last_count}
-use Rattle.flop_base.specs.declared.key.Chrn.{Chrn}
-use Rattle.flop_base.specs.declared.answers.Code.{Code}
+use Rattle.laws_commands.proofs.Common.{Chrn, Code, Look, Found, NoMark, NoSector, NoData, BadCrc, IsAddressAt, LookFor, IsFirstAddress, HasAddressMark, IsPlain, IsSector, IsUndisturbed, faults_of, HasNoClearMark, HasClearAddress, StationState, IsReadCause, told_of}
 use Rattle.flop_base.specs.declared.answers.Code.TheVariants as code
-use Rattle.track_model.specs.declared.Look.{Look}
-use Rattle.track_model.specs.declared.Look.TheVariants.{Found, NoMark, NoSector, NoData, BadCrc}
-use Rattle.track_model.specs.Fields.{IsAddressAt}
-use Rattle.track_model.specs.Looks.{LookFor, IsFirstAddress, HasAddressMark}
-use Rattle.track_model.specs.Sectors.{IsPlain, IsSector}
 use Rattle.track_model.proofs.Sectored.{plain_clear}
-use Rattle.flop_base.specs.Counters.{IsUndisturbed, faults_of}
-use Rattle.sector_map.specs.Met.{HasNoClearMark, HasClearAddress}
-use Rattle.sector_model.specs.Stations.{StationState}
-use Rattle.sector_model.specs.Reads.{IsReadCause}
-use Rattle.laws_commands.specs.Verified.{told_of}
 
 pub rose_by : (n before now : ℕ) → RoseBy n before now → now < last_count → before + n ≤ now
 rose_by n before now rose below = omega (arith, rose, below)
@@ -50,8 +39,4 @@ module _ (track : List ℕ) (key : Chrn) (plain : IsPlain track) (single : (p q 
   cause_look tries bay code.BadCrc old new is quiet fell kept = let bad = is.bad_data refl quiet in (BadCrc, (bad.0, first_of bad.0 bad.1, bad.2), refl)
   cause_look tries bay code.Overrun old new is quiet fell kept = let rose = rose_by 1 _ _ (is.overrun refl) quiet.stalls in absurd (omega (arith, quiet.together))
   cause_look tries bay code.Seek old new is quiet fell kept = let rose = rose_by 77 _ _ (is.lost refl) quiet.faults in absurd (omega (arith, quiet.together))
-  cause_look tries bay code.BadRequest old new is quiet fell kept = absurd is.device
-  cause_look tries bay code.Protected old new is quiet fell kept = absurd is.device
-  cause_look tries bay code.Changed old new is quiet fell kept = absurd is.device
-  cause_look tries bay code.Page old new is quiet fell kept = absurd is.device
-  cause_look tries bay code.NotReady old new is quiet fell kept = absurd is.device
+  cause_look tries bay _ old new is quiet fell kept = absurd is.device

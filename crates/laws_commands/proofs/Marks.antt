@@ -1,28 +1,11 @@
 -- The marks that the reads of a course told, and the reads and writes of a copied track. Each record is written with
 -- its own mark.
 use Rattle.std.proofs.Common.{◌≡◌, Bool, true, false, true≢false, List, [], ◌∷◌, ◌++◌, refl, sym, inl, inr, arith, ◌∙◌, ◌+◌, ◌-◌, ◌<◌, ◌≤◌, ℕ, suc, length, set, get_or, ap, subst, Option, Result, Ok, Err}
-use Rattle.std.specs.List.{list_all, flat_map, range_with_len}
-use Rattle.std.proofs.lemmas.Grind.{flat_map-append}
-use Rattle.std.proofs.lemmas.List.{get_or-set_same, get_or-set_other, length-set}
-use Rattle.flop_base.specs.declared.key.Chrn.{Chrn}
-use Rattle.flop_base.specs.Shelf.{Files}
-use Rattle.flop_base.specs.declared.answers.Code.{Code}
+use Rattle.laws_commands.proofs.Common.{list_all, flat_map, range_with_len, flat_map-append, get_or-set_same, get_or-set_other, length-set, Chrn, Files, Code, key_of, Request, Reply, Taken, requests_of, State, Step, read_reply, is_refusal, World, each, record_address, Passes, Did, IsTaken, did_nothing, did_both, taken_did, needs_passes, carries_passes, numbers_pass, each_does, tells_deleted, write_request, mark_of, marks_read, write_record, write_records, read_records, SomeStep}
 use Rattle.flop_base.specs.declared.answers.Status.TheVariants as status
-use Rattle.sector_map.specs.Standard.{key_of}
-use Rattle.floppy_jobs.specs.declared.request.Request.{Request}
 use Rattle.floppy_jobs.specs.declared.request.Request.TheVariants as request
-use Rattle.sector_model.specs.declared.reply.Reply.{Reply}
-use Rattle.sector_model.specs.Runs.{Taken, requests_of}
-use Rattle.sector_model.specs.States.{State}
-use Rattle.sector_model.specs.Steps.{Step, read_reply}
-use Rattle.sector_model.specs.Texts.{is_refusal}
-use Rattle.sector_model.specs.Plays.{World}
-use Rattle.commands.specs.Parts.{each}
-use Rattle.commands.specs.Records.{record_address}
-use Rattle.commands.proofs.Passed.{Passes, Does, Did, IsTaken, did_nothing, did_both, taken_did, needs_passes, carries_passes, numbers_pass, each_does}
-use Rattle.disk_commands.specs.Copy.{tells_deleted, write_request, reads_record, writes_record}
-use Rattle.laws_commands.specs.Requests.{mark_of, marks_read, write_record, write_records, read_records}
-use Rattle.laws_commands.specs.Copied.{SomeStep}
+use Rattle.commands.proofs.Passed.{Does}
+use Rattle.disk_commands.specs.Copy.{reads_record, writes_record}
 use Rattle.laws_commands.proofs.Steps.{and_both}
 use Rattle.laws_commands.proofs.DiskRecords.{keys_from}
 
@@ -35,20 +18,8 @@ is_no_read (request.Read bay key address) = false
 is_no_read _ = true
 
 no_mark : (asked : Request) (answer : Reply) → is_no_read asked ≡ true → mark_of asked answer ≡ []
-no_mark (request.Insert bay name) answer e = refl
-no_mark (request.Blank bay name cylinders) answer e = refl
-no_mark (request.BlankDd bay name cylinders) answer e = refl
-no_mark (request.Eject bay) answer e = refl
-no_mark (request.Ack bay) answer e = refl
 no_mark (request.Read bay key address) answer e = absurd (true≢false (sym e))
-no_mark (request.Write bay key address) answer e = refl
-no_mark (request.WriteDeleted bay key address) answer e = refl
-no_mark (request.Format bay c h) answer e = refl
-no_mark (request.Fill address count byte) answer e = refl
-no_mark (request.Dump address count) answer e = refl
-no_mark (request.Unit bay) answer e = refl
-no_mark (request.SetRate bay rate) answer e = refl
-no_mark (request.Tries tries) answer e = refl
+no_mark _ answer e = refl
 
 pub no_marks : (course : List Taken) → list_all is_no_read (requests_of course) ≡ true → marks_read course ≡ []
 no_marks [] e = refl
@@ -63,9 +34,8 @@ write_is_none key true = refl
 write_is_none key false = refl
 
 pub writes_are_none : (keys : List Chrn) (marks : List Bool) → list_all is_no_read (write_records 1 keys marks) ≡ true
-writes_are_none [] marks = refl
-writes_are_none (key ∷ keys) [] = refl
 writes_are_none (key ∷ keys) (deleted ∷ marks) = let first = write_is_none key deleted in rw first (writes_are_none keys marks)
+writes_are_none _ _ = refl
 
 pub some_first : (P : Taken → Type 0) (one two : List Taken) → SomeStep P one → SomeStep P (one ++ two)
 some_first P [] two some = absurd some

@@ -1,39 +1,13 @@
 -- What a rescue stores, and in which order, however the rescue ends.
 use Rattle.std.proofs.Common.{◌≡◌, ◌∙◌, ℕ, Bool, true, false, List, [], ◌∷◌, ◌++◌, length, append-nil, append_assoc, refl, sym, ap, subst, inl, inr, Option, Some, Result}
 use Rattle.std.specs.Prelude.{is_some}
-use Rattle.flop_base.specs.Shelf.{Files, stored}
-use Rattle.flop_base.specs.declared.key.Chrn.{Chrn}
-use Rattle.flop_base.specs.declared.answers.Code.{Code}
-use Rattle.flop_base.specs.declared.answers.Rate.{Rate}
-use Rattle.flop_base.specs.declared.answers.Rate.TheVariants.{R500, R250}
-use Rattle.flop_base.specs.declared.answers.Status.{Status}
+use Rattle.laws_commands.proofs.Common.{Files, stored, Chrn, Code, Rate, R500, R250, Status, Disk, blank_disk, file_of, Two, in_bay, Request, Reply, State, Step, IsDriverCall, refusal_of, read_reply, is_refusal, Taken, World, blank_request, Shape, Script, Ends, Fails, RunsScript, StoresLast, IsStored, NotStored, needs, shape_at, IsAnswered, AskRun, Answered, Stopped, NeedRun, Done, Refused, Halted, ask_run, need_run, carry_run, last_run, last_failed, last_stored, Track, format_each, tracks_of, read_of, write_of, outcome_status, log_text, LogLine, follows, prepares, asked_keys, outcome_of, last_text, rescue_rest, Rescues, by_rest, line_at, log_of, store_of, StoresDiskThenLog}
 use Rattle.flop_base.specs.declared.answers.Status.TheVariants as status
-use Rattle.raw_image.specs.Disk.{Disk, blank_disk}
-use Rattle.raw_image.specs.Image.{file_of}
-use Rattle.flop_base.specs.Bays.{Two, in_bay}
-use Rattle.floppy_jobs.specs.declared.request.Request.{Request}
 use Rattle.floppy_jobs.specs.declared.request.Request.TheVariants as request
-use Rattle.sector_model.specs.declared.reply.Reply.{Reply}
 use Rattle.sector_model.specs.declared.reply.Reply.TheVariants as reply
-use Rattle.sector_model.specs.States.{State}
-use Rattle.sector_model.specs.Steps.{Step, IsDriverCall, refusal_of, read_reply}
-use Rattle.sector_model.specs.Texts.{is_refusal}
-use Rattle.sector_model.specs.Runs.{Taken}
-use Rattle.sector_model.specs.Plays.{World}
-use Rattle.floppy_session.specs.Blanks.{blank_request}
-use Rattle.floppy_session.specs.declared.shape.Shape.{Shape}
-use Rattle.commands.specs.Scripts.{Script, Ends, Fails, RunsScript, StoresLast, IsStored, NotStored}
-use Rattle.commands.specs.Parts.{needs, carries, may_starve, shape_at, opens, through}
-use Rattle.commands.proofs.Reading.{IsAnswered, AskRun, Answered, Stopped, NeedRun, Done, Refused, Halted, ask_run, need_run, carry_run, last_run, last_failed, last_stored}
-use Rattle.laws_commands.specs.Requests.{Track, format_each, tracks_of}
+use Rattle.commands.specs.Parts.{carries, may_starve, opens, through}
 use Rattle.laws_commands.proofs.Steps.{either, done_does}
-use Rattle.rescue.specs.Course.{read_of, write_of, outcome_status}
-use Rattle.rescue.specs.Log.{log_text}
-use Rattle.rescue.specs.declared.line.LogLine.{LogLine}
-use Rattle.disk_commands.specs.Rescue.{follows, rescues, prepares, asked_keys, outcome_of, last_text, rescues_all, stores_log, rescue_found, rescue_rest, Rescues}
-use Rattle.disk_commands.proofs.RescueRests.{by_rest}
-use Rattle.laws_commands.specs.Rescued.{line_at, log_of}
-use Rattle.laws_commands.specs.Stores.{store_of, StoresDiskThenLog}
+use Rattle.disk_commands.specs.Rescue.{rescues, rescues_all, stores_log, rescue_found}
 use Rattle.laws_commands.proofs.Storing.{nothing_first, all_first}
 use Rattle.laws_commands.proofs.Gone.{behind_step, line_of_refused, line_of_done, read_done, carries_all, FollowRun, Writes, Logs, GivesUp, Starves, follow_run}
 use Rattle.laws_commands.proofs.RescueOpening.{ready_requests, formats_for, second_request, prepares_carried, second_put}

@@ -2,31 +2,9 @@
 -- rate.
 use Rattle.std.proofs.Common.{arith, ◌≡◌, ◌∙◌, ◌*◌, ◌<◌, ◌≤◌, ◌^◌, ℕ, Bool, true, false, true≢false, List, ◌∷◌, ◌++◌, length, get_or, replicate, refl, sym, ap, subst, inl, inr, Option, Some, Result, IsOk, lit≤}
 use Rattle.std.specs.Prelude.{MatchOption, MatchBool, ◌==◌, if◌then◌else◌}
-use Rattle.flop_base.specs.declared.answers.Code.{Code}
-use Rattle.flop_base.specs.declared.answers.Code.TheVariants.{BadRequest}
-use Rattle.std.proofs.lemmas.Bool.{leb-true, cases_lt}
-use Rattle.std.proofs.lemmas.List.{length-replicate, get_or-replicate, get_or_past}
-use Rattle.flop_base.specs.Shelf.{Files}
-use Rattle.flop_base.specs.Standard.{words_at}
-use Rattle.flop_base.specs.declared.answers.Rate.{Rate}
-use Rattle.flop_base.specs.declared.answers.Rate.TheVariants.{R500, R250}
-use Rattle.raw_image.specs.Disk.{Disk, IsDisk}
-use Rattle.flop_base.specs.Bays.{Two, in_bay, with_bay}
-use Rattle.flop_base.specs.Counters.{faults_of}
-use Rattle.floppy_jobs.specs.declared.request.Request.{Request}
+use Rattle.laws_commands.proofs.Common.{Code, BadRequest, leb-true, cases_lt, length-replicate, get_or-replicate, get_or_past, Files, words_at, Rate, R500, R250, Disk, IsDisk, Two, in_bay, with_bay, faults_of, Request, Reply, Reason, StationState, Bay, Becomes, bay_of, set_bay, fresh_bay, IsAcknowledged, rate_refusal, is_bay, IsRefusedAtOnce, State, ChangesMedium, Step, Does, unless_bad, blank_of, is_blank_request, is_refusal, Taken, DoesAll, blank_request, rate_requests}
 use Rattle.floppy_jobs.specs.declared.request.Request.TheVariants as request
-use Rattle.sector_model.specs.declared.reply.Reply.{Reply}
-use Rattle.sector_model.specs.declared.reply.Reason.{Reason}
-use Rattle.sector_model.specs.Stations.{StationState, Bay, Becomes, bay_of, set_bay, fresh_bay}
-use Rattle.sector_model.specs.Calls.{IsAcknowledged}
-use Rattle.sector_model.specs.Orders.{rate_refusal, is_bay, IsRefusedAtOnce}
-use Rattle.sector_model.specs.States.{State, ChangesMedium}
-use Rattle.sector_model.specs.Steps.{Step, Does, IsRefused, unless_bad, blank_of, is_blank_request}
-use Rattle.sector_model.specs.Texts.{is_refusal}
-use Rattle.sector_model.specs.Runs.{Taken}
-use Rattle.laws_commands.specs.Done.{DoesAll}
-use Rattle.floppy_session.specs.Blanks.{blank_request}
-use Rattle.commands.specs.Parts.{rate_requests}
+use Rattle.sector_model.specs.Steps.{IsRefused}
 use Rattle.laws_commands.proofs.Steps.{begins, NeverFell, step_never_fell, done_does, ok_called, reached, and_both}
 
 -- ---- blank media

@@ -1,19 +1,7 @@
 -- The shape of the disk that a command puts in.
 use Rattle.std.proofs.Common.{◌≡◌, ◌∙◌, List, ℕ, false, ap, subst, Option, Some}
-use Rattle.std.specs.Option.{option_map}
-use Rattle.flop_base.specs.Shelf.{Files}
-use Rattle.raw_image.specs.Disk.{Disk}
+use Rattle.laws_commands.proofs.Common.{option_map, Files, Disk, Reply, StationState, bay_of, State, Step, IsImageOf, is_refusal, Taken, World, Shape, shape_of, shape_in, Opened}
 use Rattle.floppy_jobs.specs.declared.request.Request.TheVariants as request
-use Rattle.sector_model.specs.declared.reply.Reply.{Reply}
-use Rattle.sector_model.specs.Stations.{StationState, bay_of}
-use Rattle.sector_model.specs.States.{State}
-use Rattle.sector_model.specs.Steps.{Step, IsImageOf}
-use Rattle.sector_model.specs.Texts.{is_refusal}
-use Rattle.sector_model.specs.Runs.{Taken}
-use Rattle.sector_model.specs.Plays.{World}
-use Rattle.floppy_session.specs.declared.shape.Shape.{Shape}
-use Rattle.floppy_session.specs.Shapes.{shape_of, shape_in}
-use Rattle.commands.proofs.Passed.{Opened}
 use Rattle.laws_commands.proofs.Steps.{done_does}
 use Rattle.laws_commands.proofs.TrackParts.{did_step}
 use Rattle.laws_commands.proofs.Verified.{one_image}

@@ -1,14 +1,8 @@
 -- The ranges of the fields of a disk that an image gives.
 use Rattle.std.proofs.Common.{◌≡◌, ℕ, ◌+◌, ◌*◌, ◌≤◌, Bool, true, false, cond, leb, ltb, ◌&&◌, List, length, get_or, take, drop, refl, subst, arith, Option, Some, None, Result, Ok, Err}
-use Rattle.std.specs.Option.{ok_or}
-use Rattle.std.proofs.lemmas.Bool.{leb-true, and_parts}
-use Rattle.flop_base.specs.declared.answers.Rate.{Rate}
-use Rattle.raw_image.specs.Disk.{Disk}
-use Rattle.raw_image.specs.declared.error.ImageError.{ImageError}
-use Rattle.raw_image.specs.declared.error.ImageError.TheVariants.{TooShort, BadMagic, Trailing}
+use Rattle.laws_commands.proofs.Common.{ok_or, leb-true, and_parts, Rate, Disk, ImageError, TooShort, BadMagic, Trailing, disk_of, body_of, whole_length, words_of}
 use Rattle.raw_image.specs.Header.{Header, ◌>>=◌, field, version_of, protection_of, rate_of, within, header_of}
-use Rattle.raw_image.specs.Image.{disk_of, body_of, whole_length, image_of}
-use Rattle.raw_image.specs.Words.{words_of}
+use Rattle.raw_image.specs.Image.{image_of}
 use Rattle.raw_image.proofs.Headers.{bind_ok}
 
 abbrev told_header : Header → Result Header ImageError

@@ -1,34 +1,8 @@
 -- Reads of the standard keys of a disk, one after the other, which nothing disturbs.
 use Rattle.std.proofs.Common.{arith, ◌≡◌, ◌∙◌, ◌≤◌, ℕ, suc, Bool, true, false, All, List, [], ◌∷◌, ◌++◌, refl, sym, ap, subst, inl, Option, Some, None, Result, Ok, Err, le-leb, nat_le}
 use Rattle.std.specs.Prelude.{MatchOption}
-use Rattle.std.specs.List.{list_all}
-use Rattle.std.proofs.lemmas.Grind.{flat_map-append}
-use Rattle.flop_base.specs.Shelf.{Files}
-use Rattle.flop_base.specs.Standard.{standard_code}
-use Rattle.flop_base.specs.declared.key.Chrn.{Chrn}
-use Rattle.flop_base.specs.declared.answers.Code.{Code}
-use Rattle.raw_image.specs.Disk.{Disk, track_of}
-use Rattle.track_model.specs.declared.Look.{Look}
-use Rattle.track_model.specs.declared.Look.TheVariants.{Found, NoMark, NoSector, NoData, BadCrc}
-use Rattle.track_model.specs.Fields.{IsAddressAt}
-use Rattle.track_model.specs.Looks.{LookFor}
-use Rattle.track_model.specs.Sectors.{IsSector, IsPlain}
-use Rattle.track_model.proofs.Unique.{one_look_for}
-use Rattle.flop_base.specs.Counters.{Counters, IsUndisturbed, faults_of}
-use Rattle.sector_map.specs.Failing.{unless_found, AreFailing}
-use Rattle.sector_map.specs.Standard.{key_of}
-use Rattle.sector_map.proofs.MetTracks.{met_track}
-use Rattle.floppy_jobs.specs.declared.request.Request.{Request}
+use Rattle.laws_commands.proofs.Common.{list_all, flat_map-append, Files, standard_code, Chrn, Code, Disk, track_of, Look, Found, NoMark, NoSector, NoData, BadCrc, IsAddressAt, LookFor, IsSector, IsPlain, one_look_for, Counters, IsUndisturbed, faults_of, unless_found, AreFailing, key_of, met_track, Request, Reply, StationState, Bay, bay_of, read_refusal, IsRead, IsReadCause, ReadsDrive, State, Step, Does, read_reply, Taken, Run, requests_of, read_each, IsStandardKey, IsUnmistaken, told_of, all_told_of, refused_read, refused_reads}
 use Rattle.floppy_jobs.specs.declared.request.Request.TheVariants as request
-use Rattle.sector_model.specs.declared.reply.Reply.{Reply}
-use Rattle.sector_model.specs.Stations.{StationState, Bay, bay_of}
-use Rattle.sector_model.specs.Orders.{read_refusal}
-use Rattle.sector_model.specs.Reads.{IsRead, IsReadCause, ReadsDrive}
-use Rattle.sector_model.specs.States.{State}
-use Rattle.sector_model.specs.Steps.{Step, Does, read_reply}
-use Rattle.sector_model.specs.Runs.{Taken, Run, requests_of}
-use Rattle.laws_commands.specs.Requests.{read_each}
-use Rattle.laws_commands.specs.Verified.{IsStandardKey, IsUnmistaken, told_of, all_told_of, refused_read, refused_reads}
 use Rattle.laws_commands.proofs.Looks.{found_look, cause_look}
 use Rattle.laws_commands.proofs.Steps.{NeverFell, step_never_fell, run_never_fell, keeps_drives}
 
@@ -175,8 +149,6 @@ pub reads_tell : (disk : Disk) (count : ℕ) (keys : List Chrn) (failed : List (
     → Run old told course new after → requests_of course ≡ read_each 0 keys → Holds disk count old.station
     → IsUndisturbed 0 old.station.counters new.station.counters → refused_reads course ≡ all_told_of failed
 reads_tell disk count [] failed old new told after [] few_cylinders few_heads unmistaken standard failing run all holds quiet = ap all_told_of (sym failing)
-reads_tell disk count [] failed old new told after (taken ∷ later) few_cylinders few_heads unmistaken standard failing run all holds quiet = absurd (cc all)
-reads_tell disk count (key ∷ keys) failed old new told after [] few_cylinders few_heads unmistaken standard failing run all holds quiet = absurd (cc all)
 reads_tell disk count (key ∷ keys) failed old new told after (taken ∷ later) few_cylinders few_heads unmistaken standard failing run all holds quiet =
     let asked : taken.asked ≡ request.Read 0 key 0x10000 = cc all in
     let others : requests_of later ≡ read_each 0 keys = cc all in
@@ -194,3 +166,4 @@ reads_tell disk count (key ∷ keys) failed old new told after (taken ∷ later)
     ∙ ap (λ (row : List (Chrn × Code)). told_of key failing.0 ++ row) rest
     ∙ sym (told_more key failing.0 failing.1)
     ∙ ap all_told_of (sym failing.3)
+reads_tell disk count _ failed old new told after _ few_cylinders few_heads unmistaken standard failing run all holds quiet = absurd (cc all)

@@ -1,28 +1,9 @@
 -- What each request costs at most, and what it leaves of a station that is made ready.
 use Rattle.std.proofs.Common.{arith, ◌≡◌, ◌∙◌, ℕ, ◌+◌, ◌*◌, ◌≤◌, ◌==◌, Bool, true, false, if◌then◌else◌, List, refl, ap, Option, Result, Ok, Err}
 use Rattle.std.specs.Prelude.{MatchOption}
-use Rattle.std.proofs.Math.Nat.{mul-le-mul}
-use Rattle.flop_base.specs.Bays.{Two, in_bay}
-use Rattle.flop_base.specs.Shelf.{Files}
-use Rattle.flop_base.specs.Standard.{gap_at, sectors_at, words_at}
-use Rattle.flop_base.specs.declared.answers.Code.{Code}
-use Rattle.flop_base.specs.declared.answers.Rate.{Rate}
-use Rattle.flop_base.specs.declared.answers.Rate.TheVariants.{R500, R250}
-use Rattle.flop_base.specs.declared.key.Chrn.{Chrn}
-use Rattle.raw_image.specs.Disk.{Disk}
-use Rattle.floppy_jobs.specs.declared.request.Request.{Request}
+use Rattle.laws_commands.proofs.Common.{mul-le-mul, Two, in_bay, Files, gap_at, sectors_at, words_at, Code, Rate, R500, R250, Chrn, Disk, Request, Reply, format_once_port_accesses, format_steps, format_turns, turn_of, IsRefusedAtOnce, read_refusal, write_refusal, format_refusal, rate_refusal, ReadsDrive, StationState, Bay, Becomes, bay_of, set_bay, course_port_accesses, course_time, port_accesses_of, time_of, State, Step, Does, refusal_of, blank_request, RequestCosts, times_at, port_accesses_at, ready_cost}
 use Rattle.floppy_jobs.specs.declared.request.Request.TheVariants as request
-use Rattle.sector_model.specs.declared.reply.Reply.{Reply}
-use Rattle.sector_model.specs.Lasting.{format_once_port_accesses, format_steps, format_turns, turn_of}
-use Rattle.sector_model.specs.Orders.{IsRefusedAtOnce, read_refusal, write_refusal, format_refusal, rate_refusal}
-use Rattle.sector_model.specs.Reads.{ReadsDrive}
-use Rattle.sector_model.specs.Stations.{StationState, Bay, Becomes, bay_of, set_bay}
-use Rattle.sector_model.specs.Times.{course_port_accesses, course_time, port_accesses_of, time_of}
-use Rattle.sector_model.specs.States.{State}
-use Rattle.sector_model.specs.Steps.{Step, Does, refusal_of}
-use Rattle.floppy_session.specs.Blanks.{blank_request}
 use Rattle.commands.specs.Parts.{acknowledges, sets_rate}
-use Rattle.laws_commands.specs.Times.{RequestCosts, times_at, port_accesses_at, ready_cost}
 use Rattle.laws_commands.proofs.ScriptTimes.{IsSum, PartCosts, Leads, carries_cost, more_cost}
 use Rattle.laws_commands.proofs.Steps.{either, ok_called, reached}
 use Rattle.laws_commands.proofs.Turns.{HasTurns, IsFair, bay_set, step_turns, turn_in}

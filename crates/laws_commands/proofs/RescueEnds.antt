@@ -1,37 +1,13 @@
 -- A rescue with no log yet ends well when nothing can go wrong, or the outside failed.
 use Rattle.std.proofs.Common.{arith, ◌≡◌, ◌≢◌, ◌∙◌, ◌+◌, ◌<◌, ◌≤◌, ℕ, zero, suc, false, List, [], ◌∷◌, ◌++◌, length, map, refl, sym, ap, subst, inl, inr, Option, Some, None}
 use Rattle.std.specs.Prelude.{is_some}
-use Rattle.std.specs.List.{AllByRecursion, flat_map, range_with_len}
-use Rattle.std.proofs.lemmas.Bool.{cases_eq}
-use Rattle.std.proofs.lemmas.List.Elements.{All-weaker, recursion_from_All}
-use Rattle.flop_base.specs.Shelf.{Files, file_at, stored}
-use Rattle.flop_base.specs.Standard.{sectors_at}
-use Rattle.flop_base.specs.declared.key.Chrn.{Chrn}
-use Rattle.flop_base.specs.declared.answers.Status.{Status}
+use Rattle.laws_commands.proofs.Common.{AllByRecursion, flat_map, range_with_len, cases_eq, All-weaker, recursion_from_All, Files, file_at, stored, sectors_at, Chrn, Status, Disk, file_of, key_of, StationState, Bay, bay_of, IsImageOf, blank_of, Taken, has_refusal, World, blank_request, shape_of, Shape, Script, Runs, carries, through, formats, script_ties, LogLine, IsLogFound, IsFound, rescues, asked_keys, stores_log, rescue_rest, rescue_script, Rescues, by_absent, tracks_of, IsStandardKey, BeginsSound, EndsWellOrOutside, IsReadable, HaveSameSector, StoresSameAndLog}
 use Rattle.flop_base.specs.declared.answers.Status.TheVariants as status
-use Rattle.raw_image.specs.Disk.{Disk}
-use Rattle.raw_image.specs.Image.{file_of}
 use Rattle.floppy_jobs.specs.declared.request.Request.TheVariants as request
-use Rattle.sector_map.specs.Standard.{key_of, cylinder_keys, track_keys}
-use Rattle.sector_model.specs.Stations.{StationState, Bay, bay_of}
-use Rattle.sector_model.specs.Steps.{IsImageOf, blank_of}
-use Rattle.sector_model.specs.Runs.{Taken, has_refusal}
-use Rattle.sector_model.specs.Plays.{World}
-use Rattle.floppy_session.specs.Blanks.{blank_request}
-use Rattle.floppy_session.specs.Shapes.{shape_of}
-use Rattle.floppy_session.specs.declared.shape.Shape.{Shape}
-use Rattle.commands.specs.Scripts.{Script}
-use Rattle.commands.specs.Leading.{Runs}
-use Rattle.commands.specs.Parts.{carries, may_starve, through, formats}
-use Rattle.commands.proofs.Running.{script_ties}
+use Rattle.sector_map.specs.Standard.{cylinder_keys, track_keys}
+use Rattle.commands.specs.Parts.{may_starve}
 use Rattle.rescue.specs.Course.{standard_keys}
-use Rattle.rescue.specs.declared.line.LogLine.{LogLine}
-use Rattle.disk_commands.specs.Logs.{IsLogFound, IsFound}
-use Rattle.disk_commands.specs.Rescue.{rescues, acknowledges_both, prepares_new, prepares, asked_keys, rescues_all, stores_log, rescue_found, rescue_rest, rescue_script, Rescues}
-use Rattle.disk_commands.proofs.RescueRests.{by_absent}
-use Rattle.laws_commands.specs.Requests.{tracks_of}
-use Rattle.laws_commands.specs.Verified.{IsStandardKey}
-use Rattle.laws_commands.specs.EndsComplete.{BeginsSound, EndsWellOrOutside, IsReadable, HaveSameSector, StoresSameAndLog}
+use Rattle.disk_commands.specs.Rescue.{acknowledges_both, prepares_new, prepares, rescues_all, rescue_found}
 use Rattle.laws_commands.proofs.TrackParts.{tracks_part}
 use Rattle.laws_commands.proofs.Tracks.{among_all, among_only}
 use Rattle.laws_commands.proofs.Reading.{key_is}

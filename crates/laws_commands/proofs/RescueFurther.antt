@@ -1,37 +1,12 @@
 -- A rescue that goes on by a log ends well when nothing can go wrong, or the outside failed.
 use Rattle.std.proofs.Common.{arith, ◌≡◌, ◌≢◌, ◌∙◌, ◌<◌, ◌≤◌, ℕ, false, List, [], ◌∷◌, length, refl, sym, ap, subst, inl, Option, Some, None, All}
 use Rattle.std.specs.Prelude.{IsSomeAnd, is_some}
-use Rattle.std.specs.List.{AllByRecursion}
-use Rattle.std.proofs.lemmas.List.Elements.{recursion_from_All}
-use Rattle.flop_base.specs.Shelf.{Files, file_at}
-use Rattle.flop_base.specs.Standard.{sectors_at, standard_code}
-use Rattle.flop_base.specs.declared.key.Chrn.{Chrn}
-use Rattle.flop_base.specs.declared.answers.Rate.{Rate}
-use Rattle.flop_base.specs.declared.answers.Status.{Status}
+use Rattle.laws_commands.proofs.Common.{AllByRecursion, recursion_from_All, Files, file_at, sectors_at, standard_code, Chrn, Rate, Status, Disk, Entry, IsOnMap, IsRegularDisk, key_cylinder, Bay, IsImageOf, Taken, has_refusal, World, shape_of, Shape, Script, Ends, Runs, carries, through, acknowledges, script_ties, logged_keys, IsLog, log_text, LogLine, IsLogFound, IsFound, most_log_bytes, rescues, asked_keys, stores_log, rescue_rest, rescue_script, Rescues, by_rest, by_log, entry_at, BeginsSound, EndsWellOrOutside, HasKey, TakesKeys, StoresRestAndLog}
 use Rattle.flop_base.specs.declared.answers.Status.TheVariants as status
-use Rattle.raw_image.specs.Disk.{Disk}
 use Rattle.floppy_jobs.specs.declared.request.Request.TheVariants as request
-use Rattle.sector_map.specs.Disks.{Entry, IsOnMap, IsRegularDisk}
-use Rattle.sector_map.proofs.RegularTracks.{key_cylinder}
-use Rattle.sector_model.specs.Stations.{Bay}
-use Rattle.sector_model.specs.Steps.{IsImageOf}
-use Rattle.sector_model.specs.Runs.{Taken, has_refusal}
-use Rattle.sector_model.specs.Plays.{World}
-use Rattle.floppy_session.specs.Shapes.{shape_of}
-use Rattle.floppy_session.specs.declared.shape.Shape.{Shape}
-use Rattle.commands.specs.Scripts.{Script, Ends}
-use Rattle.commands.specs.Leading.{Runs}
-use Rattle.commands.specs.Parts.{carries, may_starve, through, acknowledges}
-use Rattle.commands.proofs.Running.{script_ties}
-use Rattle.rescue.specs.Course.{logged_keys}
-use Rattle.rescue.specs.Log.{IsLog, log_text}
+use Rattle.commands.specs.Parts.{may_starve}
 use Rattle.rescue.proofs.LawLemmas.{one_spelling}
-use Rattle.rescue.specs.declared.line.LogLine.{LogLine}
-use Rattle.disk_commands.specs.Logs.{IsLogFound, IsFound, most_log_bytes}
-use Rattle.disk_commands.specs.Rescue.{rescues, acknowledges_both, prepares_old, prepares, asked_keys, rescues_all, stores_log, rescue_found, rescue_rest, rescue_script, Rescues}
-use Rattle.disk_commands.proofs.RescueRests.{by_rest, by_log}
-use Rattle.laws_commands.specs.Rescued.{entry_at}
-use Rattle.laws_commands.specs.EndsComplete.{BeginsSound, EndsWellOrOutside, HasKey, TakesKeys, StoresRestAndLog}
+use Rattle.disk_commands.specs.Rescue.{acknowledges_both, prepares_old, prepares, rescues_all, rescue_found}
 use Rattle.laws_commands.proofs.Sectors.{few_sectors}
 use Rattle.laws_commands.proofs.Reading.{key_is}
 use Rattle.laws_commands.proofs.Verified.{image_ranges}

@@ -1,21 +1,7 @@
 -- What the reads of a rescue gave. They are intact fields of the disk in bay 0, whatever faults there were, and sectors
 -- if the reads are sure.
 use Rattle.std.proofs.Common.{arith, ◌≡◌, ◌∙◌, ◌+◌, ◌≤◌, ℕ, Bool, List, [], ◌∷◌, length, refl, sym, ap, subst, inl, inr, Option, Some, Result, Ok, Err}
-use Rattle.std.specs.List.{AllByRecursion}
-use Rattle.flop_base.specs.Shelf.{Files}
-use Rattle.flop_base.specs.declared.key.Chrn.{Chrn}
-use Rattle.flop_base.specs.declared.answers.Code.{Code}
-use Rattle.raw_image.specs.Disk.{Disk, track_of}
-use Rattle.flop_base.specs.Bays.{Two, in_bay}
-use Rattle.flop_base.specs.Memory.{user_bytes, bytes_from}
-use Rattle.track_model.specs.Fields.{content_size}
-use Rattle.track_model.specs.Sectors.{IsSector}
-use Rattle.sector_model.specs.Stations.{StationState, Bay, bay_of}
-use Rattle.sector_model.specs.Orders.{read_refusal, write_refusal}
-use Rattle.sector_model.specs.Runs.{Taken}
-use Rattle.sector_model.specs.Plays.{World}
-use Rattle.commands.specs.Leading.{with_report}
-use Rattle.laws_commands.specs.Copied.{SomeStep, Gave, IsFieldOf, IsSure}
+use Rattle.laws_commands.proofs.Common.{AllByRecursion, Files, Chrn, Code, Disk, track_of, Two, in_bay, user_bytes, bytes_from, content_size, IsSector, StationState, Bay, bay_of, read_refusal, write_refusal, Taken, World, with_report, SomeStep, Gave, IsFieldOf, IsSure}
 use Rattle.laws_commands.proofs.DiskRecords.{length-bytes_at, read_sector, sure_parts}
 use Rattle.laws_commands.proofs.Steps.{ok_called, reached}
 use Rattle.laws_commands.proofs.UserMemory.{at_stands}

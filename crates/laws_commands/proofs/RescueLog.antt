@@ -2,30 +2,14 @@
 -- next run finds a log.
 use Rattle.std.proofs.Common.{arith, ◌≡◌, ◌∙◌, ◌+◌, ◌*◌, ◌/◌, ◌%◌, ◌≤◌, ℕ, suc, true, lit<, All, List, [], ◌∷◌, ◌++◌, length, length-append, refl, sym, ap, subst, inl, inr, Option, Some, None, Ok, Err}
 use Rattle.std.specs.Prelude.{◌⊎◌, Contains, IsSomeAnd}
-use Rattle.std.specs.List.{AllByRecursion, AllPairs}
+use Rattle.laws_commands.proofs.Common.{AllByRecursion, AllPairs, mul-le, All-from_recursion, recursion_from_All, All-map, All-contains_itself, Files, file_at, sectors_at, Chrn, Disk, is_refusal, Taken, World, shape_of, with_report, logged_keys, IsBefore, IsLogLine, IsLog, code_text, line_text, log_text, LogLine, IsLogFound, most_log_bytes, asked_keys, line_at, log_of}
 use Rattle.std.specs.Fmt.{decimal}
 use Rattle.std.proofs.lemmas.Fmt.{hex_one_digit, length-decimal-le}
-use Rattle.std.proofs.lemmas.Nat.{mul-le}
-use Rattle.std.proofs.lemmas.List.Elements.{All-from_recursion, recursion_from_All, All-map, All-contains_itself}
 use Rattle.std.proofs.lemmas.List.Kept.{AllPairs-cons}
-use Rattle.flop_base.specs.Shelf.{Files, file_at}
-use Rattle.flop_base.specs.Standard.{sectors_at}
 use Rattle.flop_base.specs.Numbers.{code_number}
-use Rattle.flop_base.specs.declared.key.Chrn.{Chrn}
-use Rattle.raw_image.specs.Disk.{Disk}
 use Rattle.floppy_jobs.specs.Spelling.{hex2}
 use Rattle.sector_map.specs.Standard.{standard_keys as disk_keys}
-use Rattle.sector_model.specs.Texts.{is_refusal}
-use Rattle.sector_model.specs.Runs.{Taken}
-use Rattle.sector_model.specs.Plays.{World}
-use Rattle.floppy_session.specs.Shapes.{shape_of}
-use Rattle.commands.specs.Leading.{with_report}
-use Rattle.rescue.specs.Course.{standard_keys, logged_keys}
-use Rattle.rescue.specs.Log.{IsBefore, IsLogLine, IsLog, code_text, line_text, log_text}
-use Rattle.rescue.specs.declared.line.LogLine.{LogLine}
-use Rattle.disk_commands.specs.Logs.{IsLogFound, most_log_bytes}
-use Rattle.disk_commands.specs.Rescue.{asked_keys}
-use Rattle.laws_commands.specs.Rescued.{line_at, log_of}
+use Rattle.rescue.specs.Course.{standard_keys}
 use Rattle.laws_commands.proofs.Sectors.{few_sectors}
 use Rattle.laws_commands.proofs.VerifyRun.{standard_count}
 use Rattle.laws_commands.proofs.Gone.{GoesKeys, AreRefusals, line_of_refused, line_of_done, read_done}

@@ -1,38 +1,12 @@
 -- What comes before the records of a rescue. Both diskettes are put in, and both bays are made ready.
 use Rattle.std.proofs.Common.{true≢false, ◌↔◌, arith, ◌≡◌, ◌∙◌, ◌≤◌, ℕ, List, ◌∷◌, ◌++◌, refl, ap, Option, Some, Bool, true, false, [], subst, sym, inl, inr, length, ◌<◌}
-use Rattle.std.specs.List.{list_all}
+use Rattle.laws_commands.proofs.Common.{list_all, Files, Rate, R500, R250, gap_at, words_at, Disk, IsDisk, HasTrack, track_of, Two, in_bay, faults_of, IsFaultless, IsUndisturbed, user_bytes, IsLaid, Request, AreAlike, alike_itself, alike_both, alike_tracks, IsRegularDisk, StationState, Bay, bay_of, rate_refusal, format_refusal, State, Taken, Reply, Step, IsImageOf, blank_of, is_refusal, blank_request, Shape, shape_of, rate_requests, by_track, formats, Script, DoesAll, Track, tracks_of, format_each, HasLaidFields, is_write, HasShapeOf}
 use Rattle.std.specs.Prelude.{if◌then◌else◌}
-use Rattle.flop_base.specs.Shelf.{Files}
-use Rattle.flop_base.specs.declared.answers.Rate.{Rate}
-use Rattle.flop_base.specs.declared.answers.Rate.TheVariants.{R500, R250}
-use Rattle.flop_base.specs.Standard.{gap_at, words_at}
-use Rattle.raw_image.specs.Disk.{Disk, IsDisk, HasTrack, track_of}
-use Rattle.flop_base.specs.Bays.{Two, in_bay}
-use Rattle.flop_base.specs.Counters.{faults_of, IsFaultless, IsUndisturbed}
-use Rattle.flop_base.specs.Memory.{user_bytes}
-use Rattle.track_model.specs.Laid.{IsLaid}
-use Rattle.floppy_jobs.specs.declared.request.Request.{Request}
 use Rattle.floppy_jobs.specs.declared.request.Request.TheVariants as request
-use Rattle.sector_map.specs.KeptDisks.{AreAlike}
-use Rattle.sector_map.proofs.KeptTracks.{alike_itself, alike_both, alike_tracks}
-use Rattle.sector_map.specs.Disks.{IsRegularDisk}
-use Rattle.sector_model.specs.Stations.{StationState, Bay, bay_of}
-use Rattle.sector_model.specs.Orders.{rate_refusal, format_refusal}
-use Rattle.sector_model.specs.States.{State}
-use Rattle.sector_model.specs.Runs.{Taken}
-use Rattle.sector_model.specs.declared.reply.Reply.{Reply}
-use Rattle.sector_model.specs.Steps.{Step, IsImageOf, blank_of}
-use Rattle.sector_model.specs.Texts.{is_refusal}
-use Rattle.floppy_session.specs.Blanks.{blank_request}
-use Rattle.floppy_session.specs.declared.shape.Shape.{Shape}
-use Rattle.floppy_session.specs.Shapes.{shape_of}
-use Rattle.commands.specs.Parts.{rate_requests, carries, sets_rate, acknowledges, through, by_track, formats}
-use Rattle.commands.specs.Scripts.{Script}
-use Rattle.laws_commands.specs.Done.{DoesAll}
+use Rattle.commands.specs.Parts.{carries, sets_rate, acknowledges, through}
 use Rattle.laws_commands.proofs.CopiedTrack.{IsReady, formats_it, small}
 use Rattle.laws_commands.proofs.Prepared.{acks, blanks, readies}
 use Rattle.laws_commands.proofs.Steps.{and_both, keeps_drives, splits, NeverFell, begins, step_never_fell, ok_called, reached, done_does, ends_there, never_fell, keeps_drives}
-use Rattle.laws_commands.specs.Requests.{Track, tracks_of, format_each}
 use Rattle.laws_commands.proofs.Formatted.{blank_keeps}
 use Rattle.laws_commands.proofs.Verified.{one_image, image_ranges}
 use Rattle.laws_commands.proofs.Sectors.{track_laid}
@@ -41,8 +15,6 @@ use Rattle.laws_commands.proofs.Tracks.{Among, among_only}
 use Rattle.laws_commands.proofs.BlankDisk.{blank_regular, blank_fields}
 use Rattle.laws_commands.proofs.Reading.{Holds}
 use Rattle.disk_commands.specs.Rescue.{acknowledges_both, prepares_old, prepares_new, prepares}
-use Rattle.laws_commands.specs.LaidFields.{HasLaidFields}
-use Rattle.laws_commands.specs.Rescued.{is_write, HasShapeOf}
 use Rattle.laws_commands.proofs.Gone.{carries_all}
 use Rattle.laws_commands.proofs.LaidDisks.{still_laid}
 use Rattle.laws_commands.proofs.RescueRecords.{shape_itself, shape_both, alike_shape}

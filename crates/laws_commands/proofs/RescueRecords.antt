@@ -2,54 +2,16 @@
 -- is in the log.
 use Rattle.std.proofs.Common.{arith, ◌≡◌, ℕ, suc, ◌<◌, ◌≤◌, All, List, [], ◌∷◌, length, get_or, subst, inl, inr, Option, Some, None, ◌≢◌, ◌↔◌, ◌∙◌, ◌+◌, Bool, true, false, ◌++◌, sym, ap, Result, IsOk, refl, Ok, Err}
 use Rattle.std.specs.Prelude.{◌⊎◌, IsSomeAnd, Contains}
-use Rattle.std.specs.List.{AllByRecursion, AllPairs}
-use Rattle.std.proofs.lemmas.List.Elements.{All-map, All-weaker, recursion_from_All, Contains-append_right}
-use Rattle.flop_base.specs.Shelf.{Files, file_at}
-use Rattle.flop_base.specs.Standard.{sectors_at}
-use Rattle.flop_base.specs.declared.key.Chrn.{Chrn}
-use Rattle.flop_base.specs.declared.answers.Code.{Code}
-use Rattle.raw_image.specs.Disk.{Disk, IsDisk, HasTrack, track_of}
-use Rattle.flop_base.specs.Memory.{user_bytes, bytes_from}
-use Rattle.flop_base.specs.Counters.{IsFaultless}
-use Rattle.flop_base.specs.Bays.{Two, in_bay}
-use Rattle.track_model.specs.Fields.{IsAddressAt, content_size}
-use Rattle.track_model.specs.Laid.{IsLaid}
-use Rattle.track_model.specs.Windows.{HasFieldFor, IsTidy}
-use Rattle.track_model.proofs.Laid.{written_laid}
-use Rattle.floppy_jobs.specs.declared.request.Request.{Request}
+use Rattle.laws_commands.proofs.Common.{AllByRecursion, AllPairs, All-map, All-weaker, recursion_from_All, Contains-append_right, Files, file_at, sectors_at, Chrn, Code, Disk, IsDisk, HasTrack, track_of, user_bytes, bytes_from, IsFaultless, Two, in_bay, IsAddressAt, content_size, IsLaid, HasFieldFor, IsTidy, written_laid, Request, Change, Written, IsChange, Entry, IsOnMap, IsRegularDisk, AreAlike, change_keeps_tracks, key_cylinder, Reply, write_refusal, StationState, bay_of, Bay, State, Step, IsDriverCall, reply_of, is_refusal, ChangesDisk, WritesTo, WritesDrive, written_from, Taken, World, shape_of, with_report, IsStandardKey, SomeStep, Gave, logged_keys, write_of, read_of, IsBefore, IsLogLine, IsLog, log_text, LogLine, IsLogFound, most_log_bytes, asked_keys, IsLogged, IsSaved, WasNotRead, entry_at, is_write, count_writes, line_at, log_of, IsTidyWrite, IsTidyFor, AreTidy, BringsUpNoMark, HasShapeOf, HasLaidFields}
 use Rattle.floppy_jobs.specs.declared.request.Request.TheVariants as request
 use Rattle.sector_map.specs.Standard.{standard_keys as disk_keys}
-use Rattle.sector_map.specs.Changes.{Change, Written, IsChange}
-use Rattle.sector_map.specs.Disks.{Entry, IsOnMap, IsRegularDisk}
-use Rattle.sector_map.specs.KeptDisks.{AreAlike}
-use Rattle.sector_map.proofs.Changed.{change_keeps_tracks}
-use Rattle.sector_map.proofs.RegularTracks.{key_cylinder}
-use Rattle.sector_model.specs.declared.reply.Reply.{Reply}
-use Rattle.sector_model.specs.Orders.{write_refusal}
-use Rattle.sector_model.specs.Stations.{StationState, bay_of, Bay}
-use Rattle.sector_model.specs.States.{State}
-use Rattle.sector_model.specs.Steps.{Step, IsDriverCall, reply_of}
-use Rattle.sector_model.specs.Texts.{is_refusal}
-use Rattle.sector_model.specs.Writes.{ChangesDisk, WritesTo, WritesDrive, written_from}
-use Rattle.sector_model.specs.Runs.{Taken}
-use Rattle.sector_model.specs.Plays.{World}
-use Rattle.floppy_session.specs.Shapes.{shape_of}
-use Rattle.commands.specs.Leading.{with_report}
-use Rattle.laws_commands.specs.Verified.{IsStandardKey}
 use Rattle.laws_commands.proofs.Verified.{standard_all}
 use Rattle.laws_commands.proofs.Steps.{ok_called, reached}
 use Rattle.laws_commands.proofs.UserMemory.{length-bytes_from}
 use Rattle.laws_commands.proofs.Written.{AllTidy}
 use Rattle.laws_commands.proofs.WrittenHere.{WritesHere, writes_here, reaches_in}
-use Rattle.laws_commands.specs.Copied.{SomeStep, Gave}
-use Rattle.rescue.specs.Course.{standard_keys, logged_keys, write_of, read_of}
-use Rattle.rescue.specs.Log.{IsBefore, IsLogLine, IsLog, log_text}
-use Rattle.rescue.specs.declared.line.LogLine.{LogLine}
+use Rattle.rescue.specs.Course.{standard_keys}
 use Rattle.rescue.proofs.OrderLemmas.{standard_rises, logged_rises}
-use Rattle.disk_commands.specs.Logs.{IsLogFound, most_log_bytes}
-use Rattle.disk_commands.specs.Rescue.{asked_keys}
-use Rattle.laws_commands.specs.Rescued.{IsLogged, IsSaved, WasNotRead, entry_at, is_write, count_writes, line_at, log_of, IsTidyWrite, IsTidyFor, AreTidy, BringsUpNoMark, HasShapeOf}
-use Rattle.laws_commands.specs.LaidFields.{HasLaidFields}
 use Rattle.laws_commands.proofs.LaidDisks.{still_laid}
 use Rattle.laws_commands.proofs.Gone.{GoesKeys, keys_fell, write_fell, line_of_refused, line_of_done, read_done, write_no_read, write_writes, read_keeps, call_fell, gave, gave_reads}
 

@@ -1,36 +1,12 @@
 -- Parts of a rescue that go to their end when nothing disturbs them: the formats of a new disk, and the records.
 use Rattle.std.proofs.Common.{arith, ◌≡◌, ◌∙◌, ◌-◌, ◌<◌, ◌≤◌, ℕ, Bool, true, false, true≢false, List, [], ◌∷◌, ◌++◌, refl, sym, ap, subst, inl, inr, Option, Some, None}
 use Rattle.std.specs.Prelude.{◌⊎◌, IsSomeAnd}
-use Rattle.std.specs.List.{AllByRecursion}
-use Rattle.std.proofs.lemmas.Bool.{cases_eq, le-ltb}
-use Rattle.flop_base.specs.Shelf.{Files, file_at}
-use Rattle.flop_base.specs.Standard.{sectors_at, standard_code}
-use Rattle.flop_base.specs.declared.key.Chrn.{Chrn}
+use Rattle.laws_commands.proofs.Common.{AllByRecursion, cases_eq, le-ltb, Files, file_at, sectors_at, standard_code, Chrn, Disk, HasTrack, track_of, Two, in_bay, IsAddressAt, content_at, LookAt, Found, Request, IsRegularDisk, KeepsTracks, key_of, alike_tracks, Reply, Bay, is_refusal, Taken, has_refusal, Script, carries, read_of, write_of, outcome_status, LogLine, IsLogFound, outcome_of, Track, format_each, IsNotStopped}
 use Rattle.flop_base.specs.declared.answers.Status.TheVariants as status
-use Rattle.raw_image.specs.Disk.{Disk, HasTrack, track_of}
-use Rattle.flop_base.specs.Bays.{Two, in_bay}
-use Rattle.track_model.specs.Fields.{IsAddressAt, content_at}
-use Rattle.track_model.specs.Looks.{LookAt}
-use Rattle.track_model.specs.declared.Look.TheVariants.{Found}
-use Rattle.floppy_jobs.specs.declared.request.Request.{Request}
 use Rattle.floppy_jobs.specs.declared.request.Request.TheVariants as request
-use Rattle.sector_map.specs.Disks.{IsRegularDisk}
-use Rattle.sector_map.specs.KeptDisks.{KeepsTracks}
-use Rattle.sector_map.specs.Standard.{key_of}
-use Rattle.sector_map.proofs.KeptTracks.{alike_tracks}
-use Rattle.sector_model.specs.declared.reply.Reply.{Reply}
 use Rattle.sector_model.specs.declared.reply.Reply.TheVariants as reply
-use Rattle.sector_model.specs.Stations.{Bay}
-use Rattle.sector_model.specs.Texts.{is_refusal}
-use Rattle.sector_model.specs.Runs.{Taken, has_refusal}
-use Rattle.commands.specs.Scripts.{Script}
-use Rattle.commands.specs.Parts.{carries, may_starve, through}
-use Rattle.rescue.specs.Course.{read_of, write_of, outcome_status}
-use Rattle.rescue.specs.declared.line.LogLine.{LogLine}
-use Rattle.disk_commands.specs.Logs.{IsLogFound}
-use Rattle.disk_commands.specs.Rescue.{follows, does_next, rescues, outcome_of, stores_log}
-use Rattle.laws_commands.specs.Requests.{Track, format_each}
-use Rattle.laws_commands.specs.Rescued.{IsNotStopped}
+use Rattle.commands.specs.Parts.{may_starve, through}
+use Rattle.disk_commands.specs.Rescue.{follows, does_next, rescues, stores_log}
 use Rattle.laws_commands.proofs.Tracks.{Among}
 use Rattle.laws_commands.proofs.Steps.{or_false}
 use Rattle.laws_commands.proofs.Reading.{key_is}
@@ -136,9 +112,8 @@ module _ (source begun : Disk) (regular : IsRegularDisk source) (few_cylinders :
       → ((deleted : Bool) → GoesWell (carries (write_of key deleted) (λ none. rest [])) stage) → GoesWell (follows key answer [] rest) stage
   unfolding follows does_next
   follows_goes key (reply.Refused cause) rest stage fine goes = absurd (true≢false fine)
-  follows_goes key reply.Done rest stage fine goes = goes false
   follows_goes key reply.DoneDeleted rest stage fine goes = goes true
-  follows_goes key (reply.Bytes address content) rest stage fine goes = goes false
+  follows_goes key _ rest stage fine goes = goes false
 
   write_goes : (key : Chrn) (deleted : Bool) (old : Stage) → StandsOnBoth source begun key → (saving : IsSaving source begun old)
       → IsDone (λ new. WritesInto 1 0 saving.now key.c key.h key.r old new) (write_of key deleted) old

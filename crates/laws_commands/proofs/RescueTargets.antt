@@ -1,26 +1,7 @@
 -- Disks that a rescue may go on with: those that a format, a copy or an import stored.
 use Rattle.std.proofs.Common.{arith, ◌≡◌, ◌≤◌, ℕ, Bool, false, All, List, Option, Some, refl, sym, subst}
-use Rattle.std.proofs.lemmas.List.Elements.{All-weaker}
-use Rattle.flop_base.specs.Shelf.{Files, stored}
-use Rattle.flop_base.specs.Standard.{sectors_at}
-use Rattle.flop_base.specs.Counters.{Counters}
-use Rattle.flop_base.specs.declared.answers.Rate.{Rate}
-use Rattle.flop_base.specs.declared.key.Chrn.{Chrn}
-use Rattle.raw_image.specs.Disk.{Disk, IsDisk, HasTrack, track_of}
-use Rattle.raw_image.specs.Image.{file_of}
-use Rattle.track_model.specs.Sectors.{IsSector}
-use Rattle.sector_map.specs.Flat.{IsSector as IsFlatSector}
-use Rattle.sector_map.specs.Disks.{IsRegularDisk}
-use Rattle.sector_model.specs.Runs.{Taken}
-use Rattle.sector_model.specs.Steps.{IsImageOf}
-use Rattle.laws_commands.specs.Copied.{StoresCopy, copied_entry}
-use Rattle.laws_commands.specs.EndsComplete.{HasKey, StoresSameSectors, TakesKeys}
-use Rattle.laws_commands.specs.Formatted.{StoresFormatted}
-use Rattle.laws_commands.specs.Imported.{StoresDisk, sector_bytes}
-use Rattle.laws_commands.specs.LaidFields.{HasLaidFields}
-use Rattle.laws_commands.specs.Rescued.{entry_at}
+use Rattle.laws_commands.proofs.Common.{All-weaker, Files, stored, sectors_at, Counters, Rate, Chrn, Disk, IsDisk, HasTrack, track_of, file_of, IsSector, IsFlatSector, IsRegularDisk, Taken, IsImageOf, StoresCopy, copied_entry, HasKey, StoresSameSectors, TakesKeys, StoresFormatted, StoresDisk, sector_bytes, HasLaidFields, entry_at, IsStandardKey}
 use Rattle.laws_commands.specs.Targets.{HoldsTarget}
-use Rattle.laws_commands.specs.Verified.{IsStandardKey}
 use Rattle.laws_commands.proofs.LaidDisks.{formatted_laid}
 use Rattle.laws_commands.proofs.Reading.{key_is}
 use Rattle.laws_commands.proofs.SectorRequests.{formatted_readable}

@@ -1,37 +1,15 @@
 -- How long a rescue to a new disk lasts at most, and how many port accesses it makes.
-use Rattle.std.proofs.Common.{arith, ◌≡◌, ℕ, ◌+◌, ◌*◌, ◌≤◌, Bool, true, false, List, [], ◌∷◌, ◌++◌, length, refl, ap, inl, inr, subst, sym, Option, Some, None, Result, Ok, Err}
-use Rattle.std.proofs.lemmas.List.{length-map}
-use Rattle.flop_base.specs.Bays.{Two}
-use Rattle.flop_base.specs.Shelf.{Files, file_at}
-use Rattle.flop_base.specs.Standard.{sectors_at, words_at}
-use Rattle.flop_base.specs.declared.answers.Code.{Code}
-use Rattle.flop_base.specs.declared.answers.Code.TheVariants.{NoMark, NotFound, Overrun, BadCrc, Seek}
-use Rattle.flop_base.specs.declared.answers.Status.{Status}
+use Rattle.std.proofs.Common.{arith, ◌≡◌, ℕ, ◌+◌, ◌*◌, ◌≤◌, Bool, true, false, List, [], ◌∷◌, ◌++◌, length, refl, ap, inl, inr, subst, sym, Option, Some, None, Result, Ok}
+use Rattle.laws_commands.proofs.Common.{length-map, Two, Files, file_at, sectors_at, words_at, Code, NotFound, Overrun, Seek, Status, Chrn, Disk, Request, Reply, Reason, StationState, Step, IsImageOf, Taken, World, shape_of, Script, Asks, Stores, MayStarve, formats, read_of, write_of, after_refusal, logged_keys, outcome_status, standard_keys, log_text, LogLine, after_answer, last_text, outcome_of, Rescues, AreFound, IsLogFound, by_absent, by_rest, RequestCosts, ready_cost, further_rescue_cost, rescue_cost}
+use Rattle.flop_base.specs.declared.answers.Code.TheVariants.{NoMark, BadCrc}
 use Rattle.flop_base.specs.declared.answers.Status.TheVariants as status
-use Rattle.flop_base.specs.declared.key.Chrn.{Chrn}
-use Rattle.raw_image.specs.Disk.{Disk}
-use Rattle.floppy_jobs.specs.declared.request.Request.{Request}
 use Rattle.floppy_jobs.specs.declared.request.Request.TheVariants as request
-use Rattle.sector_model.specs.declared.reply.Reply.{Reply}
 use Rattle.sector_model.specs.declared.reply.Reply.TheVariants as reply
-use Rattle.sector_model.specs.declared.reply.Reason.{Reason}
 use Rattle.sector_model.specs.declared.reply.Reason.TheVariants as reason
-use Rattle.sector_model.specs.Stations.{StationState}
-use Rattle.sector_model.specs.Steps.{Step, IsImageOf}
-use Rattle.sector_model.specs.Runs.{Taken}
-use Rattle.sector_model.specs.Plays.{World}
-use Rattle.floppy_session.specs.Shapes.{shape_of}
-use Rattle.commands.specs.Scripts.{Script, Asks, Stores, MayStarve}
-use Rattle.commands.specs.Parts.{asks, carries, may_starve, needs, formats}
-use Rattle.rescue.specs.Course.{read_of, write_of, after_refusal, logged_keys, outcome_status, standard_keys}
-use Rattle.rescue.specs.Log.{log_text}
-use Rattle.rescue.specs.declared.line.LogLine.{LogLine}
+use Rattle.commands.specs.Parts.{asks, carries, may_starve, needs}
 use Rattle.rescue.specs.declared.course.AfterRead.{AfterRead}
 use Rattle.rescue.specs.declared.course.AfterRead.TheVariants as next
-use Rattle.disk_commands.specs.Rescue.{acknowledges_both, after_answer, does_next, follows, last_text, outcome_of, rescues, prepares, prepares_new, prepares_old, rescues_all, stores_log, rescue_found, Rescues}
-use Rattle.disk_commands.specs.Logs.{AreFound, IsLogFound}
-use Rattle.disk_commands.proofs.RescueRests.{by_absent, by_rest}
-use Rattle.laws_commands.specs.Times.{RequestCosts, ready_cost, further_rescue_cost, rescue_cost}
+use Rattle.disk_commands.specs.Rescue.{acknowledges_both, does_next, follows, rescues, prepares, prepares_new, prepares_old, rescues_all, stores_log, rescue_found}
 use Rattle.laws_commands.proofs.CommandTimes.{formatted, inserted, made_blank, made_ready, made_turned, on_tracks, opened_cost, opened_told, taken_out}
 use Rattle.laws_commands.proofs.RequestTimes.{AreCharged, IsOnTracks, IsReady, track_ready}
 use Rattle.laws_commands.proofs.RescueFurther.{one_log, small_sectors}
@@ -53,11 +31,10 @@ refusal_writes key Seek = tt
 refusal_writes key _ = tt
 
 answer_writes : (key : Chrn) (answer : Reply) → WritesAlone key (after_answer key answer)
-answer_writes key reply.Done = (false, refl)
 answer_writes key reply.DoneDeleted = (true, refl)
-answer_writes key (reply.Bytes address content) = (false, refl)
 answer_writes key (reply.Refused (reason.Driver code)) = refusal_writes key code
 answer_writes key (reply.Refused _) = tt
+answer_writes key _ = (false, refl)
 
 write_on : (key : Chrn) (deleted : Bool) → IsOnTracks (write_of key deleted)
 write_on key false = tt
@@ -82,8 +59,7 @@ module _ (one : Request → StationState → ℕ) (sum : StationState → List T
   next_cost key (Ok (next.Log line)) log writes n rest later =
       starve_cost one sum is Ready ((costs 1).write + n) (rest (log ++ line ∷ []))
       (more_cost one sum is Ready Ready n ((costs 1).write + n) _ (omega arith) (λ s ready. ready) (later (log ++ line ∷ [])))
-  next_cost key (Ok (next.Stop code)) log writes n rest later = ends_cost one sum is Ready ((costs 1).write + n) _ _
-  next_cost key (Err cause) log writes n rest later = ends_cost one sum is Ready ((costs 1).write + n) _ _
+  next_cost key _ log writes n rest later = ends_cost one sum is Ready ((costs 1).write + n) _ _
 
   record_cost : (key : Chrn) (log : List LogLine) → PartCosts sum Ready Ready ((costs 0).read + (costs 1).write) (rescues key log)
   unfolding rescues follows asks

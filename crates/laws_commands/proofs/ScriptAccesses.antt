@@ -1,33 +1,14 @@
 -- How often a script accesses the station past the driver.
 use Rattle.std.proofs.Common.{arith, ℕ, ◌+◌, ◌≤◌, [], ◌∷◌, refl, ◌≡◌, zero, suc, Bool, true, false, List, ap, inl, inr, get_or, ◌-◌}
 use Rattle.std.proofs.lemmas.List.Sums.{sum_by-cons}
-use Rattle.floppy_jobs.specs.declared.request.Request.{Request}
+use Rattle.laws_commands.proofs.Common.{Request, Reply, State, AfterStop, accesses_of, grown, sectors_at, Chrn, Rate, R500, R250, Status, key_of, is_refusal, Taken, World, blank_request, Shape, Script, Ends, Says, Asks, Stores, MayStarve, Fails, RunsScript, StoresLast, IsStored, NotStored, unless_refused, Part, shape_at, by_track, formats, with_report, record_address, one_more, write_request}
 use Rattle.floppy_jobs.specs.declared.request.Request.TheVariants as request
-use Rattle.sector_model.specs.declared.reply.Reply.{Reply}
-use Rattle.sector_model.specs.States.{State}
-use Rattle.sector_model.specs.Steps.{AfterStop}
-use Rattle.sector_model.specs.Ties.{accesses_of}
 use Rattle.sector_model.proofs.PlayTies.{ran_ties}
-use Rattle.flop_base.specs.Sink.{grown}
-use Rattle.flop_base.specs.Standard.{sectors_at}
-use Rattle.flop_base.specs.declared.key.Chrn.{Chrn}
-use Rattle.flop_base.specs.declared.answers.Rate.{Rate}
-use Rattle.flop_base.specs.declared.answers.Rate.TheVariants.{R500, R250}
-use Rattle.flop_base.specs.declared.answers.Status.{Status}
-use Rattle.sector_map.specs.Standard.{key_of}
 use Rattle.sector_model.specs.declared.reply.Reply.TheVariants as reply
-use Rattle.sector_model.specs.Texts.{is_refusal}
-use Rattle.sector_model.specs.Runs.{Taken}
-use Rattle.sector_model.specs.Plays.{World}
-use Rattle.floppy_session.specs.Blanks.{blank_request}
-use Rattle.floppy_session.specs.declared.shape.Shape.{Shape}
-use Rattle.commands.specs.Scripts.{Script, Ends, Says, Asks, Stores, MayStarve, Fails, RunsScript, StoresLast, IsStored, NotStored, unless_refused}
-use Rattle.commands.specs.Parts.{Part, asks, says, needs, carries, shape_at, opens, sets_rate, acknowledges, through, each, by_track, formats}
-use Rattle.commands.specs.Leading.{with_report}
-use Rattle.commands.specs.Records.{record_address}
+use Rattle.commands.specs.Parts.{asks, says, needs, carries, opens, sets_rate, acknowledges, through, each}
 use Rattle.disk_commands.specs.Format.{formats_disk, format_script}
-use Rattle.disk_commands.specs.Verify.{one_more, tells_failure, verifies_record, verifies_track, verify_script, reads_disk}
-use Rattle.disk_commands.specs.Copy.{write_request, reads_record, writes_record, copies_track, copy_script, makes_copy, copies_disk}
+use Rattle.disk_commands.specs.Verify.{tells_failure, verifies_record, verifies_track, verify_script, reads_disk}
+use Rattle.disk_commands.specs.Copy.{reads_record, writes_record, copies_track, copy_script, makes_copy, copies_disk}
 use Rattle.laws_commands.proofs.VerifyRun.{Tally}
 use Rattle.laws_commands.specs.Accesses.{AccessesAtMost}
 
@@ -38,13 +19,11 @@ stopped_rises old new other stopped = let idle = stopped.idle.past_driver in ome
 
 -- the requests of a script make at most this many accesses, whatever the answers are
 abbrev AsksAtMost : ℕ → Script → Type 0
-AsksAtMost n (Ends line wanted) = Unit {0}
 AsksAtMost n (Says line rest) = AsksAtMost n rest
 AsksAtMost n (Asks asked rest) =
     (later : ℕ) × (accesses_of asked + later ≤ n) × ((answer : Reply) (after : State) → AsksAtMost later (rest answer after))
-AsksAtMost n (Stores name bytes line wanted) = Unit {0}
 AsksAtMost n (MayStarve rest) = AsksAtMost n rest
-AsksAtMost n (Fails cause) = Unit {0}
+AsksAtMost n _ = Unit {0}
 
 same_rises : (n : ℕ) (old new : World) → new.state ≡ old.state → AccessesAtMost n old new
 same_rises n old new same = let is = ap (λ (s : State). s.station.counters.direct) same in omega (arith, is)
@@ -58,7 +37,6 @@ stored_rises n name bytes line wanted old new ended (NotStored same fault) = sam
 script_rises : (n : ℕ) (script : Script) (old new : World) (course : List Taken) (ended : Status) → AsksAtMost n script → RunsScript script old course new ended
     → AccessesAtMost n old new
 script_rises n (Ends line wanted) old new [] ended most runs = same_rises n old new runs.state
-script_rises n (Ends line wanted) old new (taken ∷ later) ended most runs = absurd runs
 script_rises n (Says line rest) old new course ended most (inl runs) =
     script_rises n rest (record old { report = grown old.report (line ∷ []) }) new course ended most runs
 script_rises n (Says line rest) old new course ended most (inr cut) = same_rises n old new cut.1.0.state
@@ -74,19 +52,16 @@ script_rises n (Asks asked rest) old new (taken ∷ later) ended most runs =
     let few = most.1 in
     omega (arith, rises, sum_by-cons accesses_of asked [], behind, few)
 script_rises n (Stores name bytes line wanted) old new [] ended most runs = stored_rises n name bytes line wanted old new ended runs
-script_rises n (Stores name bytes line wanted) old new (taken ∷ later) ended most runs = absurd runs
 script_rises n (MayStarve rest) old new course ended most (inl runs) = script_rises n rest old new course ended most runs
 script_rises n (MayStarve rest) old new course ended most (inr none) = same_rises n old new (ap (λ (w : World). w.state) none.1)
 script_rises n (Fails cause) old new [] ended most runs = same_rises n old new (ap (λ (w : World). w.state) runs.0)
-script_rises n (Fails cause) old new (taken ∷ later) ended most runs = absurd runs
+script_rises n _ old new (taken ∷ later) ended most runs = absurd runs
 
 -- ---- Parts.
 
 unrefused : (n : ℕ) (asked : Request) (answer : Reply) (later : Script) → AsksAtMost n later → AsksAtMost n (unless_refused asked answer later)
 unrefused n asked (reply.Refused cause) later most = tt
-unrefused n asked reply.Done later most = most
-unrefused n asked reply.DoneDeleted later most = most
-unrefused n asked (reply.Bytes address content) later most = most
+unrefused n asked _ later most = most
 
 needs_most : (later n : ℕ) (asked : Request) (rest : Reply → State → Script) → accesses_of asked + later ≤ n
     → ((answer : Reply) (after : State) → AsksAtMost later (rest answer after)) → AsksAtMost n (needs asked rest)

@@ -1,44 +1,16 @@
 -- Which stores the scripts of the commands make, however the scripts end.
-use Rattle.std.proofs.Common.{◌≡◌, ◌∙◌, ◌+◌, ◌-◌, ℕ, zero, suc, Bool, true, false, List, [], ◌∷◌, ◌++◌, get_or, Option, Some, None, Result, Ok, Err, refl, sym, ap, subst, inl, inr}
-use Rattle.std.specs.Prelude.{◌==◌, ◌%◌, ◌*◌, sum, if◌then◌else◌, slice_index}
-use Rattle.flop_base.specs.Bays.{Two, in_bay, with_bay}
-use Rattle.flop_base.specs.Sink.{grown}
-use Rattle.flop_base.specs.Shelf.{Files, Store, stored}
-use Rattle.flop_base.specs.Standard.{sectors_at}
-use Rattle.flop_base.specs.declared.answers.Rate.{Rate}
-use Rattle.flop_base.specs.declared.answers.Rate.TheVariants.{R500, R250}
-use Rattle.flop_base.specs.declared.answers.Status.{Status}
-use Rattle.flop_base.specs.declared.key.Chrn.{Chrn}
-use Rattle.flop_base.specs.Memory.{bytes_from}
-use Rattle.raw_image.specs.Disk.{Disk, blank_disk}
-use Rattle.raw_image.specs.Image.{file_of}
-use Rattle.sector_map.specs.Standard.{key_of}
-use Rattle.sector_map.specs.Flat.{sector_place}
-use Rattle.floppy_jobs.specs.declared.request.Request.{Request}
+use Rattle.std.proofs.Common.{◌≡◌, ◌∙◌, ◌+◌, ◌-◌, ℕ, zero, suc, Bool, true, false, List, [], ◌∷◌, ◌++◌, get_or, Option, Some, Result, Ok, Err, refl, sym, ap, subst, inl, inr}
+use Rattle.std.specs.Prelude.{◌==◌, sum, if◌then◌else◌, slice_index}
+use Rattle.laws_commands.proofs.Common.{Two, in_bay, with_bay, grown, Files, Store, stored, sectors_at, Rate, R500, R250, Status, Chrn, bytes_from, Disk, blank_disk, file_of, key_of, sector_place, Request, Reply, Stop, State, Step, refusal_of, is_refusal, stop_lines, stop_status, Taken, World, blank_request, Shape, Script, Ends, Stores, RunsScript, StoresLast, IsStored, NotStored, Part, asks, needs, shape_at, by_track, formats, with_report, record_address, track_address, AskRun, Answered, Stopped, NeedRun, Done, Refused, Halted, ask_run, need_run, last_run, last_stored, one_more, write_request, Imports, store_of, all_stored, StoresFirst, StoresDiskAlone, StoresFileAlone}
 use Rattle.floppy_jobs.specs.declared.request.Request.TheVariants as request
-use Rattle.sector_model.specs.declared.reply.Reply.{Reply}
 use Rattle.sector_model.specs.declared.reply.Reply.TheVariants as reply
-use Rattle.sector_model.specs.declared.reply.Stop.{Stop}
-use Rattle.sector_model.specs.States.{State}
-use Rattle.sector_model.specs.Steps.{Step, refusal_of}
-use Rattle.sector_model.specs.Texts.{is_refusal, stop_lines, stop_status}
-use Rattle.sector_model.specs.Runs.{Taken}
-use Rattle.sector_model.specs.Plays.{World}
-use Rattle.floppy_session.specs.Blanks.{blank_request}
-use Rattle.floppy_session.specs.declared.shape.Shape.{Shape}
-use Rattle.commands.specs.Scripts.{Script, Ends, Says, Stores, RunsScript, StoresLast, IsStored, NotStored}
-use Rattle.commands.specs.Parts.{Part, asks, says, needs, carries, may_starve, shape_at, opens, sets_rate, acknowledges, through, each, by_track, formats}
-use Rattle.commands.specs.Leading.{with_report}
-use Rattle.commands.specs.Records.{record_address, track_address}
-use Rattle.commands.proofs.Reading.{AskRun, Answered, Stopped, NeedRun, Done, Refused, Halted, ask_run, need_run, last_run, last_stored}
-use Rattle.disk_commands.specs.Format.{format_text, formats_disk, format_script}
-use Rattle.disk_commands.specs.Verify.{one_more, tells_failure, verifies_record, verifies_track, verify_script, reads_disk}
-use Rattle.disk_commands.specs.Copy.{write_request, reads_record, writes_record, copies_track, copy_script, makes_copy, copies_disk}
+use Rattle.commands.specs.Parts.{says, carries, may_starve, opens, sets_rate, acknowledges, through, each}
+use Rattle.disk_commands.specs.Format.{formats_disk, format_script}
+use Rattle.disk_commands.specs.Verify.{tells_failure, verifies_record, verifies_track, verify_script, reads_disk}
+use Rattle.disk_commands.specs.Copy.{reads_record, writes_record, copies_track, copy_script, makes_copy, copies_disk}
 use Rattle.disk_commands.specs.Import as imports
-use Rattle.disk_commands.specs.Import.{Imports}
 use Rattle.disk_commands.specs.Export as exports
 use Rattle.disk_commands.specs.Exercise as work
-use Rattle.laws_commands.specs.Stores.{store_of, all_stored, StoresFirst, StoresDiskAlone, StoresFileAlone}
 use Rattle.laws_commands.proofs.Steps.{either, done_does}
 use Rattle.laws_commands.proofs.Storing.{nothing_first, all_first, step_stores}
 use Rattle.laws_commands.proofs.VerifyRun.{Tally}
@@ -246,9 +218,7 @@ module _ {Kind : Type 0} (stores : Kind → List Store) (some : Kind) where
   told_quiet : (Such : Names → Type 0) (key : Chrn) (answer : Reply) → IsQuiet Such (tells_failure key answer)
   unfolding tells_failure
   told_quiet Such key (reply.Refused cause) rest next = said Such _ rest (next tt)
-  told_quiet Such key reply.Done rest next = next tt
-  told_quiet Such key reply.DoneDeleted rest next = next tt
-  told_quiet Such key (reply.Bytes address content) rest next = next tt
+  told_quiet Such key _ rest next = next tt
 
   verified_quiet : (Such : Names → Type 0) (c h r : ℕ) (tally : Tally) → IsQuiet Such (verifies_record c h r tally)
   unfolding verifies_record

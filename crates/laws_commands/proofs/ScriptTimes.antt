@@ -1,21 +1,10 @@
 -- What the runs of a script cost at most. The cost of a run is the sum of what its requests cost.
 use Rattle.std.proofs.Common.{arith, ◌≡◌, ℕ, zero, suc, ◌+◌, ◌*◌, ◌≤◌, false, List, [], ◌∷◌, length, refl, ap, inl, inr, Option, Some}
-use Rattle.flop_base.specs.Shelf.{Files}
-use Rattle.flop_base.specs.Sink.{grown}
-use Rattle.flop_base.specs.declared.answers.Status.{Status}
+use Rattle.laws_commands.proofs.Common.{Files, grown, Status, Request, Reply, StationState, State, Step, is_refusal, Taken, World, Script, Ends, Says, Asks, Stores, MayStarve, Fails, RunsScript, unless_refused, Part, by_track}
 use Rattle.flop_base.specs.declared.answers.Status.TheVariants as status
-use Rattle.floppy_jobs.specs.declared.request.Request.{Request}
-use Rattle.sector_model.specs.declared.reply.Reply.{Reply}
 use Rattle.sector_model.specs.declared.reply.Reply.TheVariants as reply
-use Rattle.sector_model.specs.Stations.{StationState}
-use Rattle.sector_model.specs.States.{State}
-use Rattle.sector_model.specs.Steps.{Step}
-use Rattle.sector_model.specs.Texts.{is_refusal}
-use Rattle.sector_model.specs.Runs.{Taken}
-use Rattle.sector_model.specs.Plays.{World}
 use Rattle.commands.specs.LastLines.{stopped_text}
-use Rattle.commands.specs.Scripts.{Script, Ends, Says, Asks, Stores, MayStarve, Fails, RunsScript, unless_refused}
-use Rattle.commands.specs.Parts.{Part, needs, carries, through, each, by_track}
+use Rattle.commands.specs.Parts.{needs, carries, through, each}
 
 -- the sum over a course of what each request costs, by the station that it finds
 pub record IsSum (one : Request → StationState → ℕ) (sum : StationState → List Taken → ℕ) : Type 0 where
@@ -102,9 +91,7 @@ module _ (one : Request → StationState → ℕ) (sum : StationState → List T
       → RunsScript (unless_refused asked answer later) old course new ended → sum old.state.station course ≤ n
   unless_run n asked (reply.Refused cause) later old new course ended few runs =
       ends_cost (λ s. Unit {0}) n (stopped_text asked cause ∷ []) status.SomeRefused old new course ended tt runs
-  unless_run n asked reply.Done later old new course ended few runs = few refl runs
-  unless_run n asked reply.DoneDeleted later old new course ended few runs = few refl runs
-  unless_run n asked (reply.Bytes address content) later old new course ended few runs = few refl runs
+  unless_run n asked _ later old new course ended few runs = few refl runs
 
   pub needs_cost : (From To : StationState → Type 0) (price n : ℕ) (asked : Request) (rest : Reply → State → Script)
       → ((s : StationState) → From s → one asked s ≤ price) → Leads From asked To

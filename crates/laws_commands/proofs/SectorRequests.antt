@@ -2,60 +2,17 @@
 -- the formats and writes that make such a disk.
 use Rattle.std.proofs.Common.{arith, ◌≡◌, ◌↔◌, ◌∙◌, ◌+◌, ◌-◌, ◌≤◌, ℕ, nat_le, Bool, true, false, List, refl, sym, ap, subst, Some, None, Result, Ok, Err, le-leb, suc, [], ◌∷◌, ◌≢◌, ◌<◌, inl, inr, Option, IsOk, lit≤}
 use Rattle.std.specs.Prelude.{◌/◌, ◌==◌, not, if◌then◌else◌, All, is_some, IfErr}
-use Rattle.flop_base.specs.Standard.{sectors_at, standard_code, words_at, gap_at, standard_fill}
-use Rattle.flop_base.specs.declared.key.Chrn.{Chrn}
-use Rattle.flop_base.specs.declared.answers.Code.{Code}
-use Rattle.flop_base.specs.declared.answers.Code.TheVariants.{BadRequest, Page, Changed, Protected}
-use Rattle.raw_image.specs.Disk.{Disk, HasTrack, track_of, IsDisk}
-use Rattle.flop_base.specs.Bays.{Two, in_bay}
-use Rattle.flop_base.specs.Counters.{Counters, IsUndisturbed, DisturbedLess, FaultsRoseLess}
-use Rattle.flop_base.specs.Memory.{user_bytes}
-use Rattle.track_model.specs.Fields.{IsAddressAt, content_size}
-use Rattle.track_model.specs.Looks.{LookAt}
+use Rattle.laws_commands.proofs.Common.{sectors_at, standard_code, words_at, gap_at, standard_fill, Chrn, Code, BadRequest, Page, Changed, Protected, Disk, HasTrack, track_of, IsDisk, Two, in_bay, Counters, IsUndisturbed, DisturbedLess, FaultsRoseLess, user_bytes, IsAddressAt, content_size, LookAt, Entry, IsOnMap, IsRegularDisk, LookOn, HasClearAddress, AllFound, key_of, met_track, clear_address, key_cylinder, one_address, StationState, Bay, bay_of, met, Becomes, set_bay, is_sector_request, crosses_page, is_acknowledged, read_refusal, is_bay, is_protected, write_refusal, is_format_request, most_format_gap, format_refusal, ReadsDrive, IsReadCause, spoilable, read_reply, Step, IsDriverCall, reply_of, blank_of, is_refusal, record_address, Rate, Found, AreFailing, IsFormattedDisk, formatted_entry, standard_content, standard_track, IsStandardKey, IsUnmistaken, cases_eq, Files, IsRegular, Request, Written, with_track_keeps, alike_both, alike_itself, stays_regular, Reply, WritesDrive, WritesTo, IsWriteCause, ChangesAlone, written_from, State, copied_entry, option_map_or, R500, R250, format_keys, IsFormattable, formatted, format_at, AreAlike, KeepsTracks, format_fits, Fits, laid_words, FormatsDrive, IsReadable}
 use Rattle.track_model.specs.declared.Look.TheVariants as look
 use Rattle.floppy_jobs.specs.declared.request.Request.TheVariants as request
-use Rattle.sector_map.specs.Disks.{Entry, IsOnMap, IsRegularDisk, LookOn}
-use Rattle.sector_map.specs.Met.{HasClearAddress, AllFound}
-use Rattle.sector_map.specs.Standard.{key_of, standard_keys}
-use Rattle.sector_map.proofs.MetTracks.{met_track}
-use Rattle.sector_map.proofs.RegularTracks.{clear_address, key_cylinder, one_address}
-use Rattle.sector_model.specs.Stations.{StationState, Bay, bay_of, met, Becomes, set_bay}
-use Rattle.sector_model.specs.Orders.{is_sector_request, crosses_page, is_acknowledged, read_refusal, is_bay, is_protected, write_refusal, is_format_request, most_format_gap, format_refusal}
-use Rattle.sector_model.specs.Reads.{ReadsDrive, IsReadCause, spoilable}
-use Rattle.sector_model.specs.Steps.{read_reply, Step, IsDriverCall, reply_of, blank_of}
-use Rattle.sector_model.specs.Texts.{is_refusal}
-use Rattle.commands.specs.Records.{record_address}
+use Rattle.sector_map.specs.Standard.{standard_keys}
 use Rattle.laws_commands.proofs.Reading.{key_is, reaches}
-use Rattle.flop_base.specs.declared.answers.Rate.{Rate}
-use Rattle.track_model.specs.declared.Look.TheVariants.{Found}
-use Rattle.sector_map.specs.Failing.{AreFailing}
-use Rattle.laws_commands.specs.Formatted.{IsFormattedDisk, formatted_entry, standard_content, standard_track}
-use Rattle.laws_commands.specs.Verified.{IsStandardKey, IsUnmistaken}
 use Rattle.laws_commands.proofs.Verified.{standard_all}
 use Rattle.laws_commands.proofs.Sectors.{formatted_regular, formatted_sector, few_sectors, track_regular, track_sector, HasContent}
-use Rattle.std.proofs.lemmas.Bool.{cases_eq}
-use Rattle.flop_base.specs.Shelf.{Files}
-use Rattle.track_model.specs.Regular.{IsRegular}
-use Rattle.floppy_jobs.specs.declared.request.Request.{Request}
-use Rattle.sector_map.specs.Changes.{Written}
-use Rattle.sector_map.proofs.KeptTracks.{with_track_keeps, alike_both, alike_itself, stays_regular}
-use Rattle.sector_model.specs.declared.reply.Reply.{Reply}
-use Rattle.sector_model.specs.Writes.{WritesDrive, WritesTo, IsWriteCause, ChangesAlone, written_from}
-use Rattle.sector_model.specs.States.{State}
-use Rattle.laws_commands.specs.Copied.{copied_entry}
 use Rattle.laws_commands.proofs.BlankDisk.{blank_regular}
 use Rattle.laws_commands.proofs.Prepared.{in_with}
 use Rattle.laws_commands.proofs.Written.{HasSome}
-use Rattle.std.specs.Option.{option_map_or}
-use Rattle.flop_base.specs.declared.answers.Rate.TheVariants.{R500, R250}
-use Rattle.sector_map.specs.Layings.{format_keys, IsFormattable, formatted}
-use Rattle.sector_map.specs.LaidDisks.{format_at}
-use Rattle.sector_map.specs.KeptDisks.{AreAlike, KeepsTracks}
-use Rattle.sector_map.proofs.Laid.{format_fits}
-use Rattle.track_model.specs.Layouts.{Fits, laid_words}
-use Rattle.sector_model.specs.Formats.{FormatsDrive}
 use Rattle.laws_commands.proofs.Formatting.{drive_formats}
-use Rattle.laws_commands.specs.EndsComplete.{IsReadable}
 use Rattle.laws_commands.proofs.Going.{Stage, IsDone, IsSafe, calm_in}
 use Rattle.laws_commands.proofs.Bays.{IsReadyFor, both_true, ready_still, safe, AreApart, ok_taken, other_stays}
 

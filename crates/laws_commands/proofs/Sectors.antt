@@ -1,27 +1,9 @@
 -- The sectors of a formatted disk.
 use Rattle.std.proofs.Common.{arith, ◌≡◌, ◌≢◌, ◌∙◌, ◌+◌, ◌-◌, ◌*◌, ◌<◌, ◌≤◌, ℕ, false, All, List, length, get_or, replicate, refl, sym, ap, subst, lit≤, lit<}
-use Rattle.std.specs.List.{AllPairs}
-use Rattle.std.proofs.lemmas.List.Elements.{All-contains}
-use Rattle.flop_base.specs.Standard.{words_at, gap_at, standard_fill, standard_code, sectors_at}
-use Rattle.flop_base.specs.declared.key.Chrn.{Chrn}
-use Rattle.flop_base.specs.declared.answers.Rate.{Rate}
-use Rattle.flop_base.specs.declared.answers.Rate.TheVariants.{R500, R250}
-use Rattle.raw_image.specs.Disk.{Disk, HasTrack}
-use Rattle.track_model.specs.declared.Look.TheVariants.{Found}
-use Rattle.track_model.specs.Fields.{IsAddressAt, IsSizeCode, content_size, content_at}
-use Rattle.track_model.specs.Looks.{LookAt}
-use Rattle.track_model.specs.Layouts.{Fits}
+use Rattle.laws_commands.proofs.Common.{AllPairs, All-contains, words_at, gap_at, standard_fill, standard_code, sectors_at, Chrn, Rate, R500, R250, Disk, HasTrack, Found, IsAddressAt, IsSizeCode, content_size, content_at, LookAt, Fits, IsRegular, IsLaid, lay_laid, one_look_at, Entry, IsOnMap, IsRegularDisk, key_of, track_keys, format_at, length-track_keys, track_key_at, all_track_keys, format_fits, standard_track, IsFormattedDisk, formatted_entry, IsFormattedEntry}
 use Rattle.track_model.specs.LaidFields.{HasLaidFields, IsKey, HasEndRoom, sector_place, content_place}
-use Rattle.track_model.specs.Regular.{IsRegular}
-use Rattle.track_model.specs.Laid.{IsLaid}
-use Rattle.track_model.proofs.Laid.{lay_laid}
-use Rattle.track_model.proofs.Unique.{one_look_at}
 use Rattle.track_format.proofs.Read.{read_regular, read_fields, read_only, read_filled}
-use Rattle.sector_map.specs.Disks.{Entry, IsOnMap, IsRegularDisk}
-use Rattle.sector_map.specs.Standard.{key_of, track_keys}
-use Rattle.sector_map.specs.LaidDisks.{format_at}
-use Rattle.sector_map.proofs.Laid.{length-track_keys, track_key_at, all_track_keys, format_fits}
-use Rattle.laws_commands.specs.Formatted.{standard_track, standard_content, IsFormattedDisk, formatted_entry, IsFormattedEntry}
+use Rattle.laws_commands.specs.Formatted.{standard_content}
 
 pub few_sectors : (rate : Rate) → sectors_at rate ≤ 18
 few_sectors R500 = lit≤ tt

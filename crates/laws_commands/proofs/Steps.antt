@@ -1,20 +1,8 @@
 -- What the requests of a run did, each on its own.
 use Rattle.std.proofs.Common.{arith, ◌≡◌, ◌∙◌, take, length, ◌≤◌, ◌&&◌, Bool, true, false, true≢false, List, [], ◌∷◌, ◌++◌, refl, sym, ap, subst, Option, Some, None, Result, Ok, Err, IsOk}
 use Rattle.std.specs.Prelude.{◌||◌, MatchOption}
-use Rattle.std.specs.List.{list_all}
-use Rattle.flop_base.specs.Shelf.{Files}
-use Rattle.flop_base.specs.declared.answers.Code.{Code}
-use Rattle.flop_base.specs.Counters.{Counters, GoesOn}
-use Rattle.floppy_jobs.specs.declared.request.Request.{Request}
+use Rattle.laws_commands.proofs.Common.{list_all, Files, Code, Counters, GoesOn, Request, Reply, StationState, IsRefusedAtOnce, State, Step, Does, refusal_of, reply_of, is_refusal, Taken, Run, requests_of, has_refusal, DoesAll}
 use Rattle.floppy_jobs.specs.declared.request.Request.TheVariants as request
-use Rattle.sector_model.specs.declared.reply.Reply.{Reply}
-use Rattle.sector_model.specs.Stations.{StationState}
-use Rattle.sector_model.specs.Orders.{IsRefusedAtOnce}
-use Rattle.sector_model.specs.States.{State}
-use Rattle.sector_model.specs.Steps.{Step, Does, refusal_of, reply_of}
-use Rattle.sector_model.specs.Texts.{is_refusal}
-use Rattle.sector_model.specs.Runs.{Taken, Run, requests_of, has_refusal}
-use Rattle.laws_commands.specs.Done.{DoesAll}
 
 -- a fact that follows in both of two cases holds
 pub either : {A : Type 0} {P R : Type 0} {Q : A → Type 0} (value : Option A) → MatchOption value P Q → (P → R) → ((x : A) → Q x → R) → R
@@ -93,16 +81,10 @@ does_goes old new told after (request.Insert bay name) answer does keeps = does.
 does_goes old new told after (request.Blank bay name cylinders) answer does keeps = does.2.counts
 does_goes old new told after (request.BlankDd bay name cylinders) answer does keeps = does.2.counts
 does_goes old new told after (request.Eject bay) answer does keeps = does.1.4.counts
-does_goes old new told after (request.Ack bay) answer does keeps = does.0.counts
-does_goes old new told after (request.Read bay key address) answer does keeps = does.0.counts
-does_goes old new told after (request.Write bay key address) answer does keeps = does.0.counts
-does_goes old new told after (request.WriteDeleted bay key address) answer does keeps = does.0.counts
-does_goes old new told after (request.Format bay c h) answer does keeps = does.0.counts
 does_goes old new told after (request.Fill address count byte) answer does keeps = does.2.counts
 does_goes old new told after (request.Dump address count) answer does keeps = does.2.counts
 does_goes old new told after (request.Unit bay) answer does keeps = absurd (true≢false (sym keeps))
-does_goes old new told after (request.SetRate bay rate) answer does keeps = does.0.counts
-does_goes old new told after (request.Tries tries) answer does keeps = does.0.counts
+does_goes old new told after _ answer does keeps = does.0.counts
 
 -- no count of faults or of late DMA requests (stalls) fell
 pub record NeverFell (old new : Counters) : Type 0 where

@@ -1,23 +1,14 @@
 -- Files after a store: what is under each name, and when it is the image of a disk, or a log.
 use Rattle.std.proofs.Common.{arith, ◌≡◌, ◌≢◌, ◌∙◌, ◌+◌, ◌*◌, ◌≤◌, ℕ, Bool, true, false, cond, List, length, take, drop, Option, Some, None, Ok, refl, sym, ap, subst, inl}
 use Rattle.std.specs.Prelude.{IfSome, IsSomeAnd}
-use Rattle.std.proofs.lemmas.List.{length-take, length-drop}
-use Rattle.std.proofs.lemmas.Nat.{mul-le}
+use Rattle.laws_commands.proofs.Common.{length-take, length-drop, mul-le, Files, file_at, after_store, stored, Disk, IsDisk, bytes_of, image_of, file_of, IsImageOf, most_image_bytes, IsLog, log_text, LogLine, IsLogFound, most_log_bytes}
 use Rattle.std.specs.FinMap as fin
 use Rattle.std.specs.Cmp.Lexicographic.{slice_cmp, nat_list_cmp_total}
 use Rattle.std.specs.Ordering.{nat_cmp, eq_by_cmp}
 use Rattle.std.proofs.lemmas.Cmp.{eq_by_cmp_equiv}
 use Rattle.std.proofs.lemmas.Map.Views.{tells_apart}
-use Rattle.flop_base.specs.Shelf.{Files, file_at, after_store, stored}
-use Rattle.raw_image.specs.Disk.{Disk, IsDisk}
-use Rattle.raw_image.specs.Words.{bytes_of}
-use Rattle.raw_image.specs.Image.{image_of, file_of}
 use Rattle.raw_image.proofs.Pairs.{length-bytes_of}
 use Rattle.raw_image.proofs.Images.{image_again}
-use Rattle.sector_model.specs.Steps.{IsImageOf, most_image_bytes}
-use Rattle.rescue.specs.Log.{IsLog, log_text}
-use Rattle.rescue.specs.declared.line.LogLine.{LogLine}
-use Rattle.disk_commands.specs.Logs.{IsLogFound, most_log_bytes}
 
 -- ---- names
 

@@ -1,19 +1,10 @@
 -- Which stores a run makes: those of its ejects, and those of its end.
-use Rattle.std.proofs.Common.{◌≡◌, ◌∙◌, ℕ, Bool, true, false, true≢false, List, [], ◌∷◌, ◌++◌, append-nil, append_assoc, Option, Some, None, refl, sym, ap, subst}
+use Rattle.std.proofs.Common.{◌≡◌, ◌∙◌, ℕ, false, true≢false, List, [], ◌∷◌, ◌++◌, append-nil, append_assoc, Option, Some, None, refl, sym, ap, subst}
 use Rattle.std.specs.Prelude.{is_some}
-use Rattle.std.specs.Option.{option_map}
-use Rattle.flop_base.specs.Bays.{Two, in_bay}
-use Rattle.flop_base.specs.Shelf.{Files, Store, after_store, one_more, stored}
-use Rattle.raw_image.specs.Disk.{Disk}
-use Rattle.raw_image.specs.Image.{file_of}
-use Rattle.floppy_jobs.specs.declared.request.Request.{Request}
+use Rattle.laws_commands.proofs.Common.{option_map, Two, in_bay, Files, Store, after_store, stored, Disk, file_of, Request, Reply, StationState, bay_of, State, Step, StoresMedium, refusal_of, Taken, Run, EndsBay, Stored, Left, EndStopsAt, AtFirst, AtSecond, all_stored, StoresFirst, medium_store, bay_store, stores_by, stores_of, end_stores, state_after, StoresRun}
+use Rattle.flop_base.specs.Shelf.{one_more}
 use Rattle.floppy_jobs.specs.declared.request.Request.TheVariants as request
-use Rattle.sector_model.specs.declared.reply.Reply.{Reply}
-use Rattle.sector_model.specs.Stations.{StationState, bay_of}
-use Rattle.sector_model.specs.States.{State, ChangesMedium, IsSame}
-use Rattle.sector_model.specs.Steps.{Step, StoresMedium, refusal_of}
-use Rattle.sector_model.specs.Runs.{Taken, Run, EndsBay, Stored, Left, Ends, EndStopsAt, AtFirst, AtSecond}
-use Rattle.laws_commands.specs.Stores.{all_stored, StoresFirst, medium_store, bay_store, stores_by, stores_of, end_stores, state_after, StoresRun}
+use Rattle.sector_model.specs.Runs.{Ends}
 use Rattle.laws_commands.proofs.Steps.{either}
 
 -- ---- lists of stores
@@ -91,13 +82,7 @@ step_stores (request.Dump address count) old new told after answer step =
     either (refusal_of old (request.Dump address count)) step (λ does. does.1) (λ cause refused. refused.files)
 step_stores (request.Unit bay) old new told after answer step =
     either (refusal_of old (request.Unit bay)) step (λ does. does.1) (λ cause refused. refused.files)
-step_stores (request.Ack bay) old new told after answer step = step.0.files
-step_stores (request.Read bay key address) old new told after answer step = step.0.files
-step_stores (request.Write bay key address) old new told after answer step = step.0.files
-step_stores (request.WriteDeleted bay key address) old new told after answer step = step.0.files
-step_stores (request.Format bay c h) old new told after answer step = step.0.files
-step_stores (request.SetRate bay rate) old new told after answer step = step.0.files
-step_stores (request.Tries tries) old new told after answer step = step.0.files
+step_stores _ old new told after answer step = step.0.files
 
 -- ---- a run
 

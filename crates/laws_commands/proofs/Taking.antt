@@ -1,31 +1,14 @@
 -- Parts of a script for several numbers. If each part leads from what holds of its number to what holds of the next,
 -- they lead from the first to the last. Also here: places of sectors, and a bay that is made ready.
 use Rattle.std.proofs.Common.{arith, ◌≡◌, ◌+◌, ◌-◌, ◌*◌, ◌<◌, ◌≤◌, ℕ, ◌∙◌, zero, suc, true, List, [], ◌∷◌, ◌++◌, refl, sym, ap, subst, append-nil, append_assoc, inl, inr, Option, false, Some}
-use Rattle.flop_base.specs.Standard.{sectors_at}
-use Rattle.flop_base.specs.declared.answers.Rate.{Rate}
-use Rattle.flop_base.specs.declared.answers.Rate.TheVariants.{R500, R250}
-use Rattle.sector_map.specs.Flat.{IsSector, sector_place, flat_length}
-use Rattle.std.specs.List.{list_all}
-use Rattle.flop_base.specs.Shelf.{Files}
+use Rattle.laws_commands.proofs.Common.{sectors_at, Rate, R500, R250, sector_place, flat_length, list_all, Files, Counters, IsFaultless, Request, Reply, State, Step, Does, is_refusal, Taken, World, Script, RunsScript, Part, by_track, rate_requests, Known, Passes, Did, Disk, bay_of, DoesAll}
+use Rattle.sector_map.specs.Flat.{IsSector}
 use Rattle.flop_base.specs.declared.answers.Status.TheVariants as status
-use Rattle.flop_base.specs.Counters.{Counters, IsFaultless}
-use Rattle.floppy_jobs.specs.declared.request.Request.{Request}
-use Rattle.sector_model.specs.declared.reply.Reply.{Reply}
-use Rattle.sector_model.specs.States.{State}
-use Rattle.sector_model.specs.Steps.{Step, Does}
-use Rattle.sector_model.specs.Texts.{is_refusal}
-use Rattle.sector_model.specs.Runs.{Taken}
-use Rattle.sector_model.specs.Plays.{World}
-use Rattle.commands.specs.Scripts.{Script, RunsScript}
-use Rattle.commands.specs.Parts.{Part, may_starve, through, each, by_track, rate_requests}
-use Rattle.commands.proofs.Passed.{Known, Passes, Did}
+use Rattle.commands.specs.Parts.{may_starve, through, each}
 use Rattle.laws_commands.proofs.CopiedTrack.{both_fell}
 use Rattle.laws_commands.proofs.Steps.{NeverFell, begins, ends_there, done_does, never_fell, keeps_drives}
 use Rattle.laws_commands.proofs.TrackParts.{did_all}
-use Rattle.raw_image.specs.Disk.{Disk}
 use Rattle.floppy_jobs.specs.declared.request.Request.TheVariants as request
-use Rattle.sector_model.specs.Stations.{bay_of}
-use Rattle.laws_commands.specs.Done.{DoesAll}
 use Rattle.laws_commands.proofs.Prepared.{readies}
 
 -- ---- Where the sectors are in a flat file.

@@ -1,38 +1,12 @@
 -- What the reads of a rescue tell, and what its log has, if nothing disturbs the reads and no address field can be
 -- mistaken.
 use Rattle.std.proofs.Common.{arith, ◌≡◌, ◌∙◌, ◌≤◌, ℕ, Bool, true, false, List, [], ◌∷◌, refl, sym, subst, inl, inr, Option, None, Result, Ok, Err, ◌++◌, map, ap}
-use Rattle.std.proofs.lemmas.Bool.{cases_lt}
-use Rattle.std.specs.List.{AllByRecursion}
-use Rattle.std.proofs.lemmas.List.{map-append}
-use Rattle.flop_base.specs.Shelf.{Files}
-use Rattle.flop_base.specs.declared.key.Chrn.{Chrn}
-use Rattle.flop_base.specs.declared.answers.Code.{Code}
+use Rattle.laws_commands.proofs.Common.{cases_lt, AllByRecursion, map-append, Files, Chrn, Code, Disk, HasTrack, track_of, IsUndisturbed, faults_of, Look, Found, NoMark, one_look_for, LookOn, HasNothing, by_met, in_is_on, nothing_unrecorded, unless_found, AreFailing, StationState, bay_of, met, read_refusal, write_refusal, Reads, ReadsDrive, IsReadCause, State, read_reply, Taken, is_refusal, World, with_report, IsStandardKey, IsUnmistaken, told_of, refused_read, all_told_of, LogLine, failing_lines, line_at, log_of, IsNotFound}
 use Rattle.flop_base.specs.declared.answers.Code.TheVariants as code
-use Rattle.raw_image.specs.Disk.{Disk, HasTrack, track_of}
-use Rattle.flop_base.specs.Counters.{IsUndisturbed, faults_of}
-use Rattle.track_model.specs.declared.Look.{Look}
-use Rattle.track_model.specs.declared.Look.TheVariants.{Found, NoMark}
-use Rattle.track_model.proofs.Unique.{one_look_for}
 use Rattle.floppy_jobs.specs.declared.request.Request.TheVariants as request
-use Rattle.sector_map.specs.Disks.{LookOn}
-use Rattle.sector_map.specs.MetTracks.{HasNothing}
-use Rattle.sector_map.proofs.MetTracks.{by_met, in_is_on, nothing_unrecorded}
-use Rattle.sector_map.specs.Failing.{unless_found, AreFailing}
-use Rattle.sector_model.specs.Stations.{StationState, bay_of, met}
-use Rattle.sector_model.specs.Orders.{read_refusal, write_refusal}
-use Rattle.sector_model.specs.Reads.{Reads, ReadsDrive, IsReadCause}
-use Rattle.sector_model.specs.States.{State}
-use Rattle.sector_model.specs.Steps.{read_reply}
-use Rattle.sector_model.specs.Runs.{Taken}
-use Rattle.sector_model.specs.Texts.{is_refusal}
-use Rattle.sector_model.specs.Plays.{World}
-use Rattle.commands.specs.Leading.{with_report}
-use Rattle.laws_commands.specs.Verified.{IsStandardKey, IsUnmistaken, told_of, refused_read, all_told_of}
 use Rattle.laws_commands.proofs.Looks.{rose_by}
 use Rattle.laws_commands.proofs.Reading.{Holds, not_refused, reaches, bays_stay, holds_on, key_is, one_read, quiet_parts, told_more}
 use Rattle.laws_commands.proofs.Steps.{NeverFell, ok_called, reached}
-use Rattle.rescue.specs.declared.line.LogLine.{LogLine}
-use Rattle.laws_commands.specs.Rescued.{failing_lines, line_at, log_of, IsNotFound}
 use Rattle.laws_commands.proofs.Gone.{call_fell, line_of_refused, line_of_done, read_done, IsRead, IsWrite, GoesKeys, fell_both, write_fell, keys_fell}
 use Rattle.laws_commands.proofs.RescueRecords.{IsAsked, write_does}
 
@@ -68,11 +42,7 @@ module _ (disk : Disk) (count : ℕ) (key : Chrn) (asked : IsAsked disk key) (no
   only_mark tries code.BadCrc is = let bad = is.bad_data refl quiet in absurd (nothing.addresses bad.0 key bad.1)
   only_mark tries code.Overrun is = let rose = rose_by 1 _ _ (is.overrun refl) quiet.stalls in absurd (omega (arith, quiet.together, fell.first))
   only_mark tries code.Seek is = let rose = rose_by 77 _ _ (is.lost refl) quiet.faults in absurd (omega (arith, quiet.together, fell.stalls))
-  only_mark tries code.BadRequest is = absurd is.device
-  only_mark tries code.Protected is = absurd is.device
-  only_mark tries code.Changed is = absurd is.device
-  only_mark tries code.Page is = absurd is.device
-  only_mark tries code.NotReady is = absurd is.device
+  only_mark tries _ is = absurd is.device
 
   drive_tells : (called : Result Bool Code) → ReadsDrive 0 key 0x10000 old called new → TellsKey disk count key called new
   drive_tells (Ok deleted) drive =

@@ -1,22 +1,12 @@
 -- Parts of scripts on the tracks and the keys of a disk.
 use Rattle.std.proofs.Common.{◌≡◌, ℕ, List, [], ◌∷◌, false, false, refl, sym, subst}
-use Rattle.std.specs.List.{flat_map}
+use Rattle.laws_commands.proofs.Common.{flat_map, Chrn, Request, key_of, Reply, Step, is_refusal, Taken, World, Script, Part, through, each, by_track, formats, Passes, Did, same_part, carries_passes, through_does, each_named, each_nested, Track, heads_of, format_each, DoesAll}
 use Rattle.std.proofs.lemmas.List.Concat.{flat_map_single}
-use Rattle.flop_base.specs.declared.key.Chrn.{Chrn}
 use Rattle.flop_base.specs.declared.answers.Status.TheVariants as status
-use Rattle.floppy_jobs.specs.declared.request.Request.{Request}
 use Rattle.floppy_jobs.specs.declared.request.Request.TheVariants as request
-use Rattle.sector_map.specs.Standard.{key_of, track_keys}
-use Rattle.sector_model.specs.declared.reply.Reply.{Reply}
-use Rattle.sector_model.specs.Steps.{Step}
-use Rattle.sector_model.specs.Texts.{is_refusal}
-use Rattle.sector_model.specs.Runs.{Taken}
-use Rattle.sector_model.specs.Plays.{World}
-use Rattle.commands.specs.Scripts.{Script}
-use Rattle.commands.specs.Parts.{Part, through, each, by_track, formats}
-use Rattle.commands.proofs.Passed.{Passes, Does, Did, same_part, carries_passes, through_does, each_named, each_nested}
-use Rattle.laws_commands.specs.Requests.{Track, heads_of, tracks_of, format_each}
-use Rattle.laws_commands.specs.Done.{DoesAll}
+use Rattle.sector_map.specs.Standard.{track_keys}
+use Rattle.commands.proofs.Passed.{Does}
+use Rattle.laws_commands.specs.Requests.{tracks_of}
 use Rattle.laws_commands.proofs.Steps.{begins, ends_there}
 
 -- a part for each track of a disk is a part for each track of a list

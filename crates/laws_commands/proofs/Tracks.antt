@@ -1,9 +1,8 @@
 -- Which tracks a list has.
 use Rattle.std.proofs.Common.{◌≡◌, ℕ, zero, suc, ◌+◌, ◌<◌, ◌≤◌, List, [], ◌∷◌, ◌++◌, map, inl, inr, refl, subst, arith}
 use Rattle.std.specs.Prelude.{◌⊎◌}
-use Rattle.std.specs.List.{flat_map, range_with_len}
-use Rattle.std.proofs.lemmas.Bool.{cases_eq}
-use Rattle.laws_commands.specs.Requests.{Track, heads_of, tracks_of}
+use Rattle.laws_commands.proofs.Common.{flat_map, range_with_len, cases_eq, Track, heads_of}
+use Rattle.laws_commands.specs.Requests.{tracks_of}
 
 -- the list has this track
 abbrev pub Among : List Track → ℕ → ℕ → Type 0

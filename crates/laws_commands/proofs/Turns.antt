@@ -1,31 +1,8 @@
 -- No request makes a revolution of a medium longer, except one that puts a medium in.
 use Rattle.std.proofs.Common.{arith, ◌≡◌, ◌∙◌, ℕ, suc, ◌≤◌, ◌-◌, ◌==◌, replicate, Bool, true, false, if◌then◌else◌, All, List, [], ◌∷◌, refl, ap, sym, subst, Option, Some, None, Result, Ok, Err}
 use Rattle.std.specs.Prelude.{MatchBool, MatchOption}
-use Rattle.flop_base.specs.Bays.{Two, both, in_bay}
-use Rattle.flop_base.specs.Lists.{with_items}
-use Rattle.flop_base.specs.Shelf.{Files, after_store}
-use Rattle.flop_base.specs.Standard.{gap_at}
-use Rattle.flop_base.specs.declared.answers.Code.{Code}
-use Rattle.flop_base.specs.declared.answers.Code.TheVariants.{BadRequest}
-use Rattle.flop_base.specs.declared.key.Chrn.{Chrn}
-use Rattle.raw_image.specs.Disk.{Disk}
-use Rattle.floppy_jobs.specs.declared.request.Request.{Request}
+use Rattle.laws_commands.proofs.Common.{Two, both, in_bay, with_items, Files, after_store, gap_at, Code, BadRequest, Chrn, Disk, Request, Change, Written, Format, Laying, Reply, turn_of, StationState, Bay, Becomes, bay_of, set_bay, fresh_bay, IsRefusedAtOnce, is_bay, read_refusal, write_refusal, format_refusal, rate_refusal, AcksDrive, SetsRate, ReadsDrive, Reaches, ChangesDisk, WritesDrive, Lays, LaysDisk, FormatsDrive, State, ChangesMedium, Step, Does, refusal_of, Taken, Run, requests_of, AreWithin, IsWithin, SetsAtMost, PutsShort, ArePutShort}
 use Rattle.floppy_jobs.specs.declared.request.Request.TheVariants as request
-use Rattle.sector_map.specs.Changes.{Change, Written}
-use Rattle.sector_map.specs.Layings.{Format, Laying}
-use Rattle.sector_model.specs.declared.reply.Reply.{Reply}
-use Rattle.sector_model.specs.Lasting.{turn_of}
-use Rattle.sector_model.specs.Stations.{StationState, Bay, Becomes, bay_of, set_bay, fresh_bay}
-use Rattle.sector_model.specs.Orders.{IsRefusedAtOnce, is_bay, read_refusal, write_refusal, format_refusal, rate_refusal}
-use Rattle.sector_model.specs.Calls.{AcksDrive, SetsRate}
-use Rattle.sector_model.specs.Reads.{ReadsDrive}
-use Rattle.sector_model.specs.Writes.{Reaches, ChangesDisk, WritesDrive}
-use Rattle.sector_model.specs.Formats.{Lays, LaysDisk, FormatsDrive}
-use Rattle.sector_model.specs.States.{State, ChangesMedium}
-use Rattle.sector_model.specs.Steps.{Step, Does, refusal_of}
-use Rattle.sector_model.specs.Runs.{Taken, Run, requests_of}
-use Rattle.sector_model.specs.Times.{AreWithin, IsWithin}
-use Rattle.laws_commands.specs.Times.{SetsAtMost, PutsShort, ArePutShort}
 use Rattle.laws_commands.proofs.Steps.{either}
 use Rattle.laws_commands.proofs.Verified.{image_ranges}
 
@@ -226,17 +203,8 @@ fair_in_both : (turn tries : ℕ) (asked : Request) (after : State) → PutsShor
 fair_in_both turn tries (request.Insert bay name) after short few = let is = in_both turn bay in omega (arith, is, short)
 fair_in_both turn tries (request.Blank bay name cylinders) after short few = let is = in_both turn bay in omega (arith, is, short)
 fair_in_both turn tries (request.BlankDd bay name cylinders) after short few = let is = in_both turn bay in omega (arith, is, short)
-fair_in_both turn tries (request.Eject bay) after short few = tt
-fair_in_both turn tries (request.Ack bay) after short few = tt
-fair_in_both turn tries (request.Read bay key address) after short few = tt
-fair_in_both turn tries (request.Write bay key address) after short few = tt
-fair_in_both turn tries (request.WriteDeleted bay key address) after short few = tt
-fair_in_both turn tries (request.Format bay c h) after short few = tt
-fair_in_both turn tries (request.Fill address count byte) after short few = tt
-fair_in_both turn tries (request.Dump address count) after short few = tt
-fair_in_both turn tries (request.Unit bay) after short few = tt
-fair_in_both turn tries (request.SetRate bay rate) after short few = tt
 fair_in_both turn tries (request.Tries set) after short few = few
+fair_in_both turn tries _ after short few = tt
 
 -- one step, and the stations of the steps after it
 step_within : (turn tries : ℕ) (old new : State) (told after : Option Files) (asked : Request) (answer : Reply) → PutsShort turn asked new → SetsAtMost tries asked
@@ -300,17 +268,7 @@ puts_short : (tries : ℕ) (old new : State) (files : Files) (after : Option Fil
 puts_short tries old new files after (request.Insert bay name) answer step is = inserted_short tries old new files after bay name answer step is
 puts_short tries old new files after (request.Blank bay name cylinders) answer step is = omega arith
 puts_short tries old new files after (request.BlankDd bay name cylinders) answer step is = omega arith
-puts_short tries old new files after (request.Eject bay) answer step is = tt
-puts_short tries old new files after (request.Ack bay) answer step is = tt
-puts_short tries old new files after (request.Read bay key address) answer step is = tt
-puts_short tries old new files after (request.Write bay key address) answer step is = tt
-puts_short tries old new files after (request.WriteDeleted bay key address) answer step is = tt
-puts_short tries old new files after (request.Format bay c h) answer step is = tt
-puts_short tries old new files after (request.Fill address count byte) answer step is = tt
-puts_short tries old new files after (request.Dump address count) answer step is = tt
-puts_short tries old new files after (request.Unit bay) answer step is = tt
-puts_short tries old new files after (request.SetRate bay rate) answer step is = tt
-puts_short tries old new files after (request.Tries set) answer step is = tt
+puts_short tries old new files after _ answer step is = tt
 
 pub told_short : (tries : ℕ) (old new : State) (files : Files) (after : Option Files) (course : List Taken) → Run old (Some files) course new after
     → All (SetsAtMost tries) (requests_of course) → IsWithin 16384 tries old.station → AreWithin 16384 tries old.station course

@@ -1,9 +1,6 @@
 -- Ranges of user memory, and what a read puts at one.
 use Rattle.std.proofs.Common.{arith, ◌≡◌, ◌∙◌, ◌+◌, ◌<◌, ◌≤◌, ℕ, List, drop, length, get_or, refl, sym}
-use Rattle.std.proofs.lemmas.List.{ext_get_or, get_or-take, get_or-drop, length-take, length-drop}
-use Rattle.flop_base.specs.Lists.{with_items}
-use Rattle.flop_base.specs.Memory.{bytes_from}
-use Rattle.track_model.proofs.Splices.{length-with_items, with_items_before, with_items_at}
+use Rattle.laws_commands.proofs.Common.{ext_get_or, get_or-take, get_or-drop, length-take, length-drop, with_items, bytes_from, length-with_items, with_items_before, with_items_at}
 
 pub with_at : (memory : List ℕ) (address : ℕ) (bytes : List ℕ) → address + length bytes ≤ length memory → (k : ℕ) → k < length bytes
     → get_or (with_items memory address bytes) (address + k) 0 ≡ get_or bytes k 0

@@ -1,34 +1,9 @@
 -- The run that reads a whole disk.
 use Rattle.std.proofs.Common.{arith, ◌≡◌, ◌∙◌, ◌+◌, ◌<◌, ◌≤◌, ℕ, zero, suc, true, false, All, List, [], ◌∷◌, ◌++◌, refl, sym, ap, subst, Option, Some, None, Result, Ok, length}
 use Rattle.std.specs.Prelude.{IsSomeAnd}
-use Rattle.std.specs.List.{list_all, flat_map, range_with_len}
-use Rattle.std.proofs.lemmas.Grind.{flat_map-append}
-use Rattle.std.proofs.lemmas.List.{append-nil}
-use Rattle.std.proofs.lemmas.List.Elements.{All-nil, All-append}
-use Rattle.flop_base.specs.Shelf.{Files, file_at}
-use Rattle.flop_base.specs.Standard.{sectors_at}
-use Rattle.flop_base.specs.declared.key.Chrn.{Chrn}
-use Rattle.flop_base.specs.declared.answers.Code.{Code}
-use Rattle.flop_base.specs.declared.answers.Rate.{Rate}
-use Rattle.flop_base.specs.declared.answers.Rate.TheVariants.{R500, R250}
-use Rattle.raw_image.specs.Disk.{Disk}
-use Rattle.raw_image.specs.Image.{image_of}
-use Rattle.raw_image.specs.declared.error.ImageError.{ImageError}
-use Rattle.track_model.specs.declared.Look.{Look}
-use Rattle.flop_base.specs.Counters.{Counters, IsUndisturbed, faults_of}
-use Rattle.sector_map.specs.Failing.{AreFailing}
-use Rattle.sector_map.specs.Standard.{standard_keys, cylinder_keys, track_keys}
-use Rattle.sector_map.proofs.Laid.{all_track_keys}
-use Rattle.floppy_jobs.specs.declared.request.Request.{Request}
+use Rattle.laws_commands.proofs.Common.{list_all, flat_map, range_with_len, flat_map-append, append-nil, All-nil, All-append, Files, file_at, sectors_at, Chrn, Code, Rate, R500, R250, Disk, image_of, ImageError, Look, Counters, IsUndisturbed, faults_of, AreFailing, track_keys, all_track_keys, Request, StationState, bay_of, State, IsImageOf, most_image_bytes, Taken, requests_of, has_refusal, DoesAll, rate_requests, verify_opening, read_each, IsStandardKey, IsUnmistaken, all_told_of, refused_read, refused_reads, ReadsDisk}
+use Rattle.sector_map.specs.Standard.{standard_keys, cylinder_keys}
 use Rattle.floppy_jobs.specs.declared.request.Request.TheVariants as request
-use Rattle.sector_model.specs.Stations.{StationState, bay_of}
-use Rattle.sector_model.specs.States.{State}
-use Rattle.sector_model.specs.Steps.{IsImageOf, most_image_bytes}
-use Rattle.sector_model.specs.Runs.{Taken, requests_of, has_refusal}
-use Rattle.laws_commands.specs.Done.{DoesAll}
-use Rattle.commands.specs.Parts.{rate_requests}
-use Rattle.laws_commands.specs.Requests.{verify_opening, read_each}
-use Rattle.laws_commands.specs.Verified.{IsStandardKey, IsUnmistaken, all_told_of, refused_read, refused_reads, ReadsDisk}
 use Rattle.laws_commands.proofs.Steps.{begins, ends_there, splits_run, NeverFell, step_never_fell, run_never_fell, keeps_drives}
 use Rattle.laws_commands.proofs.Prepared.{readies}
 use Rattle.laws_commands.proofs.Ranges.{image_range}

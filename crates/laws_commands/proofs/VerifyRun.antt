@@ -1,47 +1,15 @@
 -- The command that verifies tells which keys aren't found.
 use Rattle.std.proofs.Common.{arith, map, ◌≡◌, ◌∙◌, ◌+◌, ◌*◌, ℕ, nat_le, Bool, true, false, List, [], ◌∷◌, ◌++◌, length, refl, sym, ap, subst, append_assoc, Option, Some, None, Result, Ok, Err, le-leb, ◌-◌}
 use Rattle.std.specs.Prelude.{◌||◌}
-use Rattle.std.specs.List.{flat_map, range_with_len}
-use Rattle.std.proofs.lemmas.Grind.{flat_map-append}
-use Rattle.std.proofs.lemmas.List.{append-nil, length-append, length-map, map-append, take_at}
-use Rattle.std.proofs.lemmas.List.FromFn.{length-range_with_len}
-use Rattle.std.proofs.Math.Nat.{suc-mul, mul_assoc}
-use Rattle.flop_base.specs.Shelf.{Files}
-use Rattle.flop_base.specs.Sink.{grown}
-use Rattle.flop_base.specs.Standard.{sectors_at}
-use Rattle.flop_base.specs.declared.key.Chrn.{Chrn}
-use Rattle.flop_base.specs.declared.answers.Code.{Code}
-use Rattle.flop_base.specs.declared.answers.Status.{Status}
+use Rattle.laws_commands.proofs.Common.{flat_map, range_with_len, flat_map-append, append-nil, length-append, length-map, map-append, take_at, length-range_with_len, suc-mul, mul_assoc, Files, grown, sectors_at, Chrn, Code, Status, Disk, IsUndisturbed, Look, track_keys, AreFailing, length-track_keys, Request, Reply, Step, read_reply, IsImageOf, is_refusal, stop_status, Taken, Run, requests_of, has_refusal, World, Prints, IsPutFault, whole_status, Stop, bay_of, State, shape_of, Script, RunsScript, Part, asks, each, by_track, with_report, IsWhole, ask_run, ask_answered, prints_status, Passes, Passed, says_passes, at_once, run_both, each_nested, Did, over, failure_line, no_reads, one_more, verify_text, read_each, verify_opening, refused_read, refused_reads, ReadsDisk, IsUnmistaken, all_told_of, failing_line, TellsFailing, IsEndStatus}
 use Rattle.flop_base.specs.declared.answers.Status.TheVariants as status
-use Rattle.raw_image.specs.Disk.{Disk}
-use Rattle.flop_base.specs.Counters.{IsUndisturbed}
-use Rattle.track_model.specs.declared.Look.{Look}
-use Rattle.sector_map.specs.Standard.{track_keys, cylinder_keys, standard_keys}
-use Rattle.sector_map.specs.Failing.{AreFailing}
-use Rattle.sector_map.proofs.Laid.{length-track_keys}
-use Rattle.floppy_jobs.specs.declared.request.Request.{Request}
+use Rattle.sector_map.specs.Standard.{cylinder_keys, standard_keys}
 use Rattle.floppy_jobs.specs.declared.request.Request.TheVariants as request
-use Rattle.sector_model.specs.declared.reply.Reply.{Reply}
-use Rattle.sector_model.specs.Steps.{Step, read_reply, IsImageOf}
-use Rattle.sector_model.specs.Texts.{is_refusal, stop_status}
-use Rattle.sector_model.specs.Runs.{Taken, Run, requests_of, has_refusal}
-use Rattle.sector_model.specs.Plays.{World, Prints, IsPutFault, whole_status}
-use Rattle.sector_model.specs.declared.reply.Stop.{Stop}
 use Rattle.sector_model.specs.declared.reply.Stop.TheVariants as stop
-use Rattle.sector_model.specs.Stations.{bay_of}
-use Rattle.sector_model.specs.States.{State}
 use Rattle.sector_model.specs.declared.reply.Reason.TheVariants as reason
-use Rattle.floppy_session.specs.Shapes.{shape_of}
-use Rattle.commands.specs.Scripts.{Script, RunsScript}
-use Rattle.commands.specs.Parts.{Part, asks, through, each, by_track}
-use Rattle.commands.specs.Leading.{with_report}
-use Rattle.commands.proofs.Reading.{IsWhole, ask_run, ask_answered, prints_status}
-use Rattle.commands.proofs.Passed.{Passes, Passed, says_passes, at_once, run_both, each_nested, Did, over}
-use Rattle.disk_commands.specs.Verify.{failure_line, tells_failure, no_reads, one_more, verifies_record, verifies_track, verify_text, verify_script, reads_disk}
+use Rattle.commands.specs.Parts.{through}
+use Rattle.disk_commands.specs.Verify.{tells_failure, verifies_record, verifies_track, verify_script, reads_disk}
 use Rattle.disk_commands.specs.Disks.{sectors_of}
-use Rattle.laws_commands.specs.Requests.{read_each, verify_opening}
-use Rattle.laws_commands.specs.Verified.{refused_read, refused_reads, ReadsDisk, IsUnmistaken, all_told_of}
-use Rattle.laws_commands.specs.VerifyRuns.{failing_line, TellsFailing, IsEndStatus}
 use Rattle.laws_commands.proofs.TrackParts.{records_part}
 use Rattle.laws_commands.proofs.DiskOpening.{opening_passed}
 use Rattle.laws_commands.proofs.Verified.{disk_tells, opening_tells}
@@ -224,13 +192,7 @@ standard_count disk =
 pub not_put : (ended : Status) → IsEndStatus ended → IsPutFault ended → ⊥
 not_put status.NoMemory whole fault = whole
 not_put status.SinkFault whole fault = whole
-not_put status.AllOk whole fault = fault
-not_put status.SomeRefused whole fault = fault
-not_put status.BadImage whole fault = fault
-not_put status.Absent whole fault = fault
-not_put status.FileFault whole fault = fault
-not_put status.BadJob whole fault = fault
-not_put status.BadWords whole fault = fault
+not_put _ whole fault = fault
 
 pub not_stop : (cause : Stop) → IsEndStatus (stop_status cause) → ⊥
 not_stop (stop.BadImage name error) whole = whole

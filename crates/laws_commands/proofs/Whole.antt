@@ -2,55 +2,20 @@
 -- keys that aren't found.
 use Rattle.std.proofs.Common.{◌≡◌, ◌∙◌, List, [], ◌∷◌, ◌++◌, ℕ, length, ap, subst, inl, inr, append-nil, Option, Some, arith, ◌+◌, Bool, true, false, true≢false, refl, sym, append_assoc, ◌↔◌, None, ◌≢◌, ◌≤◌, ◌-◌}
 use Rattle.std.specs.Prelude.{is_some, ◌⊎◌, Contains, IfSome, All}
-use Rattle.std.specs.List.{list_all}
-use Rattle.std.proofs.lemmas.List.Elements.{All-from_recursion, All-map, All-weaker}
-use Rattle.flop_base.specs.Shelf.{Files, stored, file_at}
-use Rattle.flop_base.specs.Sink.{grown}
-use Rattle.flop_base.specs.Standard.{sectors_at}
-use Rattle.flop_base.specs.declared.answers.Status.{Status}
+use Rattle.laws_commands.proofs.Common.{list_all, All-from_recursion, All-map, All-weaker, Files, stored, file_at, grown, sectors_at, Status, Chrn, Disk, IsDisk, file_of, Two, in_bay, IsFaultless, IsUndisturbed, user_bytes, laid_tidy, Request, IsRegularDisk, Entry, IsOnMap, IsImageOf, Taken, requests_of, has_refusal, Run, World, is_refusal, State, Shape, shape_of, Script, Ends, Fails, RunsScript, StoresLast, IsStored, NotStored, IsStoreFault, carries, through, last_run, last_failed, last_stored, prints_status, Passed, Opened, joined, did_both, opens_passed, DoesAll, IsEndStatus, SomeStep, Gave, IsSure, HaveSameSector, IsUnmistaken, logged_keys, outcome_status, IsLog, log_text, LogLine, IsLogFound, IsFound, most_log_bytes, rescues, asked_keys, outcome_of, last_text, rescue_rest, Rescues, by_rest, HasLaidFields, IsNotStopped, count_writes, IsLogged, IsSaved, IsSettled, WasNotRead, BringsUpNoMark, HasTarget, diskette_for, HasShapeOf, StillHolds, KeepsEntries, outcome_in, IsRescue, IsNotFound, LogsNotFound, WasRefused, log_of, line_at, AreTidy}
 use Rattle.flop_base.specs.declared.answers.Status.TheVariants as status
-use Rattle.flop_base.specs.declared.key.Chrn.{Chrn}
-use Rattle.raw_image.specs.Disk.{Disk, IsDisk}
-use Rattle.raw_image.specs.Image.{file_of}
-use Rattle.flop_base.specs.Bays.{Two, in_bay}
-use Rattle.flop_base.specs.Counters.{IsFaultless, IsUndisturbed}
-use Rattle.flop_base.specs.Memory.{user_bytes}
-use Rattle.track_format.proofs.Laid.{laid_tidy}
-use Rattle.floppy_jobs.specs.declared.request.Request.{Request}
 use Rattle.floppy_jobs.specs.declared.request.Request.TheVariants as request
-use Rattle.sector_map.specs.Disks.{IsRegularDisk, Entry, IsOnMap}
-use Rattle.sector_model.specs.Steps.{IsImageOf}
-use Rattle.sector_model.specs.Runs.{Taken, requests_of, has_refusal, Run}
-use Rattle.sector_model.specs.Plays.{World}
-use Rattle.sector_model.specs.Texts.{is_refusal}
-use Rattle.sector_model.specs.States.{State}
-use Rattle.floppy_session.specs.declared.shape.Shape.{Shape}
-use Rattle.floppy_session.specs.Shapes.{shape_of}
-use Rattle.commands.specs.Scripts.{Script, Ends, Fails, RunsScript, StoresLast, IsStored, NotStored, IsStoreFault}
-use Rattle.commands.specs.Parts.{carries, may_starve, through}
-use Rattle.commands.proofs.Reading.{last_run, last_failed, last_stored, prints_status}
-use Rattle.commands.proofs.Passed.{Passed, Does, Opened, joined, did_both, opens_passed}
-use Rattle.laws_commands.specs.Done.{DoesAll}
-use Rattle.laws_commands.specs.VerifyRuns.{IsEndStatus}
+use Rattle.commands.specs.Parts.{may_starve}
+use Rattle.commands.proofs.Passed.{Does}
 use Rattle.laws_commands.proofs.VerifyRun.{not_put, end_is_whole}
 use Rattle.laws_commands.proofs.PutIn.{opened_shape}
 use Rattle.laws_commands.proofs.TrackParts.{did_all}
-use Rattle.laws_commands.specs.Copied.{SomeStep, Gave, IsSure}
-use Rattle.laws_commands.specs.EndsComplete.{HaveSameSector}
 use Rattle.laws_commands.proofs.Steps.{and_both, or_false, NeverFell, begins, ends_there, never_fell}
 use Rattle.laws_commands.proofs.Marks.{some_first, some_second}
-use Rattle.laws_commands.specs.Verified.{IsUnmistaken}
 use Rattle.laws_commands.proofs.Reading.{quiet_parts}
 use Rattle.laws_commands.proofs.Verified.{image_ranges}
-use Rattle.rescue.specs.Course.{logged_keys, outcome_status}
-use Rattle.rescue.specs.Log.{IsLog, log_text}
-use Rattle.rescue.specs.declared.line.LogLine.{LogLine}
 use Rattle.rescue.specs.declared.outcome.Outcome.{Outcome}
-use Rattle.disk_commands.specs.Logs.{IsLogFound, IsFound, most_log_bytes}
-use Rattle.disk_commands.specs.Rescue.{rescues, asked_keys, outcome_of, last_text, rescues_all, stores_log, rescue_found, rescue_rest, Rescues}
-use Rattle.disk_commands.proofs.RescueRests.{by_rest}
-use Rattle.laws_commands.specs.LaidFields.{HasLaidFields}
-use Rattle.laws_commands.specs.Rescued.{IsNotStopped, count_writes, IsLogged, IsSaved, IsSettled, WasNotRead, BringsUpNoMark, HasTarget, diskette_for, HasShapeOf, StillHolds, KeepsEntries, outcome_in, IsRescue, IsNotFound, LogsNotFound, WasRefused, log_of, line_at, AreTidy}
+use Rattle.disk_commands.specs.Rescue.{rescues_all, stores_log, rescue_found}
 use Rattle.laws_commands.proofs.Gone.{later_fine, not_refused, carried, GoesKeys, keys_gone, AreRefusals, Fell, fell_both, keys_fell, line_of_done, gave_reads, never_both}
 use Rattle.laws_commands.proofs.RescueOpening.{opening, ready_requests, second_request, formats_for, prepares_carried, HasOther, IsNew, begins_new, begins_again, holds_first, first_in, is_plain, plain_facts, plain_keep, opening_plain}
 use Rattle.laws_commands.proofs.RescueRecords.{asked_all, asked_distinct, shape_itself, shape_both, IsPart, SavesKeys, saves_keys, ReadsKey, some_apart, keys_read, keys_counted, index_of}
@@ -72,13 +37,7 @@ pub record StoresLog (log : List ℕ) (asked : ℕ) (lines : List LogLine) (old 
 not_store : (ended : Status) → IsEndStatus ended → IsStoreFault ended → ⊥
 not_store status.AllOk whole fault = fault
 not_store status.SomeRefused whole fault = fault
-not_store status.BadImage whole fault = whole
-not_store status.Absent whole fault = whole
-not_store status.FileFault whole fault = whole
-not_store status.BadJob whole fault = whole
-not_store status.BadWords whole fault = whole
-not_store status.NoMemory whole fault = whole
-not_store status.SinkFault whole fault = whole
+not_store _ whole fault = whole
 
 module _ (log : List ℕ) (asked : ℕ) (lines : List LogLine) (old : World) (course : List Taken) (new : World) (ended : Status) (whole : IsEndStatus ended) where
   abbrev Last : Type 0

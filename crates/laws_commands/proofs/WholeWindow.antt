@@ -1,9 +1,6 @@
 -- A whole window, written over a track that has some first words of it.
 use Rattle.std.proofs.Common.{arith, ◌≡◌, ◌∙◌, ◌+◌, ◌-◌, ◌<◌, ◌≤◌, ℕ, List, take, length, get_or, sym, ap, inl, inr}
-use Rattle.std.proofs.lemmas.Bool.{cases_lt}
-use Rattle.std.proofs.lemmas.List.{ext_get_or, length-take}
-use Rattle.flop_base.specs.Lists.{with_items}
-use Rattle.track_model.proofs.Splices.{length-with_items, with_items_before, with_items_at, with_items_behind}
+use Rattle.laws_commands.proofs.Common.{cases_lt, ext_get_or, length-take, with_items, length-with_items, with_items_before, with_items_at, with_items_behind}
 
 -- a track that has the first k words of a window, and that also has the whole window
 module _ (track mid words after : List ℕ) (start k : ℕ) (some : after ≡ with_items track start (take k words)) (most : k ≤ length words) (inside : start + k ≤ length track) (all : after ≡ with_items mid start (take (length words) words)) (fits : start + length words ≤ length mid) where

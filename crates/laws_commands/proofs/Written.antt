@@ -1,34 +1,7 @@
 -- Writes of the records of a formatted track, in one bay.
 use Rattle.std.proofs.Common.{arith, ◌≡◌, ◌≢◌, ◌↔◌, ◌∙◌, ◌+◌, ◌<◌, ◌≤◌, ℕ, zero, suc, Bool, true, false, List, [], ◌∷◌, length, refl, sym, ap, subst, Option, Some, Result, IsOk}
-use Rattle.std.specs.List.{list_all}
+use Rattle.laws_commands.proofs.Common.{list_all, Files, Chrn, Code, Disk, IsDisk, HasTrack, track_of, Two, with_bay, in_bay, user_bytes, bytes_from, Counters, IsFaultless, faults_of, IsAddressAt, IsLaid, HasFieldFor, IsTidy, written_laid, Entry, IsOnMap, IsRegularDisk, KeepsTracks, key_of, alike_tracks, keeps_itself, keeps_both, Reply, write_refusal, StationState, Bay, bay_of, State, Does, IsDriverCall, reply_of, is_refusal, WritesDrive, WritesTo, written_from, Taken, DoesAll, record_address, write_record, write_records, copied_entry}
 use Rattle.std.specs.Prelude.{◌==◌, if◌then◌else◌}
-use Rattle.flop_base.specs.Shelf.{Files}
-use Rattle.flop_base.specs.declared.key.Chrn.{Chrn}
-use Rattle.flop_base.specs.declared.answers.Code.{Code}
-use Rattle.raw_image.specs.Disk.{Disk, IsDisk, HasTrack, track_of}
-use Rattle.flop_base.specs.Bays.{Two, with_bay, in_bay}
-use Rattle.flop_base.specs.Memory.{user_bytes, bytes_from}
-use Rattle.flop_base.specs.Counters.{Counters, IsFaultless, faults_of}
-use Rattle.track_model.specs.Fields.{IsAddressAt}
-use Rattle.track_model.specs.Laid.{IsLaid}
-use Rattle.track_model.specs.Windows.{HasFieldFor, IsTidy}
-use Rattle.track_model.proofs.Laid.{written_laid}
-use Rattle.sector_map.specs.Disks.{Entry, IsOnMap, IsRegularDisk}
-use Rattle.sector_map.specs.KeptDisks.{KeepsTracks}
-use Rattle.sector_map.specs.Standard.{key_of}
-use Rattle.sector_map.proofs.KeptTracks.{alike_tracks, keeps_itself, keeps_both}
-use Rattle.sector_model.specs.declared.reply.Reply.{Reply}
-use Rattle.sector_model.specs.Orders.{write_refusal}
-use Rattle.sector_model.specs.Stations.{StationState, Bay, bay_of}
-use Rattle.sector_model.specs.States.{State}
-use Rattle.sector_model.specs.Steps.{Does, IsDriverCall, reply_of}
-use Rattle.sector_model.specs.Texts.{is_refusal}
-use Rattle.sector_model.specs.Writes.{WritesDrive, WritesTo, written_from}
-use Rattle.sector_model.specs.Runs.{Taken}
-use Rattle.laws_commands.specs.Done.{DoesAll}
-use Rattle.commands.specs.Records.{record_address}
-use Rattle.laws_commands.specs.Requests.{write_record, write_records}
-use Rattle.laws_commands.specs.Copied.{copied_entry}
 use Rattle.laws_commands.proofs.Prepared.{in_with}
 use Rattle.laws_commands.proofs.DiskRecords.{keys_from}
 use Rattle.laws_commands.proofs.UserMemory.{length-bytes_from}
@@ -155,9 +128,8 @@ write_keeps bay key true = refl
 write_keeps bay key false = refl
 
 pub writes_keep : (bay : ℕ) (keys : List Chrn) (marks : List Bool) → list_all keeps_drives (write_records bay keys marks) ≡ true
-writes_keep bay [] marks = refl
-writes_keep bay (key ∷ keys) [] = refl
 writes_keep bay (key ∷ keys) (deleted ∷ marks) = let first = write_keeps bay key deleted in rw first (writes_keep bay keys marks)
+writes_keep bay _ _ = refl
 
 other_key : (c h r s : ℕ) → (r ≡ s → ⊥) → key_of c h r ≢ key_of c h s
 other_key c h r s differ e = differ (ap (λ (k : Chrn). k.r) e)
@@ -184,8 +156,6 @@ all_writes tidy bay disk c h a zero [] old new told after course all count least
       names = ap (λ (s : State). s.names) same.0;
       files = same.1;
     }
-all_writes tidy bay disk c h a zero (deleted ∷ marks) old new told after course all count least most there valid regular has laid size faultless medium rate = absurd (omega (arith, count))
-all_writes tidy bay disk c h a (suc n) [] old new told after course all count least most there valid regular has laid size faultless medium rate = absurd (omega (arith, count))
 all_writes tidy bay disk c h a (suc n) (deleted ∷ marks) old new told after course all count least most there valid regular has laid size faultless medium rate =
     let asked = write_record bay (key_of c h a) deleted in
     let rest_asked = write_records bay (keys_from c h (a + 1) n) marks in
@@ -218,3 +188,4 @@ all_writes tidy bay disk c h a (suc n) (deleted ∷ marks) old new told after co
       names = rest.names ∙ one.names;
       files = rest.files ∙ one.files;
     }
+all_writes tidy bay disk c h a _ _ old new told after course all count least most there valid regular has laid size faultless medium rate = absurd (omega (arith, count))

@@ -1,24 +1,8 @@
 -- A write to a regular disk, behind the only address field of its key. If it is Tidy there, the track then has the
 -- whole window.
 use Rattle.std.proofs.Common.{arith, ◌≡◌, ◌≢◌, ◌↔◌, ◌+◌, ◌≤◌, ℕ, Bool, List, [], ◌∷◌, ◌++◌, length, sym, subst, inl, Option, Some, Result, IsOk}
-use Rattle.flop_base.specs.declared.key.Chrn.{Chrn}
-use Rattle.flop_base.specs.declared.answers.Code.{Code}
-use Rattle.raw_image.specs.Disk.{Disk, HasTrack, track_of}
-use Rattle.flop_base.specs.Memory.{bytes_from}
-use Rattle.flop_base.specs.Counters.{IsFaultless}
-use Rattle.track_model.specs.Fields.{IsAddressAt, content_size}
-use Rattle.track_model.specs.Laid.{with_window}
-use Rattle.track_model.specs.Windows.{window_word, cut_of, IsTidy}
-use Rattle.sector_map.specs.Changes.{Change, Written, window_of, IsChange}
+use Rattle.laws_commands.proofs.Common.{Chrn, Code, Disk, HasTrack, track_of, bytes_from, IsFaultless, IsAddressAt, content_size, with_window, window_word, cut_of, IsTidy, Change, Written, window_of, IsChange, Entry, IsOnMap, IsRegularDisk, KeepsTracks, change_keeps_tracks, change_keeps_address, with_track_keeps, alike_tracks, met_track, key_cylinder, one_address, StationState, bay_of, met, ChangesDisk, Reaches, WritesDrive, ChangesAlone, written_from}
 use Rattle.sector_map.specs.ChangedDisks.{entry_of}
-use Rattle.sector_map.specs.Disks.{Entry, IsOnMap, IsRegularDisk}
-use Rattle.sector_map.specs.KeptDisks.{KeepsTracks}
-use Rattle.sector_map.proofs.Changed.{change_keeps_tracks, change_keeps_address}
-use Rattle.sector_map.proofs.KeptTracks.{with_track_keeps, alike_tracks}
-use Rattle.sector_map.proofs.MetTracks.{met_track}
-use Rattle.sector_map.proofs.RegularTracks.{key_cylinder, one_address}
-use Rattle.sector_model.specs.Stations.{StationState, bay_of, met}
-use Rattle.sector_model.specs.Writes.{ChangesDisk, Reaches, WritesDrive, ChangesAlone, written_from}
 use Rattle.laws_commands.proofs.WholeWindow.{whole_is}
 
 -- ---- the last change

@@ -1,6 +1,6 @@
 -- Accesses past the driver.
 use Rattle.std.specs.Prelude.{ℕ, ◌+◌, ◌≤◌}
-use Rattle.sector_model.specs.Plays.{World}
+use Rattle.laws_commands.specs.Common.{World}
 
 -- Between two worlds the station was accessed past the driver at most this often: media were put in or taken out.
 abbrev pub AccessesAtMost : ℕ → World → World → Type 0

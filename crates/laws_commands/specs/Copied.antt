@@ -1,21 +1,8 @@
 -- Disks that were copied.
 use Rattle.std.specs.Prelude.{◌≡◌, ◌≤◌, ◌⊎◌, ℕ, Bool, false, List, [], ◌∷◌, Option, Some}
-use Rattle.flop_base.specs.Shelf.{Files, stored}
-use Rattle.flop_base.specs.Standard.{words_at, sectors_at}
-use Rattle.flop_base.specs.declared.key.Chrn.{Chrn}
-use Rattle.raw_image.specs.Disk.{Disk, IsDisk, HasTrack, track_of}
-use Rattle.raw_image.specs.Image.{file_of}
-use Rattle.track_model.specs.Fields.{IsAddressAt, content_size}
+use Rattle.laws_commands.specs.Common.{Files, stored, words_at, sectors_at, Chrn, Disk, IsDisk, HasTrack, track_of, file_of, IsAddressAt, content_size, Counters, IsFaultless, IsLaid, bytes_from, Entry, IsOnMap, IsRegularDisk, key_of, Taken, State, IsImageOf}
 use Rattle.track_model.specs.Sectors.{IsSector, IsUnder, IsLone}
-use Rattle.flop_base.specs.Counters.{Counters, IsFaultless}
-use Rattle.track_model.specs.Laid.{IsLaid}
-use Rattle.flop_base.specs.Memory.{bytes_from}
 use Rattle.floppy_jobs.specs.declared.request.Request.TheVariants as request
-use Rattle.sector_map.specs.Disks.{Entry, IsOnMap, IsRegularDisk}
-use Rattle.sector_map.specs.Standard.{key_of}
-use Rattle.sector_model.specs.Runs.{Taken}
-use Rattle.sector_model.specs.States.{State}
-use Rattle.sector_model.specs.Steps.{IsImageOf}
 use Rattle.laws_commands.specs.Done.{DoesAll}
 use Rattle.laws_commands.specs.LaidFields.{HasLaidFields}
 use Rattle.laws_commands.specs.Requests.{mark_of, marks_read, copy_requests}

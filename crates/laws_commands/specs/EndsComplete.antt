@@ -1,19 +1,9 @@
 -- When nothing can go wrong with a command on whole disks, and how the command ends then.
 use Rattle.std.specs.Prelude.{◌≡◌, ◌↔◌, ℕ, Bool, false, List, [], All, Contains, Option, Some, IfSome}
-use Rattle.flop_base.specs.Shelf.{Files, file_at, stored}
-use Rattle.flop_base.specs.declared.key.Chrn.{Chrn}
-use Rattle.flop_base.specs.declared.answers.Rate.{Rate}
-use Rattle.flop_base.specs.declared.answers.Status.{Status}
+use Rattle.laws_commands.specs.Common.{Files, file_at, stored, Chrn, Rate, Status, Disk, IsDisk, track_of, file_of, Entry, IsOnMap, IsRegularDisk, IsFresh, IsImageOf, World, log_text}
 use Rattle.flop_base.specs.declared.answers.Status.TheVariants as status
-use Rattle.raw_image.specs.Disk.{Disk, IsDisk, track_of}
-use Rattle.raw_image.specs.Image.{file_of}
 use Rattle.track_model.specs.Sectors.{IsSector}
-use Rattle.sector_map.specs.Disks.{Entry, IsOnMap, IsRegularDisk}
-use Rattle.sector_model.specs.Stations.{IsFresh}
-use Rattle.sector_model.specs.Steps.{IsImageOf}
-use Rattle.sector_model.specs.Plays.{World}
 use Rattle.sector_model.specs.Ties.{HasNothingLeft}
-use Rattle.rescue.specs.Log.{log_text}
 use Rattle.laws_commands.specs.LaidFields.{HasLaidFields}
 use Rattle.laws_commands.specs.Verified.{IsStandardKey}
 

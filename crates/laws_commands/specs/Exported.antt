@@ -1,14 +1,7 @@
 -- Flat files that were made from disks.
 use Rattle.std.specs.Prelude.{◌≡◌, ℕ, Bool, List, length, Option}
-use Rattle.flop_base.specs.Shelf.{Files, stored}
-use Rattle.flop_base.specs.Standard.{sectors_at}
-use Rattle.raw_image.specs.Disk.{Disk, track_of}
+use Rattle.laws_commands.specs.Common.{Files, stored, sectors_at, Disk, track_of, Counters, key_of, IsSector, flat_length, Taken, IsImageOf}
 use Rattle.track_model.specs.Sectors as track
-use Rattle.flop_base.specs.Counters.{Counters}
-use Rattle.sector_map.specs.Standard.{key_of}
-use Rattle.sector_map.specs.Flat.{IsSector, flat_length}
-use Rattle.sector_model.specs.Runs.{Taken}
-use Rattle.sector_model.specs.Steps.{IsImageOf}
 use Rattle.laws_commands.specs.Copied.{SomeStep, Gave, IsFieldOf, IsSure}
 use Rattle.laws_commands.specs.Imported.{sector_bytes}
 

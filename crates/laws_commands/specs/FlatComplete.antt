@@ -1,6 +1,6 @@
 -- Disks that have each sector of a flat file.
 use Rattle.std.specs.Prelude.{◌≡◌}
-use Rattle.raw_image.specs.Disk.{Disk}
+use Rattle.laws_commands.specs.Common.{Disk}
 use Rattle.laws_commands.specs.EndsComplete.{IsReadable}
 
 -- a regular disk of 80 cylinders and two heads that has each of its standard keys

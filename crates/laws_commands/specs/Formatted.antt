@@ -1,18 +1,8 @@
 -- Formatted disks.
 use Rattle.std.specs.Prelude.{◌≡◌, ◌≤◌, ℕ, false, List, Option, Some, replicate}
-use Rattle.flop_base.specs.Shelf.{Files, stored}
-use Rattle.flop_base.specs.Standard.{words_at, gap_at, standard_fill, standard_code, sectors_at}
-use Rattle.flop_base.specs.declared.answers.Rate.{Rate}
-use Rattle.raw_image.specs.Disk.{Disk, IsDisk, HasTrack, track_of}
-use Rattle.raw_image.specs.Image.{file_of}
-use Rattle.track_model.specs.Fields.{content_size}
-use Rattle.flop_base.specs.Bays.{in_bay}
-use Rattle.sector_map.specs.Disks.{Entry}
-use Rattle.sector_map.specs.Standard.{key_of}
+use Rattle.laws_commands.specs.Common.{Files, stored, words_at, gap_at, standard_fill, standard_code, sectors_at, Rate, Disk, IsDisk, HasTrack, track_of, file_of, content_size, in_bay, Entry, key_of, bay_of, State}
 use Rattle.sector_map.specs.Layings.{formatted}
 use Rattle.sector_map.specs.LaidDisks.{format_at}
-use Rattle.sector_model.specs.Stations.{bay_of}
-use Rattle.sector_model.specs.States.{State}
 
 -- the track of a standard format: the layout of its keys, with the gap of the rate and the fill F6
 abbrev pub standard_track : Rate → ℕ → ℕ → List ℕ

@@ -1,14 +1,6 @@
 -- Disks that were made from flat files.
 use Rattle.std.specs.Prelude.{◌≡◌, ℕ, false, List, Option}
-use Rattle.flop_base.specs.Shelf.{Files, stored}
-use Rattle.flop_base.specs.Standard.{words_at, sectors_at}
-use Rattle.flop_base.specs.declared.answers.Rate.{Rate}
-use Rattle.raw_image.specs.Disk.{Disk, IsDisk}
-use Rattle.raw_image.specs.Image.{file_of}
-use Rattle.flop_base.specs.Memory.{bytes_from}
-use Rattle.sector_map.specs.Disks.{IsOnMap, IsRegularDisk}
-use Rattle.sector_map.specs.Flat.{IsSector, sector_place}
-use Rattle.disk_commands.specs.FlatFiles.{IsFlatFile}
+use Rattle.laws_commands.specs.Common.{Files, stored, words_at, sectors_at, Rate, Disk, IsDisk, file_of, bytes_from, IsOnMap, IsRegularDisk, IsSector, sector_place, IsFlatFile}
 use Rattle.laws_commands.specs.Copied.{copied_entry}
 use Rattle.laws_commands.specs.LaidFields.{HasLaidFields}
 

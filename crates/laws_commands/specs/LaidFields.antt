@@ -1,9 +1,6 @@
 -- Disks on which no write brings up an address mark.
 use Rattle.std.specs.Prelude.{ℕ}
-use Rattle.flop_base.specs.declared.key.Chrn.{Chrn}
-use Rattle.raw_image.specs.Disk.{Disk, HasTrack, track_of}
-use Rattle.track_model.specs.Fields.{IsAddressAt}
-use Rattle.track_model.specs.Laid.{IsLaid}
+use Rattle.laws_commands.specs.Common.{Chrn, Disk, HasTrack, track_of, IsAddressAt, IsLaid}
 
 -- Each address field of the disk is on a Laid track. No write to it brings up an address mark, however short the write
 -- stops.

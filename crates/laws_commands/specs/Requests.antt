@@ -1,16 +1,8 @@
 -- The requests of the commands on whole disks, one list for each command. Tracks are listed by cylinder, then head.
 use Rattle.std.specs.Prelude.{ℕ, Bool, true, false, List, [], ◌∷◌, ◌++◌, map, take, drop}
-use Rattle.std.specs.List.{flat_map, range_with_len}
-use Rattle.flop_base.specs.Standard.{sectors_at}
-use Rattle.flop_base.specs.declared.key.Chrn.{Chrn}
-use Rattle.flop_base.specs.declared.answers.Rate.{Rate}
-use Rattle.raw_image.specs.Disk.{Disk}
-use Rattle.sector_map.specs.Standard.{track_keys, standard_keys}
-use Rattle.floppy_jobs.specs.declared.request.Request.{Request}
+use Rattle.laws_commands.specs.Common.{flat_map, range_with_len, sectors_at, Chrn, Rate, Disk, track_keys, standard_keys, Request, Reply, Taken}
 use Rattle.floppy_jobs.specs.declared.request.Request.TheVariants as request
-use Rattle.sector_model.specs.declared.reply.Reply.{Reply}
 use Rattle.sector_model.specs.declared.reply.Reply.TheVariants as reply
-use Rattle.sector_model.specs.Runs.{Taken}
 use Rattle.floppy_session.specs.Blanks.{blank_request}
 use Rattle.commands.specs.Parts.{rate_requests}
 use Rattle.commands.specs.Records.{record_address}

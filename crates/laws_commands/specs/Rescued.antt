@@ -1,41 +1,15 @@
 -- Rescues that went through all their requests, and what they stored.
 use Rattle.std.specs.Prelude.{◌≡◌, ◌↔◌, ◌⊎◌, ℕ, ◌+◌, Bool, true, false, List, [], ◌∷◌, ◌++◌, length, map, All, Contains, Option, Some, None, IfSome, if◌then◌else◌}
-use Rattle.flop_base.specs.Shelf.{Files, file_at, stored}
-use Rattle.flop_base.specs.Sink.{grown}
-use Rattle.flop_base.specs.Standard.{sectors_at}
-use Rattle.flop_base.specs.declared.key.Chrn.{Chrn}
-use Rattle.flop_base.specs.declared.answers.Code.{Code}
-use Rattle.flop_base.specs.declared.answers.Status.{Status}
-use Rattle.raw_image.specs.Disk.{Disk, IsDisk, HasTrack, track_of}
-use Rattle.raw_image.specs.Image.{file_of}
-use Rattle.flop_base.specs.Memory.{bytes_from}
-use Rattle.track_model.specs.declared.Look.{Look}
-use Rattle.track_model.specs.declared.Look.TheVariants.{Found}
-use Rattle.track_model.specs.Fields.{IsAddressAt, content_size}
+use Rattle.laws_commands.specs.Common.{Files, file_at, stored, grown, sectors_at, Chrn, Code, Status, Disk, IsDisk, HasTrack, track_of, file_of, bytes_from, Look, Found, IsAddressAt, content_size, Request, AreFailing, Entry, IsOnMap, IsRegularDisk, LookOn, Reply, State, IsImageOf, blank_of, Taken, World, StationState, bay_of, shape_of, read_of, logged_keys, outcome_status, log_text, LogLine, IsLogFound, asked_keys, last_text}
 use Rattle.track_model.specs.Windows.{IsTidy}
-use Rattle.floppy_jobs.specs.declared.request.Request.{Request}
 use Rattle.floppy_jobs.specs.declared.request.Request.TheVariants as request
-use Rattle.sector_map.specs.Failing.{AreFailing}
-use Rattle.sector_map.specs.Disks.{Entry, IsOnMap, IsRegularDisk, LookOn}
-use Rattle.sector_model.specs.declared.reply.Reply.{Reply}
 use Rattle.sector_model.specs.declared.reply.Reply.TheVariants as reply
 use Rattle.sector_model.specs.declared.reply.Reason.TheVariants as reason
-use Rattle.sector_model.specs.States.{State}
-use Rattle.sector_model.specs.Steps.{IsImageOf, blank_of}
 use Rattle.sector_model.specs.Texts.{is_refusal}
-use Rattle.sector_model.specs.Runs.{Taken}
-use Rattle.sector_model.specs.Plays.{World}
-use Rattle.sector_model.specs.Stations.{StationState, bay_of}
-use Rattle.floppy_session.specs.Shapes.{shape_of}
 use Rattle.laws_commands.specs.Copied.{SomeStep, Gave, IsFieldOf}
 use Rattle.laws_commands.specs.LaidFields.{HasLaidFields}
 use Rattle.laws_commands.specs.Verified.{all_told_of}
-use Rattle.rescue.specs.Course.{read_of, logged_keys, outcome_status}
-use Rattle.rescue.specs.Log.{log_text}
-use Rattle.rescue.specs.declared.line.LogLine.{LogLine}
 use Rattle.rescue.specs.declared.outcome.Outcome.{Outcome}
-use Rattle.disk_commands.specs.Logs.{IsLogFound}
-use Rattle.disk_commands.specs.Rescue.{asked_keys, last_text}
 
 -- ---- The lines of a new log, from the course of a rescue.
 

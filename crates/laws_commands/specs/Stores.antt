@@ -1,18 +1,8 @@
 -- Which stores are made, in which order, and how often.
 use Rattle.std.specs.Prelude.{◌≡◌, ℕ, List, [], ◌∷◌, ◌++◌, Option, Some, None}
-use Rattle.flop_base.specs.Bays.{in_bay}
-use Rattle.flop_base.specs.Shelf.{Files, Store, stored}
-use Rattle.raw_image.specs.Disk.{Disk}
-use Rattle.raw_image.specs.Image.{file_of}
-use Rattle.floppy_jobs.specs.declared.request.Request.{Request}
+use Rattle.laws_commands.specs.Common.{in_bay, Files, Store, stored, Disk, file_of, Request, Reply, bay_of, State, Taken, log_text, LogLine}
 use Rattle.floppy_jobs.specs.declared.request.Request.TheVariants as request
-use Rattle.sector_model.specs.declared.reply.Reply.{Reply}
 use Rattle.sector_model.specs.declared.reply.Reply.TheVariants as reply
-use Rattle.sector_model.specs.Stations.{bay_of}
-use Rattle.sector_model.specs.States.{State}
-use Rattle.sector_model.specs.Runs.{Taken}
-use Rattle.rescue.specs.Log.{log_text}
-use Rattle.rescue.specs.declared.line.LogLine.{LogLine}
 
 -- ---- Lists of stores.
 

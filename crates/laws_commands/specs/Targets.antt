@@ -1,10 +1,6 @@
 -- Disks that a rescue may go on with.
 use Rattle.std.specs.Prelude.{◌≡◌, ℕ, false, List, Option}
-use Rattle.flop_base.specs.Shelf.{Files}
-use Rattle.flop_base.specs.declared.key.Chrn.{Chrn}
-use Rattle.raw_image.specs.Disk.{Disk, IsDisk}
-use Rattle.sector_map.specs.Disks.{IsRegularDisk}
-use Rattle.sector_model.specs.Steps.{IsImageOf}
+use Rattle.laws_commands.specs.Common.{Files, Chrn, Disk, IsDisk, IsRegularDisk, IsImageOf}
 use Rattle.laws_commands.specs.EndsComplete.{HasKey}
 use Rattle.laws_commands.specs.LaidFields.{HasLaidFields}
 use Rattle.laws_commands.specs.Verified.{IsStandardKey}

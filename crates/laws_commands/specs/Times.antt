@@ -1,15 +1,8 @@
 -- How long whole commands last at most, and how many port accesses they make, whatever faults come.
 use Rattle.std.specs.Prelude.{false, ℕ, ◌+◌, ◌*◌, ◌≤◌, List, [], ◌∷◌}
-use Rattle.flop_base.specs.Standard.{sectors_at, words_at}
-use Rattle.flop_base.specs.declared.answers.Rate.{Rate}
-use Rattle.flop_base.specs.declared.answers.Rate.TheVariants.{R500, R250}
-use Rattle.raw_image.specs.Disk.{Disk}
-use Rattle.floppy_jobs.specs.declared.request.Request.{Request}
+use Rattle.laws_commands.specs.Common.{sectors_at, words_at, Rate, R500, R250, Disk, Request, bay_of, State, Taken}
 use Rattle.floppy_jobs.specs.declared.request.Request.TheVariants as request
 use Rattle.sector_model.specs.Lasting.{format_once_port_accesses, format_steps, format_turns, turn_of}
-use Rattle.sector_model.specs.Stations.{bay_of}
-use Rattle.sector_model.specs.States.{State}
-use Rattle.sector_model.specs.Runs.{Taken}
 
 -- ---- What keeps a station within bounds.
 

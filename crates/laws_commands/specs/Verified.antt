@@ -1,24 +1,10 @@
 -- Disks that are read whole.
 use Rattle.std.specs.Prelude.{◌≡◌, ◌≤◌, ℕ, List, [], ◌∷◌, false, length, take, Option, Some}
-use Rattle.std.specs.List.{flat_map}
-use Rattle.flop_base.specs.Shelf.{Files}
-use Rattle.flop_base.specs.Standard.{sectors_at, standard_code}
-use Rattle.flop_base.specs.declared.key.Chrn.{Chrn}
-use Rattle.flop_base.specs.declared.answers.Code.{Code}
+use Rattle.laws_commands.specs.Common.{flat_map, Files, sectors_at, standard_code, Chrn, Code, Disk, HasTrack, track_of, Look, Found, NoMark, NoSector, NoData, BadCrc, IsAddressAt, IsPlain, Request, Reply, State, IsImageOf, Taken, Run, requests_of, has_refusal}
 use Rattle.flop_base.specs.declared.answers.Code.TheVariants as code
-use Rattle.raw_image.specs.Disk.{Disk, HasTrack, track_of}
-use Rattle.track_model.specs.declared.Look.{Look}
-use Rattle.track_model.specs.declared.Look.TheVariants.{Found, NoMark, NoSector, NoData, BadCrc}
-use Rattle.track_model.specs.Fields.{IsAddressAt}
-use Rattle.track_model.specs.Sectors.{IsPlain}
-use Rattle.floppy_jobs.specs.declared.request.Request.{Request}
 use Rattle.floppy_jobs.specs.declared.request.Request.TheVariants as request
-use Rattle.sector_model.specs.declared.reply.Reply.{Reply}
 use Rattle.sector_model.specs.declared.reply.Reply.TheVariants as reply
 use Rattle.sector_model.specs.declared.reply.Reason.TheVariants as reason
-use Rattle.sector_model.specs.States.{State}
-use Rattle.sector_model.specs.Steps.{IsImageOf}
-use Rattle.sector_model.specs.Runs.{Taken, Run, requests_of, has_refusal}
 use Rattle.laws_commands.specs.Requests.{verify_opening, verify_requests}
 
 -- a key of the standard format of a disk

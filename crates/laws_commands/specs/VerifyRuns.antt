@@ -1,16 +1,9 @@
 -- What a verify prints.
 use Rattle.std.specs.Prelude.{◌≡◌, ℕ, ◌-◌, nat_le, List, [], ◌∷◌, ◌++◌, length, map}
-use Rattle.flop_base.specs.Sink.{grown}
-use Rattle.flop_base.specs.declared.key.Chrn.{Chrn}
-use Rattle.flop_base.specs.declared.answers.Code.{Code}
-use Rattle.flop_base.specs.declared.answers.Status.{Status}
+use Rattle.laws_commands.specs.Common.{grown, Chrn, Code, Status, Disk, World, whole_status, shape_of, failure_line, verify_text}
 use Rattle.flop_base.specs.declared.answers.Status.TheVariants as status
-use Rattle.raw_image.specs.Disk.{Disk}
 use Rattle.sector_model.specs.declared.reply.Reason.TheVariants as reason
-use Rattle.sector_model.specs.Plays.{World, whole_status}
-use Rattle.floppy_session.specs.Shapes.{shape_of}
 use Rattle.disk_commands.specs.Disks.{sectors_of}
-use Rattle.disk_commands.specs.Verify.{failure_line, verify_text}
 
 -- the line of a key that can't be read, with its code
 abbrev pub failing_line : Chrn × Code → List ℕ

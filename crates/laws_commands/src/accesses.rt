@@ -1,12 +1,6 @@
 // How often the commands access media past the driver.
 ghost use Rattle.std.specs.Prelude.{List};
-ghost use Rattle.flop_base.specs.declared.answers.Status.{Status};
-ghost use Rattle.sector_model.specs.Runs.{Taken};
-ghost use Rattle.sector_model.specs.Plays.{World};
-ghost use Rattle.commands.specs.Scripts.{RunsScript};
-ghost use Rattle.disk_commands.specs.Format.{format_script};
-ghost use Rattle.disk_commands.specs.Verify.{verify_script};
-ghost use Rattle.disk_commands.specs.Copy.{copy_script};
+ghost use Rattle.laws_commands.specs.Common.{Status, Taken, World, RunsScript, format_script, verify_script, copy_script};
 ghost use Rattle.laws_commands.specs.Accesses.{AccessesAtMost};
 
 use flop_base::Rate;

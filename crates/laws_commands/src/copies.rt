@@ -1,11 +1,6 @@
 // Disks that were copied.
 ghost use Rattle.std.specs.Prelude.{◌≡◌, List, Option, Some, length};
-ghost use Rattle.flop_base.specs.Shelf.{Files};
-ghost use Rattle.raw_image.specs.Disk.{Disk};
-ghost use Rattle.flop_base.specs.Memory.{user_bytes};
-ghost use Rattle.flop_base.specs.Counters.{IsFaultless};
-ghost use Rattle.sector_model.specs.States.{State};
-ghost use Rattle.sector_model.specs.Runs.{Taken};
+ghost use Rattle.laws_commands.specs.Common.{Files, Disk, user_bytes, IsFaultless, State, Taken};
 ghost use Rattle.laws_commands.specs.Copied.{CopiesDisk, StoresCopy};
 
 /// A law on a run in which each request of the command that copies was done, while the drive of bay 1 had no fault. The

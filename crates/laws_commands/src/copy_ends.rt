@@ -1,13 +1,6 @@
 // The command that copies, when nothing can go wrong.
 ghost use Rattle.std.specs.Prelude.{◌≡◌, Some};
-ghost use Rattle.flop_base.specs.Shelf.{Files};
-ghost use Rattle.flop_base.specs.declared.answers.Status.{Status};
-ghost use Rattle.raw_image.specs.Disk.{Disk};
-ghost use Rattle.sector_model.specs.Steps.{IsImageOf};
-ghost use Rattle.sector_model.specs.Plays.{World};
-ghost use Rattle.commands.specs.Scripts.{RunsScript};
-ghost use Rattle.commands.specs.Leading.{Runs};
-ghost use Rattle.disk_commands.specs.Copy.{copy_script};
+ghost use Rattle.laws_commands.specs.Common.{Files, Status, Disk, IsImageOf, World, RunsScript, Runs, copy_script};
 ghost use Rattle.laws_commands.specs.EndsComplete.{BeginsSound, EndsWellOrOutside, IsReadable, StoresSameSectors};
 
 /// A law on a copy in a fresh station, where no drive can have a fault any more and no DMA request can wait too long.

@@ -1,14 +1,6 @@
 // The command that copies a disk.
 ghost use Rattle.std.specs.Prelude.{◌≡◌, List, Some, length};
-ghost use Rattle.flop_base.specs.Shelf.{Files};
-ghost use Rattle.raw_image.specs.Disk.{Disk};
-ghost use Rattle.flop_base.specs.Counters.{IsFaultless};
-ghost use Rattle.flop_base.specs.Memory.{user_bytes};
-ghost use Rattle.sector_model.specs.Steps.{IsImageOf};
-ghost use Rattle.sector_model.specs.Runs.{Taken};
-ghost use Rattle.sector_model.specs.Plays.{World};
-ghost use Rattle.commands.specs.Scripts.{RunsScript};
-ghost use Rattle.disk_commands.specs.Copy.{copy_script};
+ghost use Rattle.laws_commands.specs.Common.{Files, Disk, IsFaultless, user_bytes, IsImageOf, Taken, World, RunsScript, copy_script};
 ghost use Rattle.laws_commands.specs.Copied.{StoresCopy};
 
 use flop_base::Status;

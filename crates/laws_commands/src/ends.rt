@@ -1,17 +1,7 @@
 // The commands on flat files, when nothing can go wrong.
 ghost use Rattle.std.specs.Prelude.{◌≡◌, ℕ, List, Some};
-ghost use Rattle.flop_base.specs.Shelf.{Files};
-ghost use Rattle.flop_base.specs.declared.answers.Rate.{Rate};
-ghost use Rattle.flop_base.specs.declared.answers.Status.{Status};
-ghost use Rattle.raw_image.specs.Disk.{Disk};
-ghost use Rattle.sector_model.specs.Steps.{IsImageOf};
-ghost use Rattle.sector_model.specs.Plays.{World};
-ghost use Rattle.commands.specs.Scripts.{RunsScript};
-ghost use Rattle.commands.specs.Leading.{Runs};
+ghost use Rattle.laws_commands.specs.Common.{Files, Rate, Status, Disk, IsImageOf, World, RunsScript, Runs, IsFlatFile, Imports, export_script};
 ghost use Rattle.laws_commands.specs.EndsComplete.{BeginsSound, EndsWellOrOutside};
-ghost use Rattle.disk_commands.specs.FlatFiles.{IsFlatFile};
-ghost use Rattle.disk_commands.specs.Import.{Imports};
-ghost use Rattle.disk_commands.specs.Export.{export_script};
 ghost use Rattle.laws_commands.specs.Imported.{StoresDisk};
 ghost use Rattle.laws_commands.specs.Exported.{StoresFlatOf};
 ghost use Rattle.laws_commands.specs.FlatComplete.{IsWholeDisk};

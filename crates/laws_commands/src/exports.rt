@@ -1,10 +1,6 @@
 // The command that exports.
 ghost use Rattle.std.specs.Prelude.{◌≡◌, List, length};
-ghost use Rattle.flop_base.specs.Memory.{user_bytes};
-ghost use Rattle.sector_model.specs.Runs.{Taken};
-ghost use Rattle.sector_model.specs.Plays.{World};
-ghost use Rattle.commands.specs.Scripts.{RunsScript};
-ghost use Rattle.disk_commands.specs.Export.{export_script};
+ghost use Rattle.laws_commands.specs.Common.{user_bytes, Taken, World, RunsScript, export_script};
 ghost use Rattle.laws_commands.specs.Exported.{StoresExported};
 
 use flop_base::Status;

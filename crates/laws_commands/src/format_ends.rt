@@ -1,11 +1,6 @@
 // The command that formats, when nothing can go wrong.
 ghost use Rattle.std.specs.Prelude.{◌≤◌};
-ghost use Rattle.flop_base.specs.declared.answers.Status.{Status};
-ghost use Rattle.raw_image.specs.Disk.{Disk};
-ghost use Rattle.sector_model.specs.Plays.{World};
-ghost use Rattle.commands.specs.Scripts.{RunsScript};
-ghost use Rattle.commands.specs.Leading.{Runs};
-ghost use Rattle.disk_commands.specs.Format.{format_script};
+ghost use Rattle.laws_commands.specs.Common.{Status, Disk, World, RunsScript, Runs, format_script};
 ghost use Rattle.laws_commands.specs.Formatted.{StoresFormatted, IsFormattedDisk};
 ghost use Rattle.laws_commands.specs.EndsComplete.{BeginsSound, EndsWellOrOutside, IsReadable};
 

@@ -1,10 +1,6 @@
 // The command that formats a disk.
 ghost use Rattle.std.specs.Prelude.{List};
-ghost use Rattle.flop_base.specs.Counters.{IsFaultless};
-ghost use Rattle.sector_model.specs.Runs.{Taken};
-ghost use Rattle.sector_model.specs.Plays.{World};
-ghost use Rattle.commands.specs.Scripts.{RunsScript};
-ghost use Rattle.disk_commands.specs.Format.{format_script};
+ghost use Rattle.laws_commands.specs.Common.{IsFaultless, Taken, World, RunsScript, format_script};
 ghost use Rattle.laws_commands.specs.Formatted.{StoresFormatted};
 
 use flop_base::{Rate, Status};

@@ -1,12 +1,6 @@
 // Disks that were formatted.
 ghost use Rattle.std.specs.Prelude.{◌≡◌, ◌≤◌, ℕ, List, Option};
-ghost use Rattle.flop_base.specs.Shelf.{Files};
-ghost use Rattle.flop_base.specs.Standard.{sectors_at};
-ghost use Rattle.raw_image.specs.Disk.{Disk, HasTrack};
-ghost use Rattle.flop_base.specs.Counters.{IsFaultless};
-ghost use Rattle.sector_map.specs.Disks.{Entry, IsOnMap, IsRegularDisk};
-ghost use Rattle.sector_model.specs.States.{State};
-ghost use Rattle.sector_model.specs.Runs.{Taken};
+ghost use Rattle.laws_commands.specs.Common.{Files, sectors_at, Disk, HasTrack, IsFaultless, Entry, IsOnMap, IsRegularDisk, State, Taken};
 ghost use Rattle.laws_commands.specs.Done.{DoesAll};
 ghost use Rattle.laws_commands.specs.Requests.{formatting, format_requests};
 ghost use Rattle.laws_commands.specs.Formatted.{IsFormattedDisk, LeavesFormatted, StoresFormatted, formatted_entry, IsFormattedEntry};

@@ -1,10 +1,6 @@
 // The command that imports.
 ghost use Rattle.std.specs.Prelude.{◌≡◌, List, length};
-ghost use Rattle.flop_base.specs.Counters.{IsFaultless};
-ghost use Rattle.flop_base.specs.Memory.{user_bytes};
-ghost use Rattle.sector_model.specs.Runs.{Taken};
-ghost use Rattle.sector_model.specs.Plays.{World};
-ghost use Rattle.disk_commands.specs.Import.{Imports};
+ghost use Rattle.laws_commands.specs.Common.{IsFaultless, user_bytes, Taken, World, Imports};
 ghost use Rattle.laws_commands.specs.Imported.{StoresImported};
 
 use flop_base::Status;

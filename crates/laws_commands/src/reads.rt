@@ -1,14 +1,6 @@
 // Disks that were read whole.
 ghost use Rattle.std.specs.Prelude.{◌≡◌, List, Option};
-ghost use Rattle.flop_base.specs.Shelf.{Files};
-ghost use Rattle.flop_base.specs.declared.key.Chrn.{Chrn};
-ghost use Rattle.raw_image.specs.Disk.{Disk};
-ghost use Rattle.track_model.specs.declared.Look.{Look};
-ghost use Rattle.flop_base.specs.Counters.{IsUndisturbed};
-ghost use Rattle.sector_map.specs.Failing.{AreFailing};
-ghost use Rattle.sector_map.specs.Standard.{standard_keys};
-ghost use Rattle.sector_model.specs.States.{State};
-ghost use Rattle.sector_model.specs.Runs.{Taken};
+ghost use Rattle.laws_commands.specs.Common.{Files, Chrn, Disk, Look, IsUndisturbed, AreFailing, standard_keys, State, Taken};
 ghost use Rattle.laws_commands.specs.Verified.{ReadsDisk, IsUnmistaken, refused_reads, all_told_of};
 
 /// A law on the reads of a whole disk whose address fields can't be mistaken, where neither a fault of bay 0's drive

@@ -1,17 +1,6 @@
 // The command that rescues, when nothing can go wrong.
 ghost use Rattle.std.specs.Prelude.{◌≡◌, ◌≢◌, All, List, Some, None};
-ghost use Rattle.flop_base.specs.Shelf.{Files, file_at};
-ghost use Rattle.flop_base.specs.Standard.{sectors_at};
-ghost use Rattle.flop_base.specs.declared.answers.Status.{Status};
-ghost use Rattle.raw_image.specs.Disk.{Disk};
-ghost use Rattle.sector_map.specs.Disks.{IsRegularDisk};
-ghost use Rattle.sector_model.specs.Steps.{IsImageOf};
-ghost use Rattle.sector_model.specs.Plays.{World};
-ghost use Rattle.commands.specs.Leading.{Runs};
-ghost use Rattle.rescue.specs.Course.{logged_keys};
-ghost use Rattle.rescue.specs.declared.line.LogLine.{LogLine};
-ghost use Rattle.disk_commands.specs.Logs.{IsLogFound};
-ghost use Rattle.disk_commands.specs.Rescue.{Rescues};
+ghost use Rattle.laws_commands.specs.Common.{Files, file_at, sectors_at, Status, Disk, IsRegularDisk, IsImageOf, World, Runs, logged_keys, LogLine, IsLogFound, Rescues};
 ghost use Rattle.laws_commands.specs.EndsComplete.{BeginsSound, EndsWellOrOutside, HasKey, IsReadable, StoresSameAndLog, StoresRestAndLog, TakesKeys};
 
 /// A law on a rescue with no log yet, in a fresh station, where no drive can have a fault any more and no DMA request

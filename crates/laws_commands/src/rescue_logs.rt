@@ -1,15 +1,8 @@
 // What the log of a rescue has.
 ghost use Rattle.std.specs.Prelude.{◌≡◌, List, Some};
-ghost use Rattle.flop_base.specs.Shelf.{Files};
-ghost use Rattle.flop_base.specs.declared.answers.Status.{Status};
-ghost use Rattle.raw_image.specs.Disk.{Disk};
-ghost use Rattle.flop_base.specs.Counters.{IsUndisturbed};
-ghost use Rattle.sector_model.specs.Steps.{IsImageOf};
-ghost use Rattle.sector_model.specs.Runs.{Taken};
-ghost use Rattle.sector_model.specs.Plays.{World};
+ghost use Rattle.laws_commands.specs.Common.{Files, Status, Disk, IsUndisturbed, IsImageOf, Taken, World, Rescues};
 ghost use Rattle.laws_commands.specs.Verified.{IsUnmistaken};
 ghost use Rattle.laws_commands.specs.VerifyRuns.{IsEndStatus};
-ghost use Rattle.disk_commands.specs.Rescue.{Rescues};
 ghost use Rattle.laws_commands.specs.Rescued.{IsNotStopped, LogsNotFound};
 
 /// A law on a rescue that ends with status 0 or 1 and that no refusal stopped, of a disk whose address fields can't be

@@ -1,9 +1,6 @@
 // What a rescue stores, and in which order.
 ghost use Rattle.std.specs.Prelude.{List};
-ghost use Rattle.flop_base.specs.declared.answers.Status.{Status};
-ghost use Rattle.sector_model.specs.Runs.{Taken};
-ghost use Rattle.sector_model.specs.Plays.{World};
-ghost use Rattle.disk_commands.specs.Rescue.{Rescues};
+ghost use Rattle.laws_commands.specs.Common.{Status, Taken, World, Rescues};
 ghost use Rattle.laws_commands.specs.Rescued.{log_of};
 ghost use Rattle.laws_commands.specs.Stores.{StoresDiskThenLog};
 

@@ -1,18 +1,7 @@
 // What a rescue stores and tells.
 ghost use Rattle.std.specs.Prelude.{◌≡◌, ◌≢◌, List, Option, Some, length};
-ghost use Rattle.flop_base.specs.Shelf.{Files};
-ghost use Rattle.flop_base.specs.Standard.{sectors_at};
-ghost use Rattle.flop_base.specs.declared.answers.Status.{Status};
-ghost use Rattle.raw_image.specs.Disk.{Disk};
-ghost use Rattle.flop_base.specs.Counters.{IsFaultless};
-ghost use Rattle.flop_base.specs.Memory.{user_bytes};
-ghost use Rattle.sector_model.specs.Steps.{IsImageOf};
-ghost use Rattle.sector_model.specs.Runs.{Taken};
-ghost use Rattle.sector_model.specs.Plays.{World};
+ghost use Rattle.laws_commands.specs.Common.{Files, sectors_at, Status, Disk, IsFaultless, user_bytes, IsImageOf, Taken, World, LogLine, Rescues, IsLogFound};
 ghost use Rattle.laws_commands.specs.VerifyRuns.{IsEndStatus};
-ghost use Rattle.rescue.specs.declared.line.LogLine.{LogLine};
-ghost use Rattle.disk_commands.specs.Rescue.{Rescues};
-ghost use Rattle.disk_commands.specs.Logs.{IsLogFound};
 ghost use Rattle.laws_commands.specs.Rescued.{IsNotStopped, HasTarget, IsRescue};
 
 /// A law on a rescue that ends with status 0 or 1 and that no refusal stopped, where the drive of bay 1 had no fault

@@ -1,8 +1,6 @@
 // How long a track of a medium is, all along a run.
 ghost use Rattle.std.specs.Prelude.{All, ℕ, List, Option, Some};
-ghost use Rattle.flop_base.specs.Shelf.{Files};
-ghost use Rattle.sector_model.specs.Runs.{Run, Taken, requests_of};
-ghost use Rattle.sector_model.specs.States.{State};
+ghost use Rattle.laws_commands.specs.Common.{Files, Run, Taken, requests_of, State};
 ghost use Rattle.sector_model.specs.Times.{AreWithin, IsWithin};
 ghost use Rattle.laws_commands.specs.Times.{ArePutShort, SetsAtMost};
 

@@ -1,17 +1,7 @@
 // Which stores runs and commands make, in which order, and how often.
 ghost use Rattle.std.specs.Prelude.{◌≡◌, ◌++◌, List, Option, Some, ℕ};
 ghost use Rattle.std.specs.Option.{option_map};
-ghost use Rattle.flop_base.specs.Shelf.{Files, Store};
-ghost use Rattle.flop_base.specs.declared.answers.Status.{Status};
-ghost use Rattle.sector_model.specs.States.{State};
-ghost use Rattle.sector_model.specs.Runs.{Taken, Run, Ends, EndStopsAt};
-ghost use Rattle.sector_model.specs.Plays.{World};
-ghost use Rattle.commands.specs.Scripts.{RunsScript};
-ghost use Rattle.disk_commands.specs.Format.{format_script};
-ghost use Rattle.disk_commands.specs.Verify.{verify_script};
-ghost use Rattle.disk_commands.specs.Copy.{copy_script};
-ghost use Rattle.disk_commands.specs.Import.{Imports};
-ghost use Rattle.disk_commands.specs.Export.{export_script};
+ghost use Rattle.laws_commands.specs.Common.{Files, Store, Status, State, Taken, Run, Ends, EndStopsAt, World, RunsScript, format_script, verify_script, copy_script, Imports, export_script};
 ghost use Rattle.disk_commands.specs.Exercise.{exercise_script};
 ghost use Rattle.laws_commands.specs.Stores.{all_stored, stores_of, end_stores, StoresFirst, StoresDiskAlone, StoresFileAlone};
 

@@ -1,12 +1,6 @@
 // Disks that a rescue may go on with: those that a format, a copy or an import stored.
 ghost use Rattle.std.specs.Prelude.{ℕ, All, List, Option, Some};
-ghost use Rattle.flop_base.specs.Shelf.{Files};
-ghost use Rattle.flop_base.specs.Counters.{Counters};
-ghost use Rattle.flop_base.specs.declared.answers.Rate.{Rate};
-ghost use Rattle.flop_base.specs.declared.key.Chrn.{Chrn};
-ghost use Rattle.raw_image.specs.Disk.{Disk};
-ghost use Rattle.sector_model.specs.Runs.{Taken};
-ghost use Rattle.sector_model.specs.Steps.{IsImageOf};
+ghost use Rattle.laws_commands.specs.Common.{Files, Counters, Rate, Chrn, Disk, Taken, IsImageOf};
 ghost use Rattle.laws_commands.specs.Formatted.{StoresFormatted};
 ghost use Rattle.laws_commands.specs.Copied.{StoresCopy};
 ghost use Rattle.laws_commands.specs.Imported.{StoresDisk};

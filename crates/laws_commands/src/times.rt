@@ -1,6 +1,6 @@
 // How long commands on standard disks last at most, as numbers.
 ghost use Rattle.std.specs.Prelude.{◌≡◌, ℕ, List};
-ghost use Rattle.flop_base.specs.declared.answers.Rate.TheVariants.{R250, R500};
+ghost use Rattle.laws_commands.specs.Common.{R250, R500};
 ghost use Rattle.laws_commands.specs.Times.{copy_port_accesses, copy_time, export_port_accesses, export_time, import_port_accesses, import_time, rescue_port_accesses, rescue_time, standard_disk, verify_port_accesses, verify_time, whole_format_port_accesses, whole_format_time};
 
 /// A law: the most device steps and port accesses of commands on standard disks of 80 cylinders. The first disk has

@@ -1,13 +1,6 @@
 // The command that verifies, when nothing can go wrong.
 ghost use Rattle.std.specs.Prelude.{◌≡◌, Some, []};
-ghost use Rattle.flop_base.specs.Shelf.{Files};
-ghost use Rattle.flop_base.specs.declared.answers.Status.{Status};
-ghost use Rattle.raw_image.specs.Disk.{Disk};
-ghost use Rattle.sector_model.specs.Steps.{IsImageOf};
-ghost use Rattle.sector_model.specs.Plays.{World};
-ghost use Rattle.commands.specs.Scripts.{RunsScript};
-ghost use Rattle.commands.specs.Leading.{Runs};
-ghost use Rattle.disk_commands.specs.Verify.{verify_script};
+ghost use Rattle.laws_commands.specs.Common.{Files, Status, Disk, IsImageOf, World, RunsScript, Runs, verify_script};
 ghost use Rattle.laws_commands.specs.VerifyRuns.{TellsFailing};
 ghost use Rattle.laws_commands.specs.EndsComplete.{BeginsSound, EndsWellOrOutside, IsReadable};
 

@@ -1,19 +1,6 @@
 // The command that verifies a disk.
 ghost use Rattle.std.specs.Prelude.{◌≡◌, List, Some, None};
-ghost use Rattle.flop_base.specs.Shelf.{Files};
-ghost use Rattle.flop_base.specs.declared.key.Chrn.{Chrn};
-ghost use Rattle.flop_base.specs.declared.answers.Status.{Status};
-ghost use Rattle.raw_image.specs.Disk.{Disk};
-ghost use Rattle.track_model.specs.declared.Look.{Look};
-ghost use Rattle.flop_base.specs.Counters.{IsUndisturbed};
-ghost use Rattle.sector_map.specs.Failing.{AreFailing};
-ghost use Rattle.sector_map.specs.Standard.{standard_keys};
-ghost use Rattle.sector_model.specs.Stations.{bay_of};
-ghost use Rattle.sector_model.specs.Steps.{IsImageOf};
-ghost use Rattle.sector_model.specs.Runs.{Taken};
-ghost use Rattle.sector_model.specs.Plays.{World};
-ghost use Rattle.commands.specs.Scripts.{RunsScript};
-ghost use Rattle.disk_commands.specs.Verify.{verify_script};
+ghost use Rattle.laws_commands.specs.Common.{Files, Chrn, Status, Disk, Look, IsUndisturbed, AreFailing, standard_keys, bay_of, IsImageOf, Taken, World, RunsScript, verify_script};
 ghost use Rattle.laws_commands.specs.Verified.{IsUnmistaken, all_told_of};
 ghost use Rattle.laws_commands.specs.VerifyRuns.{TellsFailing, IsEndStatus};
 

@@ -2,10 +2,9 @@
 use Rattle.dma_8237.specs.Channel.{grants}
 use Rattle.fdc_phases.specs.declared.phases.Task.TheVariants.{Read}
 use Rattle.irq_events.specs.Latch.{Latch}
-use Rattle.std.proofs.Common.{◌∙◌, Option, ◌⊎◌, inl, inr, ◌≡◌, ◌+◌, ◌≤◌, ◌<◌, ◌==◌, ◌||◌, ◌&&◌, if◌then◌else◌, Bool, true, false, refl, ℕ, nat_le, arith, [], Some, None, not, nat_lt}
-use Rattle.std.proofs.lemmas.Bool.Decides.{nat_tests}
+use Rattle.std.proofs.Common.{◌∙◌, Option, ◌⊎◌, inl, inr, ◌≡◌, ◌+◌, ◌≤◌, ◌==◌, ◌||◌, ◌&&◌, if◌then◌else◌, Bool, true, false, refl, ℕ, nat_le, arith, [], Some, None, not}
+use Rattle.laws_machine.proofs.Common.{Channel, after_transfer, answer, after_byte, IsReadingData, fifo_told, phase_told, task_asks, Sent, is_executing, is_held, polled, Short, Long, Answer, Fdc, Command, Execute, Result, Phase, Task, Fifo, with_polls, Holds, shown, strayed_if, lined, phase_after, Ending, Results, nat_tests}
 pub use Rattle.fdc_core.proofs.drives.Facts.{if_both, different, le_true, length_more, lt_true, not_granting, number_is}
-use Rattle.laws_machine.proofs.Common.{Channel, after_transfer, answer, after_byte, IsReadingData, fifo_told, phase_told, task_asks, Sent, is_executing, is_held, polled, Short, Long, Answer, Fdc, Command, Execute, Result, Phase, Task, Fifo, with_polls, Holds, shown, strayed_if, lined, phase_after, Ending, Results}
 
 pub either_is : (b : Bool) → (b ≡ true) ⊎ (b ≡ false)
 either_is true = inl refl
@@ -47,12 +46,11 @@ told_busy (Execute execution) = refl
 pub given_down : (flag : Phase → Bool) → flag Command ≡ false → ((next : ℕ) (last : Option ℕ) → flag (Result (Short next last)) ≡ false)
     → ((ending : Ending) (results : Results) (taken : ℕ) → flag (Result (Long ending results (taken + 1))) ≡ flag (Result (Long ending results taken)))
     → (phase : Phase) → flag phase ≡ false → flag (phase_after phase) ≡ false
-given_down flag down short long Command is = is
-given_down flag down short long (Execute execution) is = is
 given_down flag down short long (Result (Short next None)) is = down
 given_down flag down short long (Result (Short next (Some last))) is = short last None
 given_down flag down short long (Result (Long ending results taken)) is =
     if_both (nat_le 6 taken) Command (Result (Long ending results (taken + 1))) (λ p. flag p ≡ false) down (long ending results taken ∙ is)
+given_down flag down short long _ is = is
 
 pub idle_read : (phase : Phase) → is_executing phase ≡ false → is_executing (phase_after phase) ≡ false
 idle_read = given_down is_executing refl (λ next last. refl) (λ ending results taken. refl)

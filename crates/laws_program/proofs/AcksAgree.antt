@@ -1,18 +1,6 @@
 -- Two acknowledgements of alike bays: they are answered alike, and find the same rate.
 use Rattle.std.proofs.Common.{arith, ◌≡◌, ◌∙◌, ℕ, refl, sym, ap, subst, inl, inr, Option, Some, None, Result, Ok, Err}
-use Rattle.flop_base.specs.declared.answers.Code.{Code}
-use Rattle.flop_base.specs.declared.answers.Rate.{Rate}
-use Rattle.flop_base.specs.declared.answers.Rate.TheVariants.{R500, R250}
-use Rattle.flop_base.specs.declared.key.Chrn.{Chrn}
-use Rattle.raw_image.specs.Disk.{Disk, HasTrack, track_of}
-use Rattle.flop_base.specs.Counters.{GoesOn, IsUndisturbed, faults_of}
-use Rattle.track_model.specs.Fields.{IsAddressAt}
-use Rattle.sector_map.specs.Disks.{IsRegularDisk}
-use Rattle.sector_map.proofs.RegularTracks.{clear_address}
-use Rattle.sector_model.specs.Stations.{StationState, Bay, Becomes, bay_of, set_bay, fresh_bay}
-use Rattle.sector_model.specs.Calls.{HasClearStart, HasNoStart, IsAcknowledged, AcksDrive}
-use Rattle.sector_model.specs.Steps.{reply_of}
-use Rattle.laws_program.specs.Determined.{IsRegularIn}
+use Rattle.laws_program.proofs.Common.{Code, Rate, R500, R250, Chrn, Disk, HasTrack, track_of, GoesOn, IsUndisturbed, faults_of, IsAddressAt, IsRegularDisk, clear_address, StationState, Bay, Becomes, bay_of, set_bay, fresh_bay, HasClearStart, HasNoStart, IsAcknowledged, AcksDrive, reply_of, IsRegularIn}
 use Rattle.laws_program.proofs.AlikeDisks.{AlikeDisks, AlikeMedia, AlikeBays, regular_too}
 use Rattle.laws_program.proofs.AfterDisks.{in_both}
 use Rattle.laws_program.proofs.Calm.{few_faults, no_loss}
@@ -26,10 +14,9 @@ clash d e regular has back rates r s high low double told untold =
     cc (silent, low)
 
 one_rate : (r s : Rate) → (r ≡ R500 → s ≡ R250 → ⊥) → (s ≡ R500 → r ≡ R250 → ⊥) → s ≡ r
-one_rate R500 R500 a b = refl
 one_rate R500 R250 a b = absurd (a refl refl)
 one_rate R250 R500 a b = absurd (b refl refl)
-one_rate R250 R250 a b = refl
+one_rate _ _ a b = refl
 
 alone : (m n : Option Disk) (d : Disk) → m ≡ Some d → n ≡ None → AlikeMedia m n → ⊥
 alone m n d is none same = subst (λ (o : Option Disk). AlikeMedia (Some d) o) none (subst (λ (o : Option Disk). AlikeMedia o n) is same)

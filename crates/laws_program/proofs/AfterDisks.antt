@@ -1,11 +1,6 @@
 -- Alike disks after a change of one track of both.
 use Rattle.std.proofs.Common.{◌≡◌, ◌∙◌, ℕ, Bool, List, sym, subst, inl, inr, Option, Some}
-use Rattle.std.proofs.lemmas.Bool.{cases_eq}
-use Rattle.flop_base.specs.declared.key.Chrn.{Chrn}
-use Rattle.raw_image.specs.Disk.{Disk, HasTrack, track_of}
-use Rattle.track_model.specs.Regular.{IsRegular}
-use Rattle.sector_map.specs.KeptDisks.{KeepsTracks}
-use Rattle.sector_map.proofs.KeptTracks.{alike_tracks}
+use Rattle.laws_program.proofs.Common.{cases_eq, Chrn, Disk, HasTrack, track_of, IsRegular, KeepsTracks, alike_tracks}
 use Rattle.laws_program.proofs.Shown.{ShowSame}
 use Rattle.laws_program.proofs.CutTracks.{KeepsShown, written_show}
 use Rattle.laws_program.proofs.AlikeDisks.{AlikeDisks, AlikeMedia}

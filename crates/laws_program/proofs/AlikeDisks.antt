@@ -1,20 +1,7 @@
 -- Disks, bays and stations that differ only in contents.
 use Rattle.std.proofs.Common.{◌≡◌, ◌∙◌, ℕ, Bool, true, false, List, length, refl, sym, subst, Option, Some, None}
 use Rattle.std.specs.Prelude.{is_some, ◌==◌, if◌then◌else◌}
-use Rattle.std.specs.Option.{option_map_or}
-use Rattle.flop_base.specs.declared.answers.Rate.{Rate}
-use Rattle.raw_image.specs.Disk.{Disk, IsDisk, HasTrack, track_of}
-use Rattle.flop_base.specs.Bays.{Two, in_bay, with_bay}
-use Rattle.flop_base.specs.Memory.{user_bytes}
-use Rattle.track_model.specs.Regular.{IsRegular}
-use Rattle.sector_map.specs.Disks.{IsRegularDisk}
-use Rattle.sector_map.specs.KeptDisks.{AreAlike}
-use Rattle.sector_map.specs.Met.{unrecorded, met_on, met_in}
-use Rattle.sector_map.proofs.KeptTracks.{alike_itself, alike_tracks}
-use Rattle.sector_map.proofs.MetTracks.{by_met, on_there, on_nothing, nothing_unrecorded}
-use Rattle.sector_model.specs.Stations.{StationState, Bay, Becomes, bay_of, set_bay, met}
-use Rattle.sector_model.specs.States.{State}
-use Rattle.laws_program.specs.Determined.{IsRegularIn, HasRegularDisks}
+use Rattle.laws_program.proofs.Common.{option_map_or, Rate, Disk, IsDisk, HasTrack, track_of, Two, in_bay, with_bay, user_bytes, IsRegular, IsRegularDisk, AreAlike, unrecorded, met_on, met_in, alike_itself, alike_tracks, by_met, on_there, on_nothing, nothing_unrecorded, StationState, Bay, Becomes, bay_of, set_bay, met, State, IsRegularIn, HasRegularDisks}
 use Rattle.laws_program.proofs.Shown.{ShowSame, show_itself, none_regular, none_show}
 
 -- ---- disks
@@ -37,21 +24,18 @@ regular_too one two same regular c h has =
 
 abbrev pub AlikeMedia : Option Disk → Option Disk → Type 0
 AlikeMedia None None = Unit {0}
-AlikeMedia None (Some two) = ⊥
-AlikeMedia (Some one) None = ⊥
 AlikeMedia (Some one) (Some two) = AlikeDisks one two
+AlikeMedia _ _ = ⊥
 
 pub loaded_same : (one two : Option Disk) → AlikeMedia one two → is_some two ≡ is_some one
-loaded_same None None same = refl
 loaded_same None (Some two) same = absurd same
 loaded_same (Some one) None same = absurd same
-loaded_same (Some one) (Some two) same = refl
+loaded_same _ _ same = refl
 
 pub protected_same : (one two : Option Disk) → AlikeMedia one two → option_map_or (λ (d : Disk). d.protected) two false ≡ option_map_or (λ (d : Disk). d.protected) one false
 protected_same None None same = refl
-protected_same None (Some two) same = absurd same
-protected_same (Some one) None same = absurd same
 protected_same (Some one) (Some two) same = same.alike.protected
+protected_same _ _ same = absurd same
 
 some_one : (a b : Disk) → Some a ≡ Some b → a ≡ b
 some_one a b e = cc e
@@ -61,15 +45,12 @@ none_some b e = cc e
 
 pub regular_in_too : (one two : Option Disk) → AlikeMedia one two → IsRegularIn one → IsRegularIn two
 regular_in_too None None same regular disk is = absurd (none_some disk is)
-regular_in_too None (Some two) same regular disk is = absurd same
-regular_in_too (Some one) None same regular disk is = absurd same
 regular_in_too (Some one) (Some two) same regular disk is = subst IsRegularDisk (some_one two disk is) (regular_too one two same (regular one refl))
+regular_in_too _ _ same regular disk is = absurd same
 
 -- the tracks that are met on two alike media show the same
 met_media : (one two : Option Disk) (rate : Rate) (c h : ℕ) → AlikeMedia one two → ShowSame (met_in one rate c h) (met_in two rate c h)
 met_media None None rate c h same = show_itself (unrecorded 64)
-met_media None (Some two) rate c h same = absurd same
-met_media (Some one) None rate c h same = absurd same
 met_media (Some one) (Some two) rate c h same =
     by_met one rate c h (λ track. ShowSame track (met_on two rate c h))
     (λ has is.
@@ -78,6 +59,7 @@ met_media (Some one) (Some two) rate c h same =
     (λ none.
     none_show (unrecorded one.words_per_track) (met_on two rate c h) (nothing_unrecorded one.words_per_track)
     (on_nothing two rate c h (λ has is. none ((alike_tracks one two c h same.alike).1 has) (sym same.alike.rate ∙ is))))
+met_media _ _ rate c h same = absurd same
 
 -- a track that is met on a regular medium is regular
 pub regular_met : (medium : Option Disk) (rate : Rate) (c h : ℕ) → IsRegularIn medium → IsRegular (met_in medium rate c h) c h

@@ -1,32 +1,18 @@
 -- Files that are alike: as images they are of alike disks, or they have the same error.
 use Rattle.std.proofs.Common.{arith, ◌≡◌, ◌∙◌, ◌+◌, ◌*◌, ◌<◌, ◌≤◌, ℕ, Bool, true, false, List, length, cond, refl, sym, ap, subst, inl, inr, Option, Some, None, Result, Ok, Err, take, drop}
 use Rattle.std.specs.Prelude.{◌⊎◌, IsSomeAnd, nat_lt, if◌then◌else◌}
-use Rattle.std.proofs.lemmas.Bool.{lt-ltb, le-ltb}
-use Rattle.std.proofs.lemmas.List.{length-take, length-drop}
-use Rattle.std.specs.Ordering.{nat_cmp, eq_by_cmp}
-use Rattle.std.specs.Cmp.Lexicographic.{slice_cmp, nat_list_cmp_total}
+use Rattle.laws_program.proofs.Common.{lt-ltb, le-ltb, length-take, length-drop, nat_cmp, eq_by_cmp, slice_cmp, nat_list_cmp_total, Files, file_at, after_store, stored, Disk, IsDisk, image_of, file_of, ImageError, image_found, image_again, Request, Stop, IsImageOf, StopCause, most_image_bytes, IsEndStop, AreBytes}
 use Rattle.std.specs.FinMap as fin
-use Rattle.flop_base.specs.Shelf.{Files, file_at, after_store, stored}
-use Rattle.raw_image.specs.Disk.{Disk, IsDisk}
 use Rattle.raw_image.specs.Words.{bytes_of}
-use Rattle.raw_image.specs.Image.{image_of, file_of}
-use Rattle.raw_image.specs.declared.error.ImageError.{ImageError}
 use Rattle.raw_image.proofs.Pairs.{IsBytes, length-bytes_of}
-use Rattle.raw_image.proofs.Images.{image_found, image_again}
-use Rattle.floppy_jobs.specs.declared.request.Request.{Request}
 use Rattle.floppy_jobs.specs.declared.request.Request.TheVariants as request
-use Rattle.sector_model.specs.declared.reply.Stop.{Stop}
 use Rattle.sector_model.specs.declared.reply.Stop.TheVariants as stop
-use Rattle.sector_model.specs.Steps.{IsImageOf, StopCause, most_image_bytes}
-use Rattle.sector_model.specs.Runs.{IsEndStop}
-use Rattle.laws_program.specs.Determined.{AreBytes}
 use Rattle.laws_program.proofs.AlikeDisks.{AlikeDisks, disk_itself}
 
 abbrev pub AlikeImages : Result Disk ImageError → Result Disk ImageError → Type 0
 AlikeImages (Ok one) (Ok two) = AlikeDisks one two
-AlikeImages (Ok one) (Err error) = ⊥
-AlikeImages (Err error) (Ok two) = ⊥
 AlikeImages (Err error) (Err other) = other ≡ error
+AlikeImages _ _ = ⊥
 
 -- bytes of one length, whose images are alike
 pub record AlikeBytes (bytes other : List ℕ) : Type 0 where
@@ -35,15 +21,12 @@ pub record AlikeBytes (bytes other : List ℕ) : Type 0 where
 
 abbrev pub AlikeFiles : Option (List ℕ) → Option (List ℕ) → Type 0
 AlikeFiles None None = Unit {0}
-AlikeFiles None (Some other) = ⊥
-AlikeFiles (Some bytes) None = ⊥
 AlikeFiles (Some bytes) (Some other) = AlikeBytes bytes other
+AlikeFiles _ _ = ⊥
 
 abbrev pub AlikeTold : Option Files → Option Files → Type 0
 AlikeTold (Some files) (Some others) = (name : List ℕ) → AlikeFiles (file_at files name) (file_at others name)
-AlikeTold (Some files) None = ⊥
-AlikeTold None (Some others) = ⊥
-AlikeTold None None = ⊥
+AlikeTold _ _ = ⊥
 
 -- ---- the same files
 
@@ -103,13 +86,11 @@ stored_on a b bytes others q same alike true = alike
 stored_on a b bytes others q same alike false = same q
 
 pub stored_same : (told other : Option Files) (name bytes others : List ℕ) → AlikeTold told other → AlikeBytes bytes others → AlikeTold (stored told name bytes) (stored other name others)
-stored_same None None name bytes others same alike = absurd same
-stored_same None (Some b) name bytes others same alike = absurd same
-stored_same (Some a) None name bytes others same alike = absurd same
 stored_same (Some a) (Some b) name bytes others same alike = λ q.
     subst (λ (o : Option (List ℕ)). AlikeFiles o (file_at (after_store b name others) q)) (sym (stored_at a name bytes q))
     (subst (λ (o : Option (List ℕ)). AlikeFiles (cond (eq_by_cmp (slice_cmp nat_cmp) q name) (Some bytes) (file_at a q)) o) (sym (stored_at b name others q))
     (stored_on a b bytes others q same alike (eq_by_cmp (slice_cmp nat_cmp) q name)))
+stored_same _ _ name bytes others same alike = absurd same
 
 -- ---- what a load of an image makes of a file
 
@@ -139,17 +120,15 @@ stop_by name (Some bytes) =
 
 same_image_stop : (name : List ℕ) (r s : Result Disk ImageError) → AlikeImages r s → image_stop name s ≡ image_stop name r
 same_image_stop name (Ok d) (Ok e) same = refl
-same_image_stop name (Ok d) (Err error) same = absurd same
-same_image_stop name (Err error) (Ok e) same = absurd same
 same_image_stop name (Err error) (Err other) same = ap (λ (e : ImageError). Some (stop.BadImage name e)) same
+same_image_stop name _ _ same = absurd same
 
 pub same_stop : (name : List ℕ) (o p : Option (List ℕ)) → AlikeFiles o p → stop_by name p ≡ stop_by name o
 same_stop name None None same = refl
-same_stop name None (Some others) same = absurd same
-same_stop name (Some bytes) None same = absurd same
 same_stop name (Some bytes) (Some others) same =
     ap (λ (n : ℕ). if nat_lt most_image_bytes n then Some (stop.TooLong name most_image_bytes) else image_stop name (image_of others)) same.long
     ∙ ap (λ (s : Option Stop). if nat_lt most_image_bytes (length bytes) then Some (stop.TooLong name most_image_bytes) else s) (same_image_stop name (image_of bytes) (image_of others) same.images)
+same_stop name _ _ same = absurd same
 
 short_stop : (name bytes : List ℕ) → length bytes ≤ most_image_bytes → stop_by name (Some bytes) ≡ image_stop name (image_of bytes)
 short_stop name bytes short =

@@ -1,25 +1,11 @@
 -- What the subcommands (forms) on files alone store and print.
 use Rattle.std.proofs.Common.{◌≡◌, ℕ, List, Option, Result, Ok, Err, Some}
 use Rattle.std.specs.Prelude.{codes}
-use Rattle.flop_base.specs.Shelf.{Files}
-use Rattle.flop_base.specs.Sink.{grown}
-use Rattle.flop_base.specs.declared.answers.Status.{Status}
+use Rattle.laws_program.proofs.Common.{Files, grown, Status, DriveCounts, Board, Stop, stop_status, Prints, Whole, Part, SurveyLine, Halt, Outside, Tells, MakesFromImd, MakesToImd, MakesRemaster, SurveysFile, TellsSurvey, RunsOver, MakesFile, TellsSurveyOf}
 use Rattle.flop_base.specs.declared.answers.Status.TheVariants as status
-use Rattle.flop_base.specs.Counters.{DriveCounts}
-use Rattle.pc_bus.specs.Boards.{Board}
-use Rattle.sector_model.specs.declared.reply.Stop.{Stop}
 use Rattle.sector_model.specs.declared.reply.Stop.TheVariants as stop
-use Rattle.sector_model.specs.Texts.{stop_status}
-use Rattle.sector_model.specs.Plays.{Prints, Whole, Part}
-use Rattle.remaster.specs.declared.lines.SurveyLine.{SurveyLine}
-use Rattle.archive_commands.specs.declared.halt.Halt.{Halt}
 use Rattle.archive_commands.specs.declared.halt.Halt.TheVariants as halt
-use Rattle.archive_commands.specs.Files.{Outside}
-use Rattle.archive_commands.specs.Making.{Tells, MakesFromImd, MakesToImd, MakesRemaster}
-use Rattle.archive_commands.specs.Surveys.{SurveysFile, TellsSurvey}
 use Rattle.floppy_words.specs.declared.form.Form.TheVariants as form
-use Rattle.floppy_tools.specs.Machines.{RunsOver}
-use Rattle.laws_program.specs.Made.{MakesFile, TellsSurveyOf}
 use Rattle.laws_program.proofs.OfForms.{form_well}
 
 -- a line that was put with status 0 was put whole

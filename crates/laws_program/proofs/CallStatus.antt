@@ -1,47 +1,23 @@
 -- How a text of calls of INT 13h ends, where each file that is put in is the file of a disk.
 use Rattle.std.proofs.Common.{◌≡◌, ◌∙◌, ℕ, Bool, true, false, List, [], ◌∷◌, ◌++◌, map, Option, Some, None, Result, Ok, refl, ap, sym, subst}
 use Rattle.std.specs.Prelude.{MatchBool, length}
-use Rattle.std.specs.List.{list_all, range_with_len}
-use Rattle.flop_base.specs.Shelf.{Files}
-use Rattle.flop_base.specs.declared.answers.Status.{Status}
+use Rattle.laws_program.proofs.Common.{list_all, range_with_len, Files, Status, Chrn, both, DriveCounts, calls_of, CallLine, Request, Stop, Blames, State, is_acknowledged, StopsAt, IsAbsent, IsLonger, stop_status, Taken, IsEndStop, World, IsText, Prints, Whole, Part, IsPutFault, most_job_bytes, whole_status, Round, AreRounds, lines_of, has_refused, Breaks, AtStop, AtPut, ServesCalls, ServesParsed, ServesLines, Through, Broken, world, DoesOrStarves, AsAsked, StarvesWords, Stand, RanOver, and_both, AnswersCalls, EndsAnswered, IsDiskFile, Names, named_by, HoldsBy, InsertsDisks, requests_among, IsEndStatus}
 use Rattle.flop_base.specs.declared.answers.Status.TheVariants as status
-use Rattle.flop_base.specs.declared.key.Chrn.{Chrn}
-use Rattle.flop_base.specs.Bays.{both}
-use Rattle.flop_base.specs.Counters.{DriveCounts}
-use Rattle.floppy_jobs.specs.Texts.{calls_of}
-use Rattle.floppy_jobs.specs.declared.calls.CallLine.{CallLine}
 use Rattle.floppy_jobs.specs.declared.calls.CallLine.TheVariants as call
-use Rattle.floppy_jobs.specs.declared.request.Request.{Request}
 use Rattle.floppy_jobs.specs.declared.request.Request.TheVariants as request
 use Rattle.bios_int13.specs.declared.work.Kind.{Kind}
 use Rattle.bios_int13.specs.declared.work.Kind.TheVariants.{Read, Write, Verify}
 use Rattle.bios_int13.specs.declared.work.Work.{Work}
 use Rattle.bios_int13.specs.declared.work.Work.TheVariants.{Answer, Changed, Move}
-use Rattle.sector_model.specs.declared.reply.Stop.{Stop}
-use Rattle.sector_model.specs.Faults.{Blames}
-use Rattle.sector_model.specs.States.{State}
-use Rattle.sector_model.specs.Orders.{is_acknowledged}
-use Rattle.sector_model.specs.Steps.{StopsAt, IsAbsent, IsLonger}
-use Rattle.sector_model.specs.Texts.{stop_status}
-use Rattle.sector_model.specs.Runs.{Taken, IsEndStop}
-use Rattle.sector_model.specs.Plays.{World, IsText, Prints, Whole, Part, IsPutFault, most_job_bytes, whole_status}
 use Rattle.bios_int13.specs.Services.{record_requests, record_request, record_behind, place_of_record, put_requests, put_request, MovesRecords, All, UpToOne, MovesIn, AcksAlone, DoesWork}
-use Rattle.text_commands.specs.CallRounds.{Round, DoesLine, AreRounds, lines_of, has_refused, Breaks, AtStop, AtPut}
-use Rattle.text_commands.specs.CallCourses.{ServesCalls, There, Missing, TooLong, Faulty, Starved, ServesParsed, ServesLines, Through, Broken, EndStopped}
+use Rattle.text_commands.specs.CallRounds.{DoesLine}
+use Rattle.text_commands.specs.CallCourses.{There, Missing, TooLong, Faulty, Starved, EndStopped}
 use Rattle.floppy_words.specs.declared.form.Form.TheVariants as form
-use Rattle.text_commands.specs.JobRounds.{world}
-use Rattle.floppy_tools.specs.Programs.{DoesOrStarves, AsAsked, StarvesWords}
-use Rattle.floppy_tools.specs.Performed.{Stand, RanOver}
-use Rattle.laws_commands.proofs.Steps.{and_both}
-use Rattle.laws_program.specs.Answered.{AnswersCalls}
-use Rattle.laws_program.specs.Ends.{EndsAnswered}
-use Rattle.laws_program.specs.Inserted.{IsDiskFile, Names, named_by, HoldsBy, InsertsDisks, requests_among}
 use Rattle.laws_program.proofs.Telling.{EndsBy, end_by}
 use Rattle.laws_program.proofs.Inserting.{IsKept}
 use Rattle.laws_program.proofs.KeptSteps.{keeps_media, same_kept, media_kept, step_kept, course_kept}
 use Rattle.laws_program.proofs.PlayStatus.{kept_stop, same_text, text_there, text_short, begins_kept}
 use Rattle.laws_program.proofs.Calls.{int13_answers}
-use Rattle.laws_commands.specs.VerifyRuns.{IsEndStatus}
 
 -- ---- the requests of a call keep the media
 
@@ -84,13 +60,12 @@ module _ (Holds : List ℕ → Type 0) (names : Names) where
   in_kept : (kind : Kind) (address : ℕ) (asked : List Request) (old new : State) (told : Option Files) (course : List Taken) (code moved : ℕ)
       → list_all keeps_media asked ≡ true → MovesIn kind address asked old told course code moved new → IsKept Holds names old told
       → IsKept Holds names new told
-  in_kept Read address asked old new told course code moved all moves kept = moved_kept asked old new told course code moved all moves kept
-  in_kept Write address asked old new told course code moved all moves kept = moved_kept asked old new told course code moved all moves kept
   in_kept Verify address asked old new told course code moved all is kept =
       let puts = is.puts_back in
       course_kept Holds names is.mid new told told is.puts
       (ap (λ (row : List Request). list_all keeps_media row) puts.asked ∙ puts_keep address _) puts.run
       (moved_kept asked old is.mid told is.reads code moved all is.moves kept)
+  in_kept _ address asked old new told course code moved all moves kept = moved_kept asked old new told course code moved all moves kept
 
   goes_kept : (b : Bool) (kind : Kind) (bay address : ℕ) (asked : List Request) (old new : State) (told : Option Files) (course : List Taken) (code moved : ℕ)
       → list_all keeps_media asked ≡ true
@@ -149,26 +124,16 @@ IsAnswered status.SinkFault = Unit {0}
 IsAnswered _ = ⊥
 
 outside_answered : (ended : Status) → EndsBy false ended → IsAnswered ended
-outside_answered status.AllOk ends = tt
-outside_answered status.SomeRefused ends = tt
-outside_answered status.NoMemory ends = tt
-outside_answered status.FileFault ends = tt
-outside_answered status.SinkFault ends = tt
 outside_answered status.BadImage ends = ends
 outside_answered status.Absent ends = ends
 outside_answered status.BadJob ends = ends
 outside_answered status.BadWords ends = ends
+outside_answered _ ends = tt
 
 put_answered : (ended : Status) → IsPutFault ended → IsAnswered ended
 put_answered status.NoMemory fault = tt
 put_answered status.SinkFault fault = tt
-put_answered status.AllOk fault = absurd fault
-put_answered status.SomeRefused fault = absurd fault
-put_answered status.BadImage fault = absurd fault
-put_answered status.Absent fault = absurd fault
-put_answered status.FileFault fault = absurd fault
-put_answered status.BadJob fault = absurd fault
-put_answered status.BadWords fault = absurd fault
+put_answered _ fault = absurd fault
 
 prints_answered : (line : List (List ℕ)) (wanted : Status) (old new : Option (List (List ℕ))) (ended : Status) → Prints line wanted old new ended → IsAnswered wanted
     → IsAnswered ended
@@ -223,10 +188,7 @@ counted_answered Such old new status.SomeRefused shelf sink ends such = such tt
 counted_answered Such old new status.NoMemory shelf sink ends such = tt
 counted_answered Such old new status.FileFault shelf sink ends such = shelf.rose refl
 counted_answered Such old new status.SinkFault shelf sink ends such = sink.rose refl
-counted_answered Such old new status.BadImage shelf sink ends such = ends
-counted_answered Such old new status.Absent shelf sink ends such = ends
-counted_answered Such old new status.BadJob shelf sink ends such = ends
-counted_answered Such old new status.BadWords shelf sink ends such = ends
+counted_answered Such old new _ shelf sink ends such = ends
 
 pub int13_ends : (name : List ℕ) (spares : List DriveCounts) (old new : Stand) (ended : Status) (files : Files) (text : List ℕ) (lines : List CallLine)
     → old.outside.outside.files ≡ Some files → IsText (Some files) name text → calls_of text ≡ Ok lines

@@ -1,23 +1,9 @@
 -- What a text of calls of INT 13h prints.
 use Rattle.std.proofs.Common.{◌≡◌, ◌∙◌, ℕ, List, Result, Ok, Err, Some, refl, subst}
-use Rattle.flop_base.specs.declared.answers.Status.{Status}
+use Rattle.laws_program.proofs.Common.{Status, DriveCounts, Board, calls_of, CallLine, Taken, World, IsText, Breaks, AtStop, AtPut, ServesCalls, ServesParsed, ServesLines, Through, Broken, Outside, DoesOrStarves, AsAsked, StarvesWords, world, RunsOver, IsEndStatus, not_put, AnswersCalls}
 use Rattle.flop_base.specs.declared.answers.Status.TheVariants as status
-use Rattle.flop_base.specs.Counters.{DriveCounts}
-use Rattle.pc_bus.specs.Boards.{Board}
-use Rattle.floppy_jobs.specs.Texts.{calls_of}
-use Rattle.floppy_jobs.specs.declared.calls.CallLine.{CallLine}
-use Rattle.sector_model.specs.Runs.{Taken}
-use Rattle.sector_model.specs.Plays.{World, IsText}
-use Rattle.text_commands.specs.CallRounds.{Breaks, AtStop, AtPut}
-use Rattle.text_commands.specs.CallCourses.{ServesCalls, There, Missing, TooLong, Faulty, Starved, ServesParsed, ServesLines, Through, Broken, EndStopped}
-use Rattle.archive_commands.specs.Files.{Outside}
+use Rattle.text_commands.specs.CallCourses.{There, Missing, TooLong, Faulty, Starved, EndStopped}
 use Rattle.floppy_words.specs.declared.form.Form.TheVariants as form
-use Rattle.floppy_tools.specs.Programs.{DoesOrStarves, AsAsked, StarvesWords}
-use Rattle.text_commands.specs.JobRounds.{world}
-use Rattle.floppy_tools.specs.Machines.{RunsOver}
-use Rattle.laws_commands.specs.VerifyRuns.{IsEndStatus}
-use Rattle.laws_commands.proofs.VerifyRun.{not_put}
-use Rattle.laws_program.specs.Answered.{AnswersCalls}
 use Rattle.laws_program.proofs.Plays.{put_end, no_stop_end, no_end}
 
 module _ (name : List ℕ) (old : World) (course : List Taken) (new : World) (ended : Status) (whole : IsEndStatus ended) where

@@ -1,26 +1,8 @@
 -- Two calls to alike stations that nothing disturbed: they are answered alike, and leave alike stations.
 use Rattle.std.proofs.Common.{arith, ◌≡◌, ◌∙◌, ◌+◌, ◌≤◌, ℕ, nat_le, Bool, true, false, List, length, drop, refl, sym, ap, subst, Option, Some, None, Result}
 use Rattle.std.specs.Prelude.{◌&&◌, not, MatchOption, MatchBool, if◌then◌else◌}
-use Rattle.std.proofs.lemmas.Bool.{leb-true, and_parts}
-use Rattle.std.proofs.lemmas.List.{length-take, length-drop}
-use Rattle.flop_base.specs.Standard.{gap_at, standard_fill}
-use Rattle.flop_base.specs.declared.key.Chrn.{Chrn}
-use Rattle.flop_base.specs.declared.answers.Code.{Code}
-use Rattle.flop_base.specs.declared.answers.Code.TheVariants.{BadRequest, Page, Changed, Protected}
-use Rattle.flop_base.specs.declared.answers.Rate.{Rate}
-use Rattle.flop_base.specs.Counters.{GoesOn, IsUndisturbed}
-use Rattle.flop_base.specs.Memory.{user_bytes, bytes_from}
-use Rattle.track_model.specs.Fields.{content_size}
+use Rattle.laws_program.proofs.Common.{leb-true, and_parts, length-take, length-drop, gap_at, standard_fill, Chrn, Code, BadRequest, Page, Changed, Protected, Rate, GoesOn, IsUndisturbed, user_bytes, bytes_from, content_size, Reply, StationState, Bay, bay_of, set_bay, met, is_bay, is_place, is_sector_request, crosses_page, is_acknowledged, is_protected, read_refusal, write_refusal, most_format_gap, format_refusal, rate_refusal, IsRefusedAtOnce, Acks, AcksDrive, RatesTo, SetsRate, Reads, ReadsDrive, WritesTo, WritesDrive, written_from, FormatsTo, FormatsDrive, reply_of, read_reply, IsRegularIn}
 use Rattle.sector_map.specs.LaidDisks.{format_at}
-use Rattle.sector_model.specs.declared.reply.Reply.{Reply}
-use Rattle.sector_model.specs.Stations.{StationState, Bay, bay_of, set_bay, met}
-use Rattle.sector_model.specs.Orders.{is_bay, is_place, is_sector_request, crosses_page, is_acknowledged, is_protected, read_refusal, write_refusal, most_format_gap, format_refusal, rate_refusal, IsRefusedAtOnce}
-use Rattle.sector_model.specs.Calls.{Acks, AcksDrive, RatesTo, SetsRate}
-use Rattle.sector_model.specs.Reads.{Reads, ReadsDrive}
-use Rattle.sector_model.specs.Writes.{WritesTo, WritesDrive, written_from}
-use Rattle.sector_model.specs.Formats.{FormatsTo, FormatsDrive}
-use Rattle.sector_model.specs.Steps.{reply_of, read_reply}
-use Rattle.laws_program.specs.Determined.{IsRegularIn}
 use Rattle.laws_program.proofs.AlikeDisks.{AlikeBays, AlikeStations, bays_in, set_same, memory_same, becomes_same, protected_same, met_bays, regular_met, regular_in_too}
 use Rattle.laws_program.proofs.Sees.{drive_sees, one_seen, sees_on, read_remembers}
 use Rattle.laws_program.proofs.WritesAgree.{writes_agree, ok_reply}

@@ -1,10 +1,8 @@
 -- Calls that nothing disturbed.
 use Rattle.std.proofs.Common.{arith, ◌+◌, ◌<◌, ℕ, Bool, true, false}
 use Rattle.std.specs.Prelude.{◌==◌, if◌then◌else◌}
-use Rattle.flop_base.specs.Counts.{last_count, RoseBy}
-use Rattle.flop_base.specs.Counters.{Counters, GoesOn, IsUndisturbed, IsFaultless, DisturbedLess, FaultsRoseBy, FaultsRoseLess}
+use Rattle.laws_program.proofs.Common.{last_count, RoseBy, Counters, GoesOn, IsUndisturbed, IsFaultless, DisturbedLess, FaultsRoseBy, FaultsRoseLess, spoilable}
 use Rattle.flop_base.proofs.Counted.{faults_go_on}
-use Rattle.sector_model.specs.Reads.{spoilable}
 
 -- a call is undisturbed in any bay, if it is so in both
 pub calm_bay : (bay : ℕ) (old new : Counters) → IsUndisturbed 0 old new → IsUndisturbed 1 old new → IsUndisturbed bay old new

@@ -5,10 +5,9 @@ use Rattle.laws_machine.specs.OnSteps.Steady.{regapped, Marching}
 use Rattle.laws_machine.specs.OnWrites.Guards.{GuardsMedia}
 use Rattle.laws_machine.proofs.OnSteps.Runs.{inputs, outputs, march_gap, march_wait, march_waits, read_from}
 use Rattle.laws_machine.proofs.OnWrites.Guards.{step_guards}
-use Rattle.pc_bus.specs.Boards.{Board}
+use Rattle.laws_program.proofs.Common.{Board, Waits, stirred, Bus}
 use Rattle.pc_bus.specs.Ports.{Inputs, Outputs}
-use Rattle.pc_bus.specs.Steps.{Runs, Waits, stirred}
-use Rattle.pc_bus.specs.declared.bus.Bus.{Bus}
+use Rattle.pc_bus.specs.Steps.{Runs}
 use Rattle.text_commands.specs.PortGuards.{SameMedia}
 use Rattle.text_commands.proofs.NamedPorts.{write_same}
 use Rattle.laws_program.specs.ChangedWords.{ChangesWords}

@@ -1,35 +1,15 @@
 -- The status of the subcommands (forms) on whole disks, by whether some reply was a refusal.
 use Rattle.std.proofs.Common.{◌≡◌, ℕ, ◌+◌, ◌-◌, Bool, true, false, List, [], Option, Some, Result, Ok, Err, get_or, refl, ap, sym, subst, arith}
 use Rattle.std.specs.Prelude.{◌||◌, nat_lt, sum, codes, if◌then◌else◌, ◌==◌, ◌*◌}
-use Rattle.std.proofs.lemmas.Bool.{lt-ltb}
-use Rattle.flop_base.specs.Shelf.{Files}
-use Rattle.flop_base.specs.Standard.{sectors_at}
-use Rattle.flop_base.specs.declared.answers.Rate.{Rate}
-use Rattle.flop_base.specs.declared.answers.Rate.TheVariants.{R250, R500}
-use Rattle.flop_base.specs.declared.answers.Status.{Status}
-use Rattle.flop_base.specs.declared.key.Chrn.{Chrn}
-use Rattle.raw_image.specs.Disk.{Disk}
+use Rattle.laws_program.proofs.Common.{lt-ltb, Files, sectors_at, Rate, R250, R500, Status, Chrn, Disk, key_of, Reply, Stop, bytes_from, State, IsImageOf, is_refusal, stop_status, Taken, has_refusal, World, blank_request, Asks, RunsScript, formats, last_run, IsFlatFile, IsFlatFound, IsNotTaken, Tally, taken_flat}
 use Rattle.sector_map.specs.Flat.{sector_place}
-use Rattle.sector_map.specs.Standard.{key_of}
 use Rattle.floppy_jobs.specs.declared.request.Request.TheVariants as request
-use Rattle.sector_model.specs.declared.reply.Reply.{Reply}
 use Rattle.sector_model.specs.declared.reply.Reply.TheVariants as reply
-use Rattle.sector_model.specs.declared.reply.Stop.{Stop}
-use Rattle.flop_base.specs.Memory.{bytes_from}
-use Rattle.sector_model.specs.States.{State}
-use Rattle.sector_model.specs.Steps.{IsImageOf}
-use Rattle.sector_model.specs.Texts.{is_refusal, stop_status}
-use Rattle.sector_model.specs.Runs.{Taken, has_refusal}
-use Rattle.sector_model.specs.Plays.{World}
-use Rattle.floppy_session.specs.Blanks.{blank_request}
-use Rattle.commands.specs.Scripts.{Asks, RunsScript}
-use Rattle.commands.specs.Parts.{Part, asks, says, may_starve, formats}
+use Rattle.commands.specs.Parts.{Part, asks, says, may_starve}
 use Rattle.commands.specs.Records.{record_address}
-use Rattle.commands.proofs.Reading.{last_run}
 use Rattle.disk_commands.specs.Format.{format_script, formats_disk}
 use Rattle.disk_commands.specs.Verify.{no_reads, one_more, tells_failure, verifies_record, verifies_track, verify_script, reads_disk}
 use Rattle.disk_commands.specs.Copy.{write_request, no_marks, reads_record, writes_record, copies_track, copy_script, makes_copy, copies_disk}
-use Rattle.disk_commands.specs.FlatFiles.{IsFlatFile, IsFlatFound, IsNotTaken}
 use Rattle.disk_commands.specs.Import.{Imports, import_script, fills_byte, fills_record, fills_track, writes_track, imports_track}
 use Rattle.disk_commands.specs.Import as import
 use Rattle.disk_commands.specs.Export.{export_script, reads_track}
@@ -37,8 +17,6 @@ use Rattle.disk_commands.specs.Export as export
 use Rattle.disk_commands.specs.Exercise.{exercise_script, no_work, counted, reads_work, writes_work, works_drawn, works_behind, works}
 use Rattle.disk_commands.specs.Exercise as exercise
 use Rattle.disk_commands.specs.Workload.{number_after}
-use Rattle.laws_commands.proofs.VerifyRun.{Tally}
-use Rattle.laws_commands.proofs.FlatEnds.{taken_flat}
 use Rattle.laws_program.proofs.Telling.{EndsBy, Came, NeverInserts, end_by, IsFaithful, prints_by, script_tells, opens_tells, needs_tells, PartTells, PartEnds, carries_tells, acknowledges_tells, each_tells, tracks_tell}
 
 pub blank_never : (bay : ℕ) (name : List ℕ) (count : ℕ) (rate : Rate) → NeverInserts (blank_request bay name count rate)

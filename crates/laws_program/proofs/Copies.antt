@@ -1,30 +1,12 @@
 -- What a copy stores.
 use Rattle.std.proofs.Common.{◌≡◌, inl, inr, ℕ, List, Option, Some, sym, subst}
-use Rattle.flop_base.specs.Shelf.{Files}
+use Rattle.laws_program.proofs.Common.{Files, Chrn, Disk, Counters, DriveCounts, key_of, Taken, IsImageOf, StationState, Board, ShowsStation, Starts, Outside, world, RunsOver, IsSure, StoresCopy, HaveSameSector, fresh_memory, HadNoFault, IsReadSure, HasSomeField, StoresCopyAsRead}
 use Rattle.flop_base.specs.declared.answers.Status.TheVariants as status
-use Rattle.flop_base.specs.declared.key.Chrn.{Chrn}
-use Rattle.raw_image.specs.Disk.{Disk}
-use Rattle.flop_base.specs.Counters.{Counters, DriveCounts}
-use Rattle.sector_map.specs.Standard.{key_of}
-use Rattle.sector_model.specs.Runs.{Taken}
-use Rattle.sector_model.specs.Steps.{IsImageOf}
-use Rattle.sector_model.specs.Stations.{StationState}
-use Rattle.pc_bus.specs.Boards.{Board}
-use Rattle.machine_commands.specs.StationShown.{ShowsStation}
-use Rattle.machine_commands.specs.Started.{Starts}
-use Rattle.archive_commands.specs.Files.{Outside}
 use Rattle.floppy_words.specs.declared.form.Form.TheVariants as form
-use Rattle.text_commands.specs.JobRounds.{world}
-use Rattle.floppy_tools.specs.Machines.{RunsOver}
-use Rattle.laws_commands.specs.Copied.{IsSure, StoresCopy}
-use Rattle.laws_commands.specs.EndsComplete.{HaveSameSector}
 use Rattle.laws_commands.specs.Targets.{HoldsTarget}
 use Rattle.laws_commands.proofs.Reading.{key_is}
 use Rattle.laws_commands.proofs.CopyRun.{copy_stores}
-use Rattle.laws_commands.proofs.CommandEnds.{fresh_memory}
 use Rattle.laws_commands.proofs.RescueTargets.{sectors_target}
-use Rattle.laws_program.specs.Disturbed.{HadNoFault}
-use Rattle.laws_program.specs.Stored.{IsReadSure, HasSomeField, StoresCopyAsRead}
 use Rattle.laws_program.proofs.OnBoards.{faultless_first, faultless_second}
 use Rattle.laws_program.proofs.OfForms.{form_well}
 

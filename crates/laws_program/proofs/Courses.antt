@@ -1,28 +1,9 @@
 -- The course of a subcommand (form) is a run of the sector model.
 use Rattle.std.proofs.Common.{◌≡◌, ◌∙◌, ℕ, List, [], ◌∷◌, ◌++◌, Option, Some, Result, Ok, Err, refl, ap, sym, subst, append-nil}
-use Rattle.flop_base.specs.Shelf.{Files}
-use Rattle.flop_base.specs.declared.answers.Status.{Status}
-use Rattle.flop_base.specs.Counters.{DriveCounts}
-use Rattle.pc_bus.specs.Boards.{Board}
-use Rattle.floppy_jobs.specs.declared.request.Request.{Request}
-use Rattle.floppy_jobs.specs.declared.calls.CallLine.{CallLine}
-use Rattle.sector_model.specs.States.{State}
-use Rattle.sector_model.specs.Runs.{Taken, Run}
-use Rattle.sector_model.specs.Plays.{World, Plays, There, Missing, TooLong, Faulty, Starved, PlaysParsed, PlaysRequests, Played, Stopped, BrokenOff, EndStopped}
-use Rattle.commands.specs.Scripts.{Script, RunsScript}
-use Rattle.commands.proofs.Running.{HasRun, script_ran}
+use Rattle.laws_program.proofs.Common.{Files, Status, DriveCounts, Board, Request, CallLine, State, Taken, Run, World, Plays, There, Missing, TooLong, Faulty, Starved, PlaysParsed, PlaysRequests, Played, Stopped, BrokenOff, EndStopped, Script, RunsScript, HasRun, script_ran, run_both, Breaks, AtStop, AtPut, course_of, ServesCalls, ServesParsed, ServesLines, line_run, rounds_run, Outside, Form, world, DoesForm, DoesOrStarves, AsAsked, StarvesWords, RunsOver}
 use Rattle.commands.proofs.Running as has
-use Rattle.commands.proofs.Passed.{run_both}
-use Rattle.text_commands.specs.CallRounds.{Breaks, AtStop, AtPut, course_of}
-use Rattle.text_commands.specs.CallCourses.{ServesCalls, ServesParsed, ServesLines}
 use Rattle.text_commands.specs.CallCourses as calls
-use Rattle.text_commands.proofs.RanCalls.{line_run, rounds_run}
-use Rattle.archive_commands.specs.Files.{Outside}
-use Rattle.floppy_words.specs.declared.form.Form.{Form}
 use Rattle.floppy_words.specs.declared.form.Form.TheVariants as form
-use Rattle.text_commands.specs.JobRounds.{world}
-use Rattle.floppy_tools.specs.Programs.{DoesForm, DoesOrStarves, AsAsked, StarvesWords}
-use Rattle.floppy_tools.specs.Machines.{RunsOver}
 
 -- the steps of a course were taken one after the other
 abbrev Ran : State → Option Files → List Taken → Type 0
@@ -99,19 +80,14 @@ ran_calls name old course new ended (calls.Starved nothing idle) = ran_nothing o
 
 ran_form : (asked : Form) (old : World) (course : List Taken) (new : World) (ended : Status) → DoesForm asked old course new ended → Ran old.state old.files course
 ran_form (form.Play job) old course new ended does = ran_play job old course new ended does
-ran_form (form.Format name cylinders) old course new ended does = ran_script _ old course new ended does
-ran_form (form.FormatDd name cylinders) old course new ended does = ran_script _ old course new ended does
-ran_form (form.Copy from to) old course new ended does = ran_script _ old course new ended does
-ran_form (form.Verify name) old course new ended does = ran_script _ old course new ended does
 ran_form (form.FromImd imd name) old course new ended does = ran_nothing old.state old.files course does.nothing
 ran_form (form.ToImd name imd) old course new ended does = ran_nothing old.state old.files course does.nothing
 ran_form (form.Survey name) old course new ended does = ran_nothing old.state old.files course does.nothing
 ran_form (form.Remaster from to) old course new ended does = ran_nothing old.state old.files course does.nothing
 ran_form (form.Import flat name) old course new ended does = ran_script _ old course new ended does.2
-ran_form (form.Export name flat) old course new ended does = ran_script _ old course new ended does
-ran_form (form.Exercise seed count) old course new ended does = ran_script _ old course new ended does
 ran_form (form.Int13 name) old course new ended does = ran_calls name old course new ended does
 ran_form (form.Rescue from to log) old course new ended does = ran_script _ old course new ended does.2
+ran_form _ old course new ended does = ran_script _ old course new ended does
 
 ran_or_starved : (asked : Form) (old : World) (course : List Taken) (new : World) (ended : Status) → DoesOrStarves asked old course new ended
     → Ran old.state old.files course

@@ -1,15 +1,8 @@
 -- A regular track with a cut of a window that left it regular: each other field shows the same as before.
 use Rattle.std.proofs.Common.{◌≡◌, ◌≢◌, ◌↔◌, ◌+◌, ◌≤◌, ℕ, ◌⊎◌, Bool, List, ◌∷◌, ◌++◌, length, take, sym, subst, arith, refl, inl, inr}
-use Rattle.std.proofs.lemmas.Bool.{cases_order, cases_eq}
-use Rattle.std.proofs.lemmas.List.{length-append, length-take}
-use Rattle.flop_base.specs.declared.key.Chrn.{Chrn}
-use Rattle.track_model.specs.declared.Look.{Look}
-use Rattle.track_model.specs.declared.Look.TheVariants.{Found, NoMark, NoSector, NoData, BadCrc}
+use Rattle.laws_program.proofs.Common.{cases_order, cases_eq, length-append, length-take, Chrn, Look, Found, NoData, BadCrc, after_marks, IsAddressAt, LookAt, IsRegular, span_cells, one_key, spaced_from}
 use Rattle.track_model.specs.Crc.{crc}
 use Rattle.track_model.specs.Marks.{data_byte}
-use Rattle.track_model.specs.Fields.{after_marks, IsAddressAt}
-use Rattle.track_model.specs.Looks.{LookAt}
-use Rattle.track_model.specs.Regular.{IsRegular, span_cells}
 use Rattle.track_model.specs.Writing.{check_bytes, window}
 use Rattle.track_model.specs.Windows.{window_word, window_place, window_end, cut_of, IsFieldFor}
 use Rattle.track_model.proofs.Cuts.{IsOverlay, fits, behind_end, kept_look}
@@ -17,8 +10,6 @@ use Rattle.track_model.proofs.Frames.{AreSame, same_back, same_address_at}
 use Rattle.track_model.proofs.OwnField.{data_overlay}
 use Rattle.track_model.proofs.Parted.{IsParted, spaced_parted}
 use Rattle.track_model.proofs.Splices
-use Rattle.track_model.proofs.Unique.{one_key}
-use Rattle.sector_map.proofs.RegularTracks.{spaced_from}
 use Rattle.laws_program.proofs.Shown.{Shows, ShowSame, show_answer}
 
 module _ (track : List ℕ) (c h p : ℕ) (key : Chrn) (deleted : Bool) (content : List ℕ) (k : ℕ) (regular : IsRegular track c h) (field : IsFieldFor track p key content) (most : k ≤ length (window deleted content)) where
@@ -78,8 +69,7 @@ module _ (track : List ℕ) (c h p : ℕ) (key : Chrn) (deleted : Bool) (content
     )
     shows_on q other NoData not at = kept_look track p key (window deleted content) k parted field.address over most q other NoData not at
     shows_on q other BadCrc not at = kept_look track p key (window deleted content) k parted field.address over most q other BadCrc not at
-    shows_on q other NoSector not at = (λ x. x, λ x. x)
-    shows_on q other NoMark not at = (λ x. x, λ x. x)
+    shows_on q other _ not at = (λ x. x, λ x. x)
 
 -- a track that was written over at an address field of a key, and what is found there
 pub record IsWrittenOver (track : List ℕ) (c h p : ℕ) (key : Chrn) (deleted : Bool) (now : List ℕ) : Type 0 where

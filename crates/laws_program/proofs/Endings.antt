@@ -1,40 +1,10 @@
 -- How the subcommands (forms) on whole disks end where nothing can go wrong.
 use Rattle.std.proofs.Common.{◌≡◌, ◌≢◌, ◌≤◌, ℕ, All, List, [], Some, None, subst, sym, inl, inr, refl}
-use Rattle.flop_base.specs.Shelf.{Files, file_at}
-use Rattle.flop_base.specs.Standard.{sectors_at}
-use Rattle.flop_base.specs.declared.answers.Rate.{Rate}
-use Rattle.flop_base.specs.declared.answers.Rate.TheVariants.{R250, R500}
-use Rattle.flop_base.specs.declared.answers.Status.{Status}
+use Rattle.laws_program.proofs.Common.{Files, file_at, sectors_at, Rate, R250, R500, Status, Disk, DriveCounts, Blames, IsRegularDisk, IsImageOf, logged_keys, LogLine, IsLogFound, World, IsFlatFile, Runs, Form, world, DoesForm, RunsOver, Stand, RanOver, StoresFormatted, StoresDisk, StoresFlatOf, BeginsSound, EndsWellOrOutside, HasKey, IsReadable, StoresSameSectors, StoresSameAndLog, StoresRestAndLog, TakesKeys, format_complete, copy_complete, verify_complete, import_complete, export_complete, new_rescue_complete, IsSound, EndsWell, ListsFailing}
 use Rattle.flop_base.specs.declared.answers.Status.TheVariants as status
-use Rattle.raw_image.specs.Disk.{Disk}
-use Rattle.flop_base.specs.Counters.{DriveCounts}
-use Rattle.sector_model.specs.Faults.{Blames}
-use Rattle.sector_map.specs.Disks.{IsRegularDisk}
-use Rattle.sector_model.specs.Steps.{IsImageOf}
-use Rattle.rescue.specs.Course.{logged_keys}
-use Rattle.rescue.specs.declared.line.LogLine.{LogLine}
-use Rattle.disk_commands.specs.Logs.{IsLogFound}
-use Rattle.sector_model.specs.Plays.{World}
-use Rattle.disk_commands.specs.FlatFiles.{IsFlatFile}
-use Rattle.commands.specs.Leading.{Runs}
-use Rattle.floppy_words.specs.declared.form.Form.{Form}
 use Rattle.floppy_words.specs.declared.form.Form.TheVariants as form
-use Rattle.text_commands.specs.JobRounds.{world}
-use Rattle.floppy_tools.specs.Programs.{DoesForm}
-use Rattle.floppy_tools.specs.Machines.{RunsOver}
-use Rattle.floppy_tools.specs.Performed.{Stand, RanOver}
-use Rattle.laws_commands.specs.Formatted.{StoresFormatted}
-use Rattle.laws_commands.specs.Imported.{StoresDisk}
-use Rattle.laws_commands.specs.Exported.{StoresFlatOf}
 use Rattle.laws_commands.specs.FlatComplete.{IsWholeDisk}
-use Rattle.laws_commands.specs.EndsComplete.{BeginsSound, EndsWellOrOutside, HasKey, IsReadable, StoresSameSectors, StoresSameAndLog, StoresRestAndLog, TakesKeys}
-use Rattle.laws_commands.proofs.CommandEnds.{format_complete, copy_complete, verify_complete}
-use Rattle.laws_commands.proofs.FlatEnds.{import_complete, export_complete}
-use Rattle.laws_commands.proofs.RescueEnds.{new_rescue_complete}
 use Rattle.laws_commands.proofs.RescueFurther.{further_rescue_complete}
-use Rattle.laws_program.specs.Disturbed.{IsSound}
-use Rattle.laws_program.specs.Ends.{EndsWell}
-use Rattle.laws_program.specs.Told.{ListsFailing}
 use Rattle.laws_program.proofs.OnBoards.{nothing_left}
 use Rattle.laws_program.proofs.OfForms.{form_done}
 
@@ -45,11 +15,7 @@ counted Inner Holds old new status.AllOk means shelf sink ends = means ends
 counted Inner Holds old new status.NoMemory means shelf sink ends = tt
 counted Inner Holds old new status.FileFault means shelf sink ends = shelf.rose refl
 counted Inner Holds old new status.SinkFault means shelf sink ends = sink.rose refl
-counted Inner Holds old new status.SomeRefused means shelf sink ends = ends
-counted Inner Holds old new status.BadImage means shelf sink ends = ends
-counted Inner Holds old new status.Absent means shelf sink ends = ends
-counted Inner Holds old new status.BadJob means shelf sink ends = ends
-counted Inner Holds old new status.BadWords means shelf sink ends = ends
+counted Inner Holds old new _ means shelf sink ends = ends
 
 module _ (asked : Form) (spares : List DriveCounts) (old new : Stand) (ended : Status) (ran : RanOver (Some asked) spares old new ended) where
   abbrev over : RunsOver (Some asked) old.board spares old.outside.outside new.board new.outside.outside ended

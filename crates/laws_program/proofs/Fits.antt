@@ -1,31 +1,14 @@
 -- How the subcommands (forms) on files alone end, where the file that they read is there and in its grammar.
 use Rattle.std.proofs.Common.{◌≡◌, ◌∙◌, arith, ℕ, List, Option, Result, Ok, Err, Some, None, refl, sym, subst, inl, inr}
 use Rattle.std.specs.Prelude.{codes}
-use Rattle.flop_base.specs.Shelf.{Files, file_at}
-use Rattle.flop_base.specs.declared.answers.Status.{Status}
+use Rattle.laws_program.proofs.Common.{Files, file_at, Status, Disk, image_of, ImageError, DriveCounts, imd_of, Stop, Blames, Prints, Whole, Part, IsPutFault, stop_status, SurveyLine, SurveysFile, TellsSurvey, Halt, ReadsAs, Tells, Makes, MakesFromImd, MakesToImd, MakesRemaster, HasNoDisk, HasNoImd, HasNoRemaster, IsImdFile, IsRemasterFile, Stand, RanOver, of_one, EndsByFit, EndsWell, MakesFile, TellsSurveyOf, HasUnfit}
 use Rattle.flop_base.specs.declared.answers.Status.TheVariants as status
-use Rattle.raw_image.specs.Disk.{Disk}
-use Rattle.raw_image.specs.Image.{image_of}
-use Rattle.raw_image.specs.declared.error.ImageError.{ImageError}
-use Rattle.flop_base.specs.Counters.{DriveCounts}
 use Rattle.imagedisk.specs.declared.image.ImdImage.{ImdImage}
-use Rattle.imagedisk.specs.Reading.{image_of as imd_of}
-use Rattle.sector_model.specs.declared.reply.Stop.{Stop}
 use Rattle.sector_model.specs.declared.reply.Stop.TheVariants as stop
-use Rattle.sector_model.specs.Faults.{Blames}
-use Rattle.sector_model.specs.Plays.{Prints, Whole, Part, IsPutFault}
-use Rattle.sector_model.specs.Texts.{stop_status}
-use Rattle.remaster.specs.declared.lines.SurveyLine.{SurveyLine}
-use Rattle.archive_commands.specs.Surveys.{SurveysFile, TellsSurvey}
-use Rattle.archive_commands.specs.declared.halt.Halt.{Halt}
 use Rattle.archive_commands.specs.declared.halt.Halt.TheVariants as halt
-use Rattle.archive_commands.specs.Files.{ReadsAs, StopsAt}
-use Rattle.archive_commands.specs.Making.{Tells, Makes, outcome_status, MakesFromImd, MakesToImd, MakesRemaster, HasNoDisk, HasNoImd, HasNoRemaster, IsDiskFile, IsImdFile, IsRemasterFile}
+use Rattle.archive_commands.specs.Files.{StopsAt}
+use Rattle.archive_commands.specs.Making.{outcome_status, IsDiskFile}
 use Rattle.floppy_words.specs.declared.form.Form.TheVariants as form
-use Rattle.floppy_tools.specs.Performed.{Stand, RanOver}
-use Rattle.laws_commands.proofs.Bays.{of_one}
-use Rattle.laws_program.specs.Ends.{EndsByFit, EndsWell}
-use Rattle.laws_program.specs.Made.{MakesFile, TellsSurveyOf, HasUnfit}
 use Rattle.laws_program.proofs.Archives.{made_well, survey_told}
 use Rattle.laws_program.proofs.OfForms.{form_done}
 
@@ -40,13 +23,7 @@ put_fit : (Made IsUnfit : Type 0) (old new : Stand) (ended : Status) → Blames 
     → IsPutFault ended → EndsByFit Made IsUnfit old new ended
 put_fit Made IsUnfit old new status.NoMemory sink fault = tt
 put_fit Made IsUnfit old new status.SinkFault sink fault = sink.rose refl
-put_fit Made IsUnfit old new status.AllOk sink fault = absurd fault
-put_fit Made IsUnfit old new status.SomeRefused sink fault = absurd fault
-put_fit Made IsUnfit old new status.BadImage sink fault = absurd fault
-put_fit Made IsUnfit old new status.Absent sink fault = absurd fault
-put_fit Made IsUnfit old new status.FileFault sink fault = absurd fault
-put_fit Made IsUnfit old new status.BadJob sink fault = absurd fault
-put_fit Made IsUnfit old new status.BadWords sink fault = absurd fault
+put_fit Made IsUnfit old new _ sink fault = absurd fault
 
 starved_fit : (Made IsUnfit : Type 0) (old new : Stand) (ended : Status) → ended ≡ status.NoMemory → EndsByFit Made IsUnfit old new ended
 starved_fit Made IsUnfit old new ended starved = subst (λ (s : Status). EndsByFit Made IsUnfit old new s) (sym starved) tt
@@ -140,11 +117,7 @@ well_by Holds old new status.AllOk ends = ends
 well_by Holds old new status.NoMemory ends = tt
 well_by Holds old new status.FileFault ends = ends
 well_by Holds old new status.SinkFault ends = ends
-well_by Holds old new status.SomeRefused ends = absurd ends
-well_by Holds old new status.BadImage ends = absurd ends
-well_by Holds old new status.Absent ends = absurd ends
-well_by Holds old new status.BadJob ends = absurd ends
-well_by Holds old new status.BadWords ends = absurd ends
+well_by Holds old new _ ends = absurd ends
 
 module _ (name : List ℕ) (files : Files) (disk : Disk) (old new : Stand) (ended : Status)
     (shelf : Blames (ended ≡ status.FileFault) old.outside.shelf_faults new.outside.shelf_faults)

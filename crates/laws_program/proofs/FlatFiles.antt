@@ -1,25 +1,10 @@
 -- What an import and an export store.
 use Rattle.std.proofs.Common.{◌≡◌, ℕ, List, Option, Some, subst}
-use Rattle.flop_base.specs.Shelf.{Files}
+use Rattle.laws_program.proofs.Common.{Files, Disk, Counters, DriveCounts, Taken, IsImageOf, Board, Outside, world, RunsOver, IsSure, StoresImported, StoresExported, one_image, fresh_memory, HadNoFault, IsReadSure, StoresFlatAsRead}
 use Rattle.flop_base.specs.declared.answers.Status.TheVariants as status
-use Rattle.raw_image.specs.Disk.{Disk}
-use Rattle.flop_base.specs.Counters.{Counters, DriveCounts}
-use Rattle.sector_model.specs.Runs.{Taken}
-use Rattle.sector_model.specs.Steps.{IsImageOf}
-use Rattle.pc_bus.specs.Boards.{Board}
-use Rattle.archive_commands.specs.Files.{Outside}
 use Rattle.floppy_words.specs.declared.form.Form.TheVariants as form
-use Rattle.text_commands.specs.JobRounds.{world}
-use Rattle.floppy_tools.specs.Machines.{RunsOver}
-use Rattle.laws_commands.specs.Copied.{IsSure}
-use Rattle.laws_commands.specs.Imported.{StoresImported}
-use Rattle.laws_commands.specs.Exported.{StoresExported}
-use Rattle.laws_commands.proofs.Verified.{one_image}
 use Rattle.laws_commands.proofs.ImportRun.{import_stores}
 use Rattle.laws_commands.proofs.ExportRun.{export_stores}
-use Rattle.laws_commands.proofs.CommandEnds.{fresh_memory}
-use Rattle.laws_program.specs.Disturbed.{HadNoFault}
-use Rattle.laws_program.specs.Stored.{IsReadSure, StoresFlatAsRead}
 use Rattle.laws_program.proofs.OnBoards.{faultless_first}
 use Rattle.laws_program.proofs.OfForms.{form_well}
 use Rattle.laws_program.proofs.Copies.{sure_read}

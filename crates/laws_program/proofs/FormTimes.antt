@@ -1,41 +1,13 @@
 -- How long a subcommand (form) lasts at most, how many port accesses it makes, and how many data commands it sends.
-use Rattle.std.proofs.Common.{arith, ◌≡◌, ◌∙◌, ℕ, ◌+◌, ◌-◌, ◌≤◌, List, [], ◌∷◌, ◌++◌, length, Option, Some, None, Result, Ok, Err, refl, ap, sym, subst, append-nil}
-use Rattle.flop_base.proofs.Costs.{accesses_twice, accesses_within, costs_none}
-use Rattle.flop_base.specs.Counters.{AccessesPortsUpTo, Counters, DriveCounts, IsPastDriver, LastsUpTo}
-use Rattle.flop_base.specs.Counts.{RoseBy}
-use Rattle.flop_base.specs.Shelf.{Files}
-use Rattle.flop_base.specs.declared.answers.Status.{Status}
-use Rattle.floppy_jobs.specs.declared.calls.CallLine.{CallLine}
-use Rattle.floppy_jobs.specs.declared.request.Request.{Request}
+use Rattle.std.proofs.Common.{arith, ◌≡◌, ◌∙◌, ℕ, ◌+◌, ◌-◌, ◌≤◌, List, [], ◌∷◌, ◌++◌, length, Option, Some, None, Result, Ok, Err, ap, sym, subst, append-nil}
+use Rattle.laws_program.proofs.Common.{accesses_twice, accesses_within, costs_none, AccessesPortsUpTo, Counters, DriveCounts, IsPastDriver, LastsUpTo, RoseBy, Files, Status, CallLine, Request, Board, counters_of, job_of, State, IsSame, ChangesMedium, StationState, AfterStop, Taken, Run, EndsBay, Stored, Left, EndStopsAt, AtFirst, AtSecond, World, Plays, There, Missing, TooLong, Faulty, Starved, PlaysParsed, PlaysRequests, Played, Stopped, BrokenOff, EndStopped, course_port_accesses, course_time, run_costs, run_more, Script, RunsScript, HasRun, script_ran, run_both, Breaks, AtStop, AtPut, course_of, ServesCalls, ServesParsed, ServesLines, world, line_run, rounds_run, Outside, Form, DoesForm, DoesOrStarves, AsAsked, StarvesWords, Does, RunsOver, EachStep, SendsFew, course_commands, most_commands}
 use Rattle.floppy_jobs.specs.declared.request.Request.TheVariants as request
-use Rattle.pc_bus.specs.Boards.{Board}
 use Rattle.laws_machine.specs.OnSteps.Lasts.{clock_of}
 use Rattle.laws_machine.specs.OnSteps.Uses.{Uses}
-use Rattle.machine_commands.specs.Shown.{counters_of}
-use Rattle.floppy_jobs.specs.Texts.{job_of}
-use Rattle.sector_model.specs.States.{State, IsSame, ChangesMedium}
-use Rattle.sector_model.specs.Stations.{StationState}
-use Rattle.sector_model.specs.Steps.{AfterStop}
-use Rattle.sector_model.specs.Runs.{Taken, Run, Ends, EndsBay, Stored, Left, EndStopsAt, AtFirst, AtSecond}
-use Rattle.sector_model.specs.Plays.{World, Plays, There, Missing, TooLong, Faulty, Starved, PlaysParsed, PlaysRequests, Played, Stopped, BrokenOff, EndStopped}
-use Rattle.sector_model.specs.Times.{course_port_accesses, course_time}
-use Rattle.sector_model.proofs.JobTimes.{run_costs}
-use Rattle.sector_model.proofs.Runs.{run_more}
-use Rattle.commands.specs.Scripts.{Script, RunsScript}
-use Rattle.commands.proofs.Running.{HasRun, script_ran}
+use Rattle.sector_model.specs.Runs.{Ends}
 use Rattle.commands.proofs.Running as has
-use Rattle.commands.proofs.Passed.{run_both}
-use Rattle.text_commands.specs.CallRounds.{Breaks, AtStop, AtPut, course_of}
-use Rattle.text_commands.specs.CallCourses.{ServesCalls, ServesParsed, ServesLines}
 use Rattle.text_commands.specs.CallCourses as calls
-use Rattle.text_commands.specs.JobRounds.{world}
-use Rattle.text_commands.proofs.RanCalls.{line_run, rounds_run}
-use Rattle.archive_commands.specs.Files.{Outside}
-use Rattle.floppy_words.specs.declared.form.Form.{Form}
 use Rattle.floppy_words.specs.declared.form.Form.TheVariants as form
-use Rattle.floppy_tools.specs.Programs.{DoesForm, DoesOrStarves, AsAsked, StarvesWords, Does}
-use Rattle.floppy_tools.specs.Machines.{RunsOver}
-use Rattle.laws_program.specs.Steps.{EachStep, SendsFew, course_commands, most_commands}
 use Rattle.laws_program.proofs.StepCauses.{each_sends}
 
 -- A bound `R most old new` on what counters show of a call, which adds up from call to call. A run keeps within this sum,
@@ -185,19 +157,14 @@ module _ (R : ℕ → Counters → Counters → Type 0) (sum : StationState → 
   form_within : (asked : Form) (old : World) (course : List Taken) (new : World) (ended : Status) → DoesForm asked old course new ended
       → Within old course new
   form_within (form.Play job) old course new ended does = play_within job old course new ended does
-  form_within (form.Format name cylinders) old course new ended does = script_within _ old course new ended does
-  form_within (form.FormatDd name cylinders) old course new ended does = script_within _ old course new ended does
-  form_within (form.Copy from to) old course new ended does = script_within _ old course new ended does
-  form_within (form.Verify name) old course new ended does = script_within _ old course new ended does
   form_within (form.FromImd imd name) old course new ended does = idle_within old new course does.state
   form_within (form.ToImd name imd) old course new ended does = idle_within old new course does.state
   form_within (form.Survey name) old course new ended does = idle_within old new course does.state
   form_within (form.Remaster from to) old course new ended does = idle_within old new course does.state
   form_within (form.Import flat name) old course new ended does = script_within _ old course new ended does.2
-  form_within (form.Export name flat) old course new ended does = script_within _ old course new ended does
-  form_within (form.Exercise seed count) old course new ended does = script_within _ old course new ended does
   form_within (form.Int13 name) old course new ended does = calls_within name old course new ended does
   form_within (form.Rescue from to log) old course new ended does = script_within _ old course new ended does.2
+  form_within _ old course new ended does = script_within _ old course new ended does
 
   asked_within : (asked : Form) (old : World) (course : List Taken) (new : World) (ended : Status) → DoesOrStarves asked old course new ended
       → Within old course new

@@ -1,12 +1,7 @@
 -- Arguments (words) that are a subcommand (form).
 use Rattle.std.proofs.Common.{◌≡◌, ◌∙◌, ℕ, List, Option, Some, None, refl, sym, subst}
-use Rattle.flop_base.specs.declared.answers.Status.{Status}
-use Rattle.flop_base.specs.Counters.{DriveCounts}
-use Rattle.floppy_words.specs.declared.form.Form.{Form}
-use Rattle.floppy_words.specs.Forms.{form_of, ports_file_of}
+use Rattle.laws_program.proofs.Common.{Status, DriveCounts, Form, form_of, ports_file_of, RunsOver, Stand, RanOver, Performed}
 use Rattle.floppy_words.proofs.PortsLemmas.{no_form}
-use Rattle.floppy_tools.specs.Machines.{RunsOver}
-use Rattle.floppy_tools.specs.Performed.{Stand, RanOver, Performed}
 
 -- arguments that are a subcommand name no text of port accesses
 no_ports : (words : List (List ℕ)) (asked : Form) (file : Option (List ℕ)) → form_of words ≡ Some asked → ports_file_of words ≡ file → file ≡ None

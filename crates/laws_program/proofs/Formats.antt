@@ -1,16 +1,9 @@
 -- What a format stores.
 use Rattle.std.proofs.Common.{ℕ, List, Some}
-use Rattle.flop_base.specs.declared.answers.Rate.TheVariants.{R250, R500}
+use Rattle.laws_program.proofs.Common.{R250, R500, DriveCounts, Board, Outside, world, RunsOver, StoresFormatted, HadNoFault}
 use Rattle.flop_base.specs.declared.answers.Status.TheVariants as status
-use Rattle.flop_base.specs.Counters.{DriveCounts}
-use Rattle.pc_bus.specs.Boards.{Board}
-use Rattle.archive_commands.specs.Files.{Outside}
 use Rattle.floppy_words.specs.declared.form.Form.TheVariants as form
-use Rattle.text_commands.specs.JobRounds.{world}
-use Rattle.floppy_tools.specs.Machines.{RunsOver}
-use Rattle.laws_commands.specs.Formatted.{StoresFormatted}
 use Rattle.laws_commands.proofs.FormatRun.{format_stores}
-use Rattle.laws_program.specs.Disturbed.{HadNoFault}
 use Rattle.laws_program.proofs.OnBoards.{faultless_first}
 use Rattle.laws_program.proofs.OfForms.{form_well}
 

@@ -1,16 +1,7 @@
 -- Two formats of one track in alike bays: they are answered alike, and leave alike bays.
 use Rattle.std.proofs.Common.{arith, ◌≡◌, ◌∙◌, ℕ, suc, All, List, [], ◌∷◌, refl, sym, ap, subst, inl, inr, Option, Some, None, Result, Ok, Err, true≢false}
-use Rattle.flop_base.specs.declared.answers.Code.{Code}
-use Rattle.raw_image.specs.Disk.{Disk, IsDisk, HasTrack, track_of}
-use Rattle.flop_base.specs.Counters.{GoesOn, IsUndisturbed}
-use Rattle.sector_map.specs.Layings.{Format, Laying, formatted, CanFormat, IsFormattable}
-use Rattle.sector_map.specs.KeptDisks.{KeepsTracks}
-use Rattle.sector_map.proofs.KeptTracks.{keeps_itself, keeps_both}
+use Rattle.laws_program.proofs.Common.{Code, Disk, IsDisk, HasTrack, track_of, GoesOn, IsUndisturbed, Format, Laying, formatted, CanFormat, IsFormattable, KeepsTracks, keeps_itself, keeps_both, cases_rate, StationState, bay_of, LaysDisk, Lays, IsFormatted, IsUnformatted, FormatsDrive, reply_of}
 use Rattle.sector_map.proofs.Laid.{laying_keeps_tracks, can_format_alike}
-use Rattle.sector_map.proofs.MetTracks.{cases_rate}
-use Rattle.sector_model.specs.Stations.{StationState, bay_of}
-use Rattle.sector_model.specs.Formats.{LaysDisk, Lays, IsFormatted, IsUnformatted, FormatsDrive}
-use Rattle.sector_model.specs.Steps.{reply_of}
 use Rattle.laws_program.proofs.Shown.{same_show}
 use Rattle.laws_program.proofs.AlikeDisks.{AlikeDisks, AlikeMedia}
 use Rattle.laws_program.proofs.AfterDisks.{alike_after}
@@ -66,29 +57,26 @@ media_alike : (format : Format) (one two one_after two_after : Option Disk) (lay
     → AlikeMedia one_after two_after
 media_alike format None None one_after two_after layings more same only lays begun untouched only_too lays_too begun_too untouched_too =
     subst (λ (o : Option Disk). AlikeMedia o two_after) (sym lays.1) (subst (λ (o : Option Disk). AlikeMedia None o) (sym lays_too.1) tt)
-media_alike format None (Some two) one_after two_after layings more same only lays begun untouched only_too lays_too begun_too untouched_too = absurd same
-media_alike format (Some one) None one_after two_after layings more same only lays begun untouched only_too lays_too begun_too untouched_too = absurd same
 media_alike format (Some one) (Some two) None two_after layings more same only lays begun untouched only_too lays_too begun_too untouched_too = absurd lays
 media_alike format (Some one) (Some two) (Some one_after) None layings more same only lays begun untouched only_too lays_too begun_too untouched_too = absurd lays_too
 media_alike format (Some one) (Some two) (Some one_after) (Some two_after) layings more same only lays begun untouched only_too lays_too begun_too untouched_too =
     over_alike format one two one_after two_after same
     (laid_over format one one_after layings same.valid only lays begun untouched)
     (laid_over format two two_after more same.alike.valid only_too lays_too begun_too untouched_too)
+media_alike format _ _ one_after two_after layings more same only lays begun untouched only_too lays_too begun_too untouched_too = absurd same
 
 -- a format that fits one of two alike media fits the other
 formattable_on : (format : Format) (one two : Option Disk) → AlikeMedia one two → IsFormattable format one → IsFormattable format two
 formattable_on format None None same can = can
-formattable_on format None (Some two) same can = absurd same
-formattable_on format (Some one) None same can = absurd same
 formattable_on format (Some one) (Some two) same can =
     (two, refl, (can_format_alike format one two same.alike).0 (subst (CanFormat format) (sym (some_one one can.0 can.1)) can.2))
+formattable_on format _ _ same can = absurd same
 
 formattable_back : (format : Format) (one two : Option Disk) → AlikeMedia one two → IsFormattable format two → IsFormattable format one
 formattable_back format None None same can = can
-formattable_back format None (Some two) same can = absurd same
-formattable_back format (Some one) None same can = absurd same
 formattable_back format (Some one) (Some two) same can =
     (one, refl, (can_format_alike format one two same.alike).1 (subst (CanFormat format) (sym (some_one two can.0 can.1)) can.2))
+formattable_back format _ _ same can = absurd same
 
 module _ (format : Format) (bay : ℕ) (one two one_new two_new : StationState) (same : AlikeMedia (bay_of one bay).medium (bay_of two bay).medium) (calm : IsUndisturbed bay one.counters one_new.counters) (goes : GoesOn one.counters one_new.counters) (calm_too : IsUndisturbed bay two.counters two_new.counters) (goes_too : GoesOn two.counters two_new.counters) where
   pub formats_media : (called called_too : Result (Unit {0}) Code) → FormatsDrive format bay one called one_new → FormatsDrive format bay two called_too two_new → AlikeMedia (bay_of one_new bay).medium (bay_of two_new bay).medium

@@ -1,28 +1,11 @@
 -- What stands in the bays and under their names in a run: the files of disks stay the files of disks.
 use Rattle.std.proofs.Common.{◌≡◌, ◌∙◌, ◌≤◌, ℕ, Bool, true, false, true≢false, cond, List, [], ◌∷◌, length, Option, Some, None, Ok, refl, ap, sym, subst, inl}
 use Rattle.std.specs.Prelude.{◌==◌, ◌&&◌, not, is_some, IsSomeAnd, MatchOption, if◌then◌else◌}
-use Rattle.std.specs.Ordering.{nat_cmp, eq_by_cmp}
+use Rattle.laws_program.proofs.Common.{nat_cmp, eq_by_cmp, slice_cmp, nat_list_cmp_total, Files, file_at, after_store, stored, Disk, IsDisk, image_of, file_of, image_again, Two, in_bay, with_bay, Change, Written, Format, Laying, Reason, Bay, State, Reaches, ChangesDisk, Lays, LaysDisk, IsImageOf, unless_bad, most_image_bytes, one_image, file_fits, IsDiskText, IsDiskFile, Names}
 use Rattle.std.proofs.lemmas.Cmp.{eq_by_cmp_equiv}
-use Rattle.std.specs.Cmp.Lexicographic.{slice_cmp, nat_list_cmp_total}
 use Rattle.std.specs.FinMap as fin
-use Rattle.flop_base.specs.Shelf.{Files, file_at, after_store, stored}
 use Rattle.flop_base.specs.declared.answers.Code.TheVariants as code
-use Rattle.raw_image.specs.Disk.{Disk, IsDisk}
-use Rattle.raw_image.specs.Image.{image_of, file_of}
-use Rattle.raw_image.proofs.Images.{image_again}
-use Rattle.flop_base.specs.Bays.{Two, in_bay, with_bay}
-use Rattle.sector_map.specs.Changes.{Change, Written}
-use Rattle.sector_map.specs.Layings.{Format, Laying}
-use Rattle.sector_model.specs.declared.reply.Reason.{Reason}
 use Rattle.sector_model.specs.declared.reply.Reason.TheVariants as reason
-use Rattle.sector_model.specs.Stations.{Bay}
-use Rattle.sector_model.specs.States.{State}
-use Rattle.sector_model.specs.Writes.{Reaches, ChangesDisk}
-use Rattle.sector_model.specs.Formats.{Lays, LaysDisk}
-use Rattle.sector_model.specs.Steps.{IsImageOf, unless_bad, most_image_bytes}
-use Rattle.laws_commands.proofs.Verified.{one_image}
-use Rattle.laws_commands.proofs.StoredFiles.{file_fits}
-use Rattle.laws_program.specs.Inserted.{IsDiskText, IsDiskFile, Names}
 
 -- ---- files
 
@@ -80,8 +63,7 @@ inserted_disk files name disk is image =
 abbrev pub IsHeld : Option (List ℕ) → Option Disk → Type 0
 IsHeld (Some name) (Some disk) = IsDisk disk
 IsHeld None None = Unit {0}
-IsHeld (Some name) None = ⊥
-IsHeld None (Some disk) = ⊥
+IsHeld _ _ = ⊥
 
 pub record AreHeld (names : Names) (bays : Two Bay) : Type 0 where
   pub first : IsHeld names.first bays.first.medium
@@ -113,10 +95,9 @@ held_still names bays at x held here = go (at == 0) here
     go false here = record { first = held.first; second = here }
 
 pub named_loaded : (name : Option (List ℕ)) (medium : Option Disk) → IsHeld name medium → is_some medium ≡ is_some name
-named_loaded (Some name) (Some disk) held = refl
-named_loaded None None held = refl
 named_loaded (Some name) None held = absurd held
 named_loaded None (Some disk) held = absurd held
+named_loaded _ _ held = refl
 
 pub held_none : (name : Option (List ℕ)) (medium : Option Disk) → is_some medium ≡ false → IsHeld name medium → IsHeld name None
 held_none name None empty held = held
@@ -178,14 +159,12 @@ choose_out F names put false loaded holds done refused = refused (reason.Driver 
 
 -- a request that puts a medium in and isn't refused finds a free bay
 pub goes_in : (good loaded : Bool) → unless_bad good (if loaded then Some reason.Busy else None) ≡ None → (good && not loaded) ≡ true
-goes_in true true e = absurd (cc e)
 goes_in true false e = refl
-goes_in false loaded e = absurd (cc e)
+goes_in _ _ e = absurd (cc e)
 
 pub both_free : (good loaded : Bool) → good ≡ true → loaded ≡ false → (good && not loaded) ≡ true
 both_free good loaded e f = rw (e, f) refl
 
 pub not_loaded : (good loaded : Bool) (next : Option Reason) → unless_bad good (if loaded then Some reason.Busy else next) ≡ None → loaded ≡ false
-not_loaded true true next e = absurd (cc e)
 not_loaded true false next e = refl
-not_loaded false loaded next e = absurd (cc e)
+not_loaded _ _ next e = absurd (cc e)

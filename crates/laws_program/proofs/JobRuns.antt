@@ -1,36 +1,14 @@
 -- How long a whole job lasts at most, and how many port accesses it makes, by its requests alone.
 use Rattle.std.proofs.Common.{arith, ◌≡◌, ◌∙◌, ℕ, zero, suc, ◌+◌, ◌≤◌, All, List, [], ◌∷◌, ◌++◌, length, refl, ap, sym, subst, append-nil, append_assoc, Option, Some, Result, Ok}
 use Rattle.std.specs.Prelude.{sum_by}
-use Rattle.std.proofs.lemmas.List.Elements.{All-nil}
+use Rattle.laws_program.proofs.Common.{All-nil, used_within, Two, DriveCounts, Files, file_at, Status, Request, Board, turn_of, StationState, Bay, IsFresh, Taken, Run, requests_of, World, Plays, There, Missing, TooLong, Faulty, Starved, PlaysParsed, PlaysRequests, Played, Stopped, BrokenOff, EndStopped, IsText, IsJob, IsWithin, course_port_accesses, job_port_accesses, job_time, most_port_accesses, most_time, course_accesses_within, course_within, requests_more, world, Outside, DoesOrStarves, AsAsked, StarvesWords, RunsOver, SetsAtMost, told_short, CostsRun}
 use Rattle.std.proofs.lemmas.List.Sums.{sum_by-append}
-use Rattle.flop_base.proofs.Costs.{used_within}
-use Rattle.flop_base.specs.Bays.{Two}
-use Rattle.flop_base.specs.Counters.{DriveCounts}
-use Rattle.flop_base.specs.Shelf.{Files, file_at}
-use Rattle.flop_base.specs.declared.answers.Status.{Status}
 use Rattle.floppy_jobs.specs.Requests.{request_of}
 use Rattle.floppy_jobs.specs.Texts.{job_of}
 use Rattle.floppy_jobs.specs.Valid.{IsRequest}
-use Rattle.floppy_jobs.specs.declared.request.Request.{Request}
 use Rattle.floppy_jobs.specs.declared.request.Request.TheVariants as request
 use Rattle.floppy_jobs.proofs.ValidLemmas.{request-valid, text-valid}
-use Rattle.pc_bus.specs.Boards.{Board}
-use Rattle.sector_model.specs.Lasting.{turn_of}
-use Rattle.sector_model.specs.Stations.{StationState, Bay, IsFresh}
-use Rattle.sector_model.specs.Runs.{Taken, Run, requests_of}
-use Rattle.sector_model.specs.Plays.{World, Plays, There, Missing, TooLong, Faulty, Starved, PlaysParsed, PlaysRequests, Played, Stopped, BrokenOff, EndStopped, IsText}
-use Rattle.sector_model.specs.Ties.{IsJob}
-use Rattle.sector_model.specs.Times.{IsWithin, course_port_accesses, job_port_accesses, job_time, most_port_accesses, most_time}
-use Rattle.sector_model.proofs.JobTimes.{course_accesses_within, course_within}
-use Rattle.sector_model.proofs.Runs.{requests_more}
-use Rattle.text_commands.specs.JobRounds.{world}
-use Rattle.archive_commands.specs.Files.{Outside}
 use Rattle.floppy_words.specs.declared.form.Form.TheVariants as form
-use Rattle.floppy_tools.specs.Programs.{DoesOrStarves, AsAsked, StarvesWords}
-use Rattle.floppy_tools.specs.Machines.{RunsOver}
-use Rattle.laws_commands.specs.Times.{SetsAtMost}
-use Rattle.laws_commands.proofs.Turns.{told_short}
-use Rattle.laws_program.specs.Lasting.{CostsRun}
 use Rattle.laws_program.proofs.Courses.{form_runs}
 use Rattle.laws_program.proofs.FormTimes.{machine_lasts, machine_uses}
 use Rattle.laws_program.proofs.Plays.{text_there}
@@ -88,19 +66,7 @@ first_sum f requests course first =
 
 valid_tries : (asked : Request) → IsRequest asked → SetsAtMost 10 asked
 valid_tries (request.Tries tries) valid = valid.1
-valid_tries (request.Insert bay name) valid = tt
-valid_tries (request.Blank bay name cylinders) valid = tt
-valid_tries (request.BlankDd bay name cylinders) valid = tt
-valid_tries (request.Eject bay) valid = tt
-valid_tries (request.Ack bay) valid = tt
-valid_tries (request.Read bay key address) valid = tt
-valid_tries (request.Write bay key address) valid = tt
-valid_tries (request.WriteDeleted bay key address) valid = tt
-valid_tries (request.Format bay c h) valid = tt
-valid_tries (request.Fill address count byte) valid = tt
-valid_tries (request.Dump address count) valid = tt
-valid_tries (request.Unit bay) valid = tt
-valid_tries (request.SetRate bay rate) valid = tt
+valid_tries _ valid = tt
 
 job_valid : (text : List ℕ) (requests : List Request) → job_of text ≡ Ok requests → All IsRequest requests
 unfolding job_of

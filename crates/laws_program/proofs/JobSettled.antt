@@ -1,22 +1,10 @@
 -- Two runs of one batch job over machines where nothing is left that could go wrong.
 use Rattle.std.proofs.Common.{◌≡◌, ◌∙◌, ℕ, List, [], ◌∷◌, length, Some, refl, ap, sym, subst, inl, inr}
 use Rattle.std.specs.Prelude.{◌⊎◌}
-use Rattle.flop_base.specs.Shelf.{Files}
-use Rattle.flop_base.specs.Counters.{DriveCounts}
-use Rattle.flop_base.specs.declared.answers.Status.{Status}
+use Rattle.laws_program.proofs.Common.{Files, DriveCounts, Status, Blames, State, Taken, World, AreBytes, BeginAlike, AreRegularBefore, AnswersAgree, IsFreeEnd, EndAlike, EndAlikeUnlessFree, world, DoesOrStarves, AsAsked, StarvesWords, Stand, RanOver, IsSound, EndsOutside}
 use Rattle.flop_base.specs.declared.answers.Status.TheVariants as status
-use Rattle.sector_model.specs.Faults.{Blames}
-use Rattle.sector_model.specs.States.{State}
-use Rattle.sector_model.specs.Runs.{Taken}
-use Rattle.sector_model.specs.Plays.{World}
-use Rattle.laws_program.specs.Determined.{AreBytes, BeginAlike, AreRegularBefore, AnswersAgree, IsFreeEnd, EndAlike, EndAlikeUnlessFree}
 use Rattle.laws_program.proofs.PlaysAgree.{answers_determined}
 use Rattle.floppy_words.specs.declared.form.Form.TheVariants as form
-use Rattle.text_commands.specs.JobRounds.{world}
-use Rattle.floppy_tools.specs.Programs.{DoesOrStarves, AsAsked, StarvesWords}
-use Rattle.floppy_tools.specs.Performed.{Stand, RanOver}
-use Rattle.laws_program.specs.Disturbed.{IsSound}
-use Rattle.laws_program.specs.Ends.{EndsOutside}
 use Rattle.laws_program.proofs.OnBoards.{nothing_left}
 
 -- any course agrees with an empty one
@@ -45,12 +33,7 @@ free_counted : (old new : Stand) (ended : Status) → Blames (ended ≡ status.F
 free_counted old new status.NoMemory shelf sink free = tt
 free_counted old new status.FileFault shelf sink free = shelf.rose refl
 free_counted old new status.SinkFault shelf sink free = sink.rose refl
-free_counted old new status.AllOk shelf sink free = free
-free_counted old new status.SomeRefused shelf sink free = free
-free_counted old new status.BadImage shelf sink free = free
-free_counted old new status.Absent shelf sink free = free
-free_counted old new status.BadJob shelf sink free = free
-free_counted old new status.BadWords shelf sink free = free
+free_counted old new _ shelf sink free = free
 
 module _ (job : List ℕ) (spares other_spares : List DriveCounts) (old new other_old other_new : Stand) (ended other_ended : Status) (files others : Files)
     (one : RanOver (Some (form.Play job)) spares old new ended) (two : RanOver (Some (form.Play job)) other_spares other_old other_new other_ended) where

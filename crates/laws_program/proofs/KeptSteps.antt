@@ -1,32 +1,10 @@
 -- Each step of a run keeps what stands in the bays and under their names.
 use Rattle.std.proofs.Common.{◌≡◌, ◌∙◌, ℕ, Bool, true, false, true≢false, List, [], ◌∷◌, Option, Some, None, Result, Ok, Err, refl, ap, sym, subst, inl, inr}
 use Rattle.std.specs.Prelude.{is_some, MatchBool, if◌then◌else◌}
-use Rattle.std.specs.List.{list_all}
-use Rattle.std.proofs.lemmas.Bool.{leb-true}
-use Rattle.flop_base.specs.Shelf.{Files, stored}
-use Rattle.flop_base.specs.declared.answers.Code.{Code}
+use Rattle.laws_program.proofs.Common.{list_all, leb-true, Files, stored, Code, Rate, R500, R250, Chrn, Disk, IsDisk, file_of, Two, in_bay, with_bay, Request, Reply, StationState, Bay, Becomes, Stays, bay_of, set_bay, fresh_bay, State, IsSame, read_refusal, write_refusal, format_refusal, rate_refusal, is_bay, IsRefusedAtOnce, Acks, AcksDrive, ReadsDrive, WritesTo, FormatsTo, Step, IsImageOf, IsDriverCall, refusal_of, spare_refusal, is_loaded, is_blank_request, blank_of, Taken, Run, requests_of, and_both, IsDiskFile, Names, named_by, IsStoredBy, HoldsBy, InsertsDisk}
 use Rattle.flop_base.specs.declared.answers.Code.TheVariants as code
-use Rattle.flop_base.specs.declared.answers.Rate.{Rate}
-use Rattle.flop_base.specs.declared.answers.Rate.TheVariants.{R500, R250}
-use Rattle.flop_base.specs.declared.key.Chrn.{Chrn}
-use Rattle.raw_image.specs.Disk.{Disk, IsDisk}
-use Rattle.raw_image.specs.Image.{file_of}
-use Rattle.flop_base.specs.Bays.{Two, in_bay, with_bay}
-use Rattle.floppy_jobs.specs.declared.request.Request.{Request}
 use Rattle.floppy_jobs.specs.declared.request.Request.TheVariants as request
-use Rattle.sector_model.specs.declared.reply.Reply.{Reply}
-use Rattle.sector_model.specs.Stations.{StationState, Bay, Becomes, Stays, bay_of, set_bay, fresh_bay}
-use Rattle.sector_model.specs.States.{State, IsSame}
-use Rattle.sector_model.specs.Orders.{read_refusal, write_refusal, format_refusal, rate_refusal, is_bay, IsRefusedAtOnce}
-use Rattle.sector_model.specs.Calls.{Acks, AcksDrive}
-use Rattle.sector_model.specs.Reads.{ReadsDrive}
-use Rattle.sector_model.specs.Writes.{WritesTo}
-use Rattle.sector_model.specs.Formats.{FormatsTo}
-use Rattle.sector_model.specs.Steps.{Step, IsImageOf, IsDriverCall, refusal_of, spare_refusal, is_loaded, is_blank_request, blank_of}
-use Rattle.sector_model.specs.Runs.{Taken, Run, requests_of}
 use Rattle.laws_commands.proofs.Prepared.{blank_valid}
-use Rattle.laws_commands.proofs.Steps.{and_both}
-use Rattle.laws_program.specs.Inserted.{IsDiskFile, Names, named_by, IsStoredBy, HoldsBy, InsertsDisk}
 use Rattle.laws_program.proofs.Stepping.{either, either_is}
 use Rattle.laws_program.proofs.Inserting.{IsHeld, AreHeld, IsKept, held_in, held_with, held_still, held_none, held_is, named_loaded, reach_held, lays_held, stored_last, stored_still, inserted_disk, choose, choose_out, both_free, not_loaded}
 
@@ -37,15 +15,7 @@ keeps_media (request.Blank bay name cylinders) = false
 keeps_media (request.BlankDd bay name cylinders) = false
 keeps_media (request.Eject bay) = false
 keeps_media (request.Unit bay) = false
-keeps_media (request.Ack bay) = true
-keeps_media (request.Read bay key address) = true
-keeps_media (request.Write bay key address) = true
-keeps_media (request.WriteDeleted bay key address) = true
-keeps_media (request.Format bay c h) = true
-keeps_media (request.Fill address count byte) = true
-keeps_media (request.Dump address count) = true
-keeps_media (request.SetRate bay rate) = true
-keeps_media (request.Tries tries) = true
+keeps_media _ = true
 
 module _ (Holds : List ℕ → Type 0) (names : Names) (old : State) (told : Option Files) (kept : IsKept Holds names old told) where
   -- the bays of the new state are these, which have the names
@@ -116,11 +86,6 @@ module _ (Holds : List ℕ → Type 0) (names : Names) (old : State) (told : Opt
   -- a step that keeps the media
   pub media_kept : (asked : Request) (answer : Reply) (new : State) (after : Option Files) → keeps_media asked ≡ true → Step asked old told answer new after
       → IsKept Holds names new after
-  media_kept (request.Insert at name) answer new after e step = absurd (true≢false (sym e))
-  media_kept (request.Blank at name count) answer new after e step = absurd (true≢false (sym e))
-  media_kept (request.BlankDd at name count) answer new after e step = absurd (true≢false (sym e))
-  media_kept (request.Eject at) answer new after e step = absurd (true≢false (sym e))
-  media_kept (request.Unit at) answer new after e step = absurd (true≢false (sym e))
   media_kept (request.Ack at) answer new after e step = ack_kept new after at step.1.0 step.0 step.1.2
   media_kept (request.Read at key address) answer new after e step =
       either (read_refusal old.station at key address) step.1.2 (λ does. read_kept new after at address key step.1.0 step.0 does)
@@ -141,6 +106,7 @@ module _ (Holds : List ℕ → Type 0) (names : Names) (old : State) (told : Opt
       (λ code refused. stays_kept new after refused.stays step.0.names step.0.files)
   media_kept (request.Tries tries) answer new after e step =
       on_bays new after old.station.bays (ap (λ (s : StationState). s.bays) step.2.becomes) kept.held step.0.names step.0.files
+  media_kept _ answer new after e step = absurd (true≢false (sym e))
 
   -- ---- media that go in and out
 

@@ -1,3 +1,4 @@
+mod Common
 pub mod OnBoards
 mod OnCounts
 pub mod OfForms

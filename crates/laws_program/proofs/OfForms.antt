@@ -1,17 +1,7 @@
 -- From a run over a machine to what its subcommand (form) does.
 use Rattle.std.proofs.Common.{◌≡◌, ◌⊎◌, inl, inr, List, Some}
-use Rattle.flop_base.specs.declared.answers.Status.{Status}
+use Rattle.laws_program.proofs.Common.{Status, DriveCounts, Board, Taken, World, Runs, Outside, Form, world, DoesForm, DoesOrStarves, AsAsked, StarvesWords, RunsOver}
 use Rattle.flop_base.specs.declared.answers.Status.TheVariants as status
-use Rattle.flop_base.specs.Counters.{DriveCounts}
-use Rattle.pc_bus.specs.Boards.{Board}
-use Rattle.sector_model.specs.Runs.{Taken}
-use Rattle.sector_model.specs.Plays.{World}
-use Rattle.commands.specs.Leading.{Runs}
-use Rattle.archive_commands.specs.Files.{Outside}
-use Rattle.floppy_words.specs.declared.form.Form.{Form}
-use Rattle.text_commands.specs.JobRounds.{world}
-use Rattle.floppy_tools.specs.Programs.{DoesForm, DoesOrStarves, AsAsked, StarvesWords}
-use Rattle.floppy_tools.specs.Machines.{RunsOver}
 
 asked_or_starved : (asked : Form) (old new : World) (course : List Taken) (ended : Status)
     → DoesOrStarves asked old course new ended → Runs (DoesForm asked) old new ended ⊎ (ended ≡ status.NoMemory)

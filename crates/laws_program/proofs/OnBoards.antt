@@ -2,16 +2,7 @@
 use Rattle.std.proofs.Common.{arith, ◌≡◌, ◌≤◌, ◌+◌, ℕ, List, [], ◌∷◌, All, Option, Some, get_or, suc, cond, Bool, true, false, refl, ap, sym, subst, ◌∙◌}
 use Rattle.std.specs.Prelude.{nat_lt}
 use Rattle.std.proofs.lemmas.List.Recursion.{is_count_by}
-use Rattle.std.proofs.lemmas.Bool.{le-ltb}
-use Rattle.flop_base.specs.Counts.{CanTell, Spends}
-use Rattle.flop_base.specs.Counters.{DriveCounts, DriveGoesOn, Counters, IsFaultless, IsUndisturbed}
-use Rattle.pc_bus.specs.Boards.{Board, holds_of}
-use Rattle.sector_model.specs.Stations.{StationState, IsFresh}
-use Rattle.sector_model.specs.Ties.{IsSpent, HasNothingLeft}
-use Rattle.machine_commands.specs.Shown.{counters_of, stalls_left}
-use Rattle.machine_commands.specs.StationShown.{ShowsStation}
-use Rattle.machine_commands.specs.Started.{Starts}
-use Rattle.laws_program.specs.Disturbed.{HadNoFault, HadNoStall, IsSound}
+use Rattle.laws_program.proofs.Common.{le-ltb, CanTell, Spends, DriveCounts, DriveGoesOn, Counters, IsFaultless, IsUndisturbed, Board, holds_of, StationState, IsFresh, IsSpent, HasNothingLeft, counters_of, stalls_left, ShowsStation, Starts, HadNoFault, HadNoStall, IsSound}
 
 module _ (old new : Board) (spares : List DriveCounts) (start last : StationState) (starts : Starts old spares start) (shows : ShowsStation new last) where
   pub faultless_first : HadNoFault 0 old new → IsFaultless 0 start.counters last.counters

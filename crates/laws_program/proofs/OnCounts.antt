@@ -1,16 +1,8 @@
 -- What a run over a machine counts.
 use Rattle.std.proofs.Common.{arith, ◌+◌, ◌≤◌, ℕ, List, Option, Some, ap}
-use Rattle.flop_base.specs.declared.answers.Status.{Status}
-use Rattle.floppy_jobs.specs.declared.request.Request.{Request}
-use Rattle.flop_base.specs.Counters.{Counters, DriveCounts}
-use Rattle.pc_bus.specs.Boards.{Board}
-use Rattle.sector_model.specs.Ties.{TiesCounts, IsJob, accesses_of_job}
-use Rattle.archive_commands.specs.Files.{Outside}
-use Rattle.floppy_words.specs.declared.form.Form.{Form}
+use Rattle.laws_program.proofs.Common.{Status, Request, Counters, DriveCounts, Board, TiesCounts, IsJob, accesses_of_job, Outside, Form, world, RunsOver}
 use Rattle.floppy_words.specs.declared.form.Form.TheVariants as form
-use Rattle.text_commands.specs.JobRounds.{world}
 use Rattle.floppy_tools.proofs.Tied.{does_ties, job_accesses}
-use Rattle.floppy_tools.specs.Machines.{RunsOver}
 
 pub over_ties : (asked : Option Form) (spares : List DriveCounts) (old new : Board) (before after : Outside) (ended : Status)
     → (over : RunsOver asked old spares before new after ended)

@@ -1,24 +1,9 @@
 -- The status of a batch job, where each file that is put in is the file of a disk.
 use Rattle.std.proofs.Common.{arith, ◌≡◌, ◌∙◌, ◌<◌, ◌≤◌, ℕ, List, [], ◌∷◌, ◌++◌, length, Option, Some, None, Result, Ok, Err, ap, sym, subst}
 use Rattle.std.specs.Prelude.{◌&&◌, not, Bool, true, IsSomeAnd}
-use Rattle.flop_base.specs.Shelf.{Files, file_at}
-use Rattle.flop_base.specs.declared.answers.Status.{Status}
-use Rattle.raw_image.specs.Disk.{Disk}
-use Rattle.raw_image.specs.Image.{image_of}
-use Rattle.raw_image.specs.declared.error.ImageError.{ImageError}
-use Rattle.flop_base.specs.Bays.{both}
-use Rattle.floppy_jobs.specs.Texts.{job_of}
-use Rattle.floppy_jobs.specs.declared.request.Request.{Request}
-use Rattle.sector_model.specs.declared.reply.Stop.{Stop}
+use Rattle.laws_program.proofs.Common.{Files, file_at, Status, Disk, image_of, ImageError, both, job_of, Request, Stop, IsFresh, State, is_bay, StopsAt, StopCause, IsImageOf, IsBadImage, IsLonger, IsAbsent, refusal_of, is_loaded, most_image_bytes, Taken, Run, requests_of, has_refusal, IsEndStop, World, Plays, There, Missing, TooLong, Faulty, Starved, PlaysParsed, PlaysRequests, Played, Stopped, BrokenOff, EndStopped, IsText, most_job_bytes, IsDiskFile, Names, named_by, HoldsBy, InsertsDisk, InsertsDisks}
 use Rattle.sector_model.specs.declared.reply.Stop.TheVariants as stop
-use Rattle.sector_model.specs.Stations.{IsFresh}
-use Rattle.sector_model.specs.States.{State}
 use Rattle.floppy_jobs.specs.declared.request.Request.TheVariants as request
-use Rattle.sector_model.specs.Orders.{is_bay}
-use Rattle.sector_model.specs.Steps.{StopsAt, StopCause, IsImageOf, IsBadImage, IsLonger, IsAbsent, refusal_of, is_loaded, most_image_bytes}
-use Rattle.sector_model.specs.Runs.{Taken, Run, requests_of, has_refusal, IsEndStop}
-use Rattle.sector_model.specs.Plays.{World, Plays, There, Missing, TooLong, Faulty, Starved, PlaysParsed, PlaysRequests, Played, Stopped, BrokenOff, EndStopped, IsText, most_job_bytes}
-use Rattle.laws_program.specs.Inserted.{IsDiskFile, Names, named_by, HoldsBy, InsertsDisk, InsertsDisks}
 use Rattle.laws_program.proofs.Telling.{EndsBy, whole_by, put_by, prints_by, end_by}
 use Rattle.laws_program.proofs.Inserting.{IsKept, AreHeld, file_image, goes_in}
 use Rattle.laws_program.proofs.KeptSteps.{loaded_is, step_kept}
@@ -66,8 +51,6 @@ kept_stop Holds names old told kept asked cause new after known stops = go cause
         subst (λ (f : Option Files). IsDiskFile f name) kept.told_is (kept.holds name holds)
 
     go : (cause : Stop) → StopCause told asked cause → IsEndStop cause
-    go stop.FileFault is = tt
-    go stop.NoMemory is = tt
     go (stop.BadImage name error) is =
         let file = there name is.0 in
         absurd (never_bad kept.files name file.0 error (file_image kept.files name file) (subst (λ (f : Option Files). IsBadImage f name error) kept.told_is is.1))
@@ -77,6 +60,7 @@ kept_stop Holds names old told kept asked cause new after known stops = go cause
     go (stop.Absent name) is =
         let file = there name is.0 in
         absurd (never_absent kept.files name file.0 (file_image kept.files name file) (subst (λ (f : Option Files). IsAbsent f name) kept.told_is is.1))
+    go _ is = tt
 
 -- only the outside stops such a request after a run
 run_stop : (asked : Request) (later : List Request) (cause : Stop) (mid new : State) (files after : Option Files) → StopsAt asked mid files cause new after

@@ -1,28 +1,9 @@
 -- What a batch job prints.
 use Rattle.std.proofs.Common.{◌≡◌, ◌∙◌, ℕ, Bool, List, [], ◌∷◌, ◌++◌, length, Option, Result, Ok, Err, Some, None, refl, ap, sym, subst}
 use Rattle.std.specs.Prelude.{◌||◌, IsSomeAnd, ◌≤◌}
-use Rattle.std.specs.List.{list_any}
-use Rattle.std.proofs.lemmas.List.{length-map}
-use Rattle.flop_base.specs.Shelf.{Files, file_at}
-use Rattle.flop_base.specs.Sink.{grown}
-use Rattle.flop_base.specs.declared.answers.Status.{Status}
+use Rattle.laws_program.proofs.Common.{list_any, length-map, Files, file_at, grown, Status, DriveCounts, Board, job_of, Request, Stop, reply_lines, is_refusal, stop_status, Taken, requests_of, course_lines, has_refusal, World, Plays, There, Missing, TooLong, Faulty, Starved, PlaysParsed, PlaysRequests, Played, Stopped, BrokenOff, EndStopped, Prints, Whole, Part, IsText, most_job_bytes, whole_status, Outside, DoesOrStarves, AsAsked, StarvesWords, world, RunsOver, IsEndStatus, not_put, not_stop, AnswersJob, replies_lines, answers_of}
 use Rattle.flop_base.specs.declared.answers.Status.TheVariants as status
-use Rattle.flop_base.specs.Counters.{DriveCounts}
-use Rattle.pc_bus.specs.Boards.{Board}
-use Rattle.floppy_jobs.specs.Texts.{job_of}
-use Rattle.floppy_jobs.specs.declared.request.Request.{Request}
-use Rattle.sector_model.specs.declared.reply.Stop.{Stop}
-use Rattle.sector_model.specs.Texts.{reply_lines, is_refusal, stop_status}
-use Rattle.sector_model.specs.Runs.{Taken, requests_of, course_lines, has_refusal}
-use Rattle.sector_model.specs.Plays.{World, Plays, There, Missing, TooLong, Faulty, Starved, PlaysParsed, PlaysRequests, Played, Stopped, BrokenOff, EndStopped, Prints, Whole, Part, IsText, most_job_bytes, whole_status}
-use Rattle.archive_commands.specs.Files.{Outside}
 use Rattle.floppy_words.specs.declared.form.Form.TheVariants as form
-use Rattle.floppy_tools.specs.Programs.{DoesOrStarves, AsAsked, StarvesWords}
-use Rattle.text_commands.specs.JobRounds.{world}
-use Rattle.floppy_tools.specs.Machines.{RunsOver}
-use Rattle.laws_commands.specs.VerifyRuns.{IsEndStatus}
-use Rattle.laws_commands.proofs.VerifyRun.{not_put, not_stop}
-use Rattle.laws_program.specs.Answered.{AnswersJob, replies_lines, answers_of}
 
 told_replies : (course : List Taken) → course_lines course ≡ replies_lines (requests_of course) (answers_of course)
 told_replies [] = refl

@@ -1,31 +1,14 @@
 -- Two plays of one batch job that begin alike: they answer alike, and end alike.
 use Rattle.std.proofs.Common.{◌≡◌, ◌∙◌, ◌<◌, ◌≤◌, ℕ, suc, Bool, List, [], ◌∷◌, ◌++◌, length, refl, sym, ap, subst, append-nil, append_assoc, Option, Some, None, Result, Ok, Err, inl, inr, arith}
 use Rattle.std.specs.Prelude.{◌⊎◌, ◌||◌, IsSomeAnd}
-use Rattle.std.proofs.lemmas.List.{length-replicate}
-use Rattle.flop_base.specs.Shelf.{Files, file_at}
-use Rattle.flop_base.specs.Sink.{grown}
-use Rattle.flop_base.specs.declared.answers.Status.{Status}
+use Rattle.laws_program.proofs.Common.{length-replicate, Files, file_at, grown, Status, Two, both, user_bytes, job_of, Request, Reply, Stop, Bay, fresh_bay, State, StopsAt, StopCause, IsAbsent, IsLonger, is_refusal, stop_lines, stop_status, bad_line_text, absent_text, Taken, Run, requests_of, course_lines, has_refusal, IsEndStop, World, IsPutFault, Prints, whole_status, PlaysRequests, TellsAlone, PlaysParsed, PlaysText, IsText, most_job_bytes, Plays, run_more, requests_more, AreUndisturbed, BeginAlike, AreRegularBefore, AnswerAlike, AnswersAgree, IsFreeEnd, EndAlikeUnlessFree}
 use Rattle.flop_base.specs.declared.answers.Status.TheVariants as status
-use Rattle.flop_base.specs.Bays.{Two, both}
-use Rattle.flop_base.specs.Memory.{user_bytes, zeroes}
-use Rattle.floppy_jobs.specs.Texts.{job_of}
-use Rattle.floppy_jobs.specs.declared.request.Request.{Request}
+use Rattle.flop_base.specs.Memory.{zeroes}
 use Rattle.floppy_jobs.specs.declared.request.Request.TheVariants as request
-use Rattle.sector_model.specs.declared.reply.Reply.{Reply}
 use Rattle.sector_model.specs.declared.reply.Reply.TheVariants as reply
-use Rattle.sector_model.specs.declared.reply.Stop.{Stop}
 use Rattle.sector_model.specs.declared.reply.Stop.TheVariants as stop
-use Rattle.sector_model.specs.Stations.{Bay, fresh_bay}
-use Rattle.sector_model.specs.States.{State}
-use Rattle.sector_model.specs.Steps.{StopsAt, StopCause, IsAbsent, IsLonger}
-use Rattle.sector_model.specs.Texts.{is_refusal, stop_lines, stop_status, bad_line_text, absent_text}
-use Rattle.sector_model.specs.Runs.{Taken, Run, requests_of, course_lines, has_refusal, IsEndStop}
 use Rattle.sector_model.specs.Plays as plays
-use Rattle.sector_model.specs.Plays.{World, IsPutFault, Prints, whole_status, PlaysRequests, TellsAlone, PlaysParsed, PlaysText, IsText, most_job_bytes, Plays}
-use Rattle.sector_model.proofs.Runs.{run_more, requests_more}
 use Rattle.sector_model.proofs.PlayTies.{play_ties}
-use Rattle.sector_model.specs.Ties.{AreUndisturbed}
-use Rattle.laws_program.specs.Determined.{BeginAlike, AreRegularBefore, AnswerAlike, AnswersAgree, IsFreeEnd, EndAlikeUnlessFree}
 use Rattle.laws_program.proofs.AlikeDisks.{AlikeBays}
 use Rattle.laws_program.proofs.AlikeFiles.{AlikeTold, held_at, held_alike, stop_by, stop_cases, same_stop}
 use Rattle.laws_program.proofs.StepsAgree.{AlikeStages}
@@ -69,9 +52,7 @@ begin_stages one two begin =
 stop_free : (cause : Stop) → IsEndStop cause → IsFreeEnd (stop_status cause)
 stop_free stop.FileFault is = tt
 stop_free stop.NoMemory is = tt
-stop_free (stop.BadImage name error) is = absurd is
-stop_free (stop.TooLong name most) is = absurd is
-stop_free (stop.Absent name) is = absurd is
+stop_free _ is = absurd is
 
 stop_ended : (cause : Stop) (ended : Status) → ended ≡ stop_status cause → IsEndStop cause → IsFreeEnd ended
 stop_ended cause ended is free = subst IsFreeEnd (sym is) (stop_free cause free)
@@ -79,13 +60,7 @@ stop_ended cause ended is free = subst IsFreeEnd (sym is) (stop_free cause free)
 put_free : (ended : Status) → IsPutFault ended → IsFreeEnd ended
 put_free status.NoMemory is = tt
 put_free status.SinkFault is = tt
-put_free status.AllOk is = absurd is
-put_free status.SomeRefused is = absurd is
-put_free status.BadWords is = absurd is
-put_free status.BadJob is = absurd is
-put_free status.BadImage is = absurd is
-put_free status.Absent is = absurd is
-put_free status.FileFault is = absurd is
+put_free _ is = absurd is
 
 -- ---- how a play of requests came to its end
 
@@ -148,10 +123,8 @@ runs_to old new requests course ended (plays.EndStopped p) = record {
 -- ---- two ends
 
 refusal_same : (a b : Reply) → AnswerAlike a b → is_refusal b ≡ is_refusal a
-refusal_same reply.Done b same = ap is_refusal same
-refusal_same reply.DoneDeleted b same = ap is_refusal same
 refusal_same (reply.Bytes address content) b same = ap is_refusal same.1
-refusal_same (reply.Refused cause) b same = ap is_refusal same
+refusal_same _ b same = ap is_refusal same
 
 no_suc : (n : ℕ) → suc n ≡ 0 → ⊥
 no_suc n e = omega (arith, e)

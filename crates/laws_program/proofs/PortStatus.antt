@@ -1,34 +1,13 @@
 -- The status of a run of port accesses, where each file that is put in is the file of a disk.
 use Rattle.std.proofs.Common.{◌≡◌, ◌∙◌, ℕ, Bool, true, false, List, [], ◌∷◌, ◌++◌, Option, Some, None, Result, Ok, refl, ap, sym, subst, inl, inr}
-use Rattle.std.specs.Prelude.{◌==◌, ◌&&◌, not, is_some, IfSome, MatchOption, if◌then◌else◌}
-use Rattle.flop_base.specs.Shelf.{Files, stored}
-use Rattle.flop_base.specs.Bays.{both, in_bay, with_bay}
-use Rattle.flop_base.specs.Counters.{DriveCounts}
-use Rattle.flop_base.specs.declared.answers.Status.{Status}
-use Rattle.raw_image.specs.Disk.{Disk, IsDisk}
-use Rattle.raw_image.specs.Image.{file_of}
-use Rattle.floppy_jobs.specs.declared.request.Request.{Request}
+use Rattle.std.specs.Prelude.{◌==◌, is_some, IfSome, MatchOption, if◌then◌else◌}
+use Rattle.laws_program.proofs.Common.{Files, stored, both, in_bay, with_bay, DriveCounts, Status, Disk, IsDisk, file_of, Request, ports_of, PortLine, Board, IsInRange, drive_in, Reason, Stop, is_bay, StopCause, IsAbsent, IsLonger, IsEndStop, IsText, most_job_bytes, ports_file_of, Stand, Performed, ports_world, LineAnswer, Bench, no_names, PortRun, DoesLine, KeepsMedia, LoadsMedium, StoresMedium, insert_refusal, eject_refusal, PlaysLines, EndsByReplies, IsDiskFile, Names, named_by, is_free, IsStoredBy, HoldsBy, InsertsDisks, media_among}
 use Rattle.floppy_jobs.specs.declared.request.Request.TheVariants as request
-use Rattle.floppy_jobs.specs.Texts.{ports_of}
-use Rattle.floppy_jobs.specs.declared.ports.PortLine.{PortLine}
 use Rattle.floppy_jobs.specs.declared.ports.PortLine.TheVariants as port
-use Rattle.pc_bus.specs.Boards.{Board, IsInRange, drive_in}
-use Rattle.sector_model.specs.declared.reply.Reason.{Reason}
-use Rattle.sector_model.specs.declared.reply.Stop.{Stop}
-use Rattle.sector_model.specs.Orders.{is_bay}
-use Rattle.sector_model.specs.Steps.{StopCause, IsAbsent, IsLonger}
-use Rattle.sector_model.specs.Runs.{IsEndStop}
-use Rattle.sector_model.specs.Plays.{IsText, most_job_bytes}
-use Rattle.floppy_words.specs.Forms.{ports_file_of}
-use Rattle.floppy_tools.specs.Performed.{Stand, Performed, ports_world}
-use Rattle.text_commands.specs.declared.ports.answer.LineAnswer.{LineAnswer}
 use Rattle.text_commands.specs.declared.ports.answer.LineAnswer.TheVariants as answer
-use Rattle.text_commands.specs.Benches.{Bench, no_names}
-use Rattle.text_commands.specs.PortCourses.{Taken, PortRun, lines_of, has_refusal}
-use Rattle.text_commands.specs.PortLines.{DoesLine, StopsAt, KeepsMedia, LoadsMedium, StoresMedium, IsRefused, insert_refusal, eject_refusal}
-use Rattle.text_commands.specs.PortPlays.{World, PlaysLines, Played, Stopped, BrokenOff, EndStopped, PlaysParsed, Plays, There, Missing, TooLong, Faulty, Starved}
-use Rattle.laws_program.specs.Ends.{EndsByReplies}
-use Rattle.laws_program.specs.Inserted.{IsDiskFile, Names, named_by, is_free, IsStoredBy, HoldsBy, InsertsDisks, media_among}
+use Rattle.text_commands.specs.PortCourses.{Taken, lines_of, has_refusal}
+use Rattle.text_commands.specs.PortLines.{StopsAt, IsRefused}
+use Rattle.text_commands.specs.PortPlays.{World, Played, Stopped, BrokenOff, EndStopped, PlaysParsed, Plays, There, Missing, TooLong, Faulty, Starved}
 use Rattle.laws_program.proofs.Telling.{EndsBy, whole_by, put_by, prints_by, end_by}
 use Rattle.laws_program.proofs.Inserting.{stored_last, stored_still, file_image, choose, choose_out, goes_in}
 use Rattle.laws_program.proofs.PlayStatus.{same_text, text_there, text_short}
@@ -144,22 +123,16 @@ through_line : {R : Type 0} (Holds : List ℕ → Type 0) (names : Names) (asked
     → DoesLine asked old said new → IsInRange new.board → IsKept Holds names old → InsertsDisks Holds names (media_among (asked ∷ more))
     → ((Now : List ℕ → Type 0) (names : Names) → IsKept Now names new → InsertsDisks Now names (media_among more) → R) → R
 through_line Holds names (port.In number) more old said new does range kept inserts next = next Holds names (media_kept Holds names old kept new range does.1) inserts
-through_line Holds names (port.Out number value) more old said new does range kept inserts next = next Holds names (media_kept Holds names old kept new range does.2) inserts
-through_line Holds names (port.Wait steps) more old said new does range kept inserts next = next Holds names (media_kept Holds names old kept new range does.2) inserts
-through_line Holds names port.Irq more old said new does range kept inserts next = next Holds names (media_kept Holds names old kept new range does.2) inserts
 through_line Holds names (port.Insert bay name) more old said new does range kept inserts next =
     next (HoldsBy Holds names (request.Insert bay name)) (named_by names (request.Insert bay name))
     (insert_kept Holds names old kept bay name said new range does) inserts.1
 through_line Holds names (port.Eject bay) more old said new does range kept inserts next =
     next (HoldsBy Holds names (request.Eject bay)) (named_by names (request.Eject bay)) (eject_kept Holds names old kept bay said new range does) inserts.1
+through_line Holds names _ more old said new does range kept inserts next = next Holds names (media_kept Holds names old kept new range does.2) inserts
 
 -- only the outside stops a line that puts the file of a disk in
 line_stop : (Holds : List ℕ → Type 0) (names : Names) (old : Bench) → IsKept Holds names old → (asked : PortLine) (later : List PortLine) (cause : Stop)
     (new : Bench) → InsertsDisks Holds names (media_among (asked ∷ later)) → StopsAt asked old cause new → IsEndStop cause
-line_stop Holds names old kept (port.In number) later cause new inserts stops = absurd stops
-line_stop Holds names old kept (port.Out number value) later cause new inserts stops = absurd stops
-line_stop Holds names old kept (port.Wait steps) later cause new inserts stops = absurd stops
-line_stop Holds names old kept port.Irq later cause new inserts stops = absurd stops
 line_stop Holds names old kept (port.Insert bay name) later cause new inserts stops =
     let goes = goes_in (is_bay bay) (is_some (in_bay old.names bay)) stops.0 in
     let free = subst (λ (n : Names). is_free n bay ≡ true) kept.named goes in
@@ -167,6 +140,7 @@ line_stop Holds names old kept (port.Insert bay name) later cause new inserts st
     stop_here kept.files name file.0 bay cause (file_image kept.files name file)
     (subst (λ (f : Option Files). StopCause f (request.Insert bay name) cause) kept.told_is stops.1)
 line_stop Holds names old kept (port.Eject bay) later cause new inserts stops = stops.1
+line_stop Holds names old kept _ later cause new inserts stops = absurd stops
 
 -- only the outside stops such a line after a run
 lines_stop : (asked : PortLine) (later : List PortLine) (cause : Stop) (mid new : Bench) → StopsAt asked mid cause new

@@ -1,38 +1,13 @@
 -- A protected disk that stands under a name before a run stands there after it.
 use Rattle.std.proofs.Common.{◌≡◌, ◌∙◌, ℕ, Bool, true, false, true≢false, cond, List, [], ◌∷◌, length, Option, Some, None, Result, Ok, Err, refl, ap, sym, subst, inr}
 use Rattle.std.specs.Prelude.{◌≤◌, ◌==◌, ◌-◌, not, is_some, IsSomeAnd, if◌then◌else◌}
-use Rattle.std.specs.Option.{option_map_or}
-use Rattle.std.specs.Ordering.{nat_cmp, eq_by_cmp}
-use Rattle.std.specs.Cmp.Lexicographic.{slice_cmp}
+use Rattle.laws_program.proofs.Common.{option_map_or, nat_cmp, eq_by_cmp, slice_cmp, Files, file_at, after_store, stored, Status, Disk, IsDisk, image_of, file_of, image_again, Two, both, in_bay, with_bay, DriveCounts, Board, Request, Reply, Bay, bay_of, set_bay, fresh_bay, State, IsSame, ChangesMedium, is_bay, Step, IsImageOf, refusal_of, spare_refusal, is_loaded, most_image_bytes, Taken, Run, requests_of, EndsBay, Stored, Left, EndStopsAt, AtFirst, AtSecond, World, Plays, There, Missing, TooLong, Faulty, Starved, PlaysParsed, PlaysRequests, Played, Stopped, BrokenOff, EndStopped, run_both, Outside, world, DoesOrStarves, AsAsked, StarvesWords, RunsOver, one_image, Names, is_same_bay, exchanges, IsGuarded, BlanksUnder, BlanksNone}
 use Rattle.std.specs.FinMap as fin
 use Rattle.std.proofs.lemmas.Map.Views.{tells_apart}
-use Rattle.flop_base.specs.Shelf.{Files, file_at, after_store, stored}
-use Rattle.flop_base.specs.declared.answers.Status.{Status}
-use Rattle.raw_image.specs.Disk.{Disk, IsDisk}
-use Rattle.raw_image.specs.Image.{image_of, file_of}
-use Rattle.raw_image.proofs.Images.{image_again}
-use Rattle.flop_base.specs.Bays.{Two, both, in_bay, with_bay}
-use Rattle.flop_base.specs.Counters.{DriveCounts}
-use Rattle.pc_bus.specs.Boards.{Board}
-use Rattle.floppy_jobs.specs.declared.request.Request.{Request}
 use Rattle.floppy_jobs.specs.declared.request.Request.TheVariants as request
-use Rattle.sector_model.specs.declared.reply.Reply.{Reply}
-use Rattle.sector_model.specs.Stations.{Bay, bay_of, set_bay, fresh_bay}
-use Rattle.sector_model.specs.States.{State, IsSame, ChangesMedium}
-use Rattle.sector_model.specs.Orders.{is_bay}
-use Rattle.sector_model.specs.Steps.{Step, StoresMedium, IsImageOf, refusal_of, spare_refusal, is_loaded, most_image_bytes}
-use Rattle.sector_model.specs.Runs.{Taken, Run, requests_of, Ends, EndsBay, Stored, Left, EndStopsAt, AtFirst, AtSecond}
-use Rattle.sector_model.specs.Plays.{World, Plays, There, Missing, TooLong, Faulty, Starved, PlaysParsed, PlaysRequests, Played, Stopped, BrokenOff, EndStopped}
-use Rattle.commands.proofs.Passed.{run_both}
-use Rattle.archive_commands.specs.Files.{Outside}
+use Rattle.sector_model.specs.Steps.{StoresMedium}
+use Rattle.sector_model.specs.Runs.{Ends}
 use Rattle.floppy_words.specs.declared.form.Form.TheVariants as form
-use Rattle.text_commands.specs.JobRounds.{world}
-use Rattle.floppy_tools.specs.Programs.{DoesOrStarves, AsAsked, StarvesWords}
-use Rattle.floppy_tools.specs.Machines.{RunsOver}
-use Rattle.laws_commands.proofs.Verified.{one_image}
-use Rattle.laws_program.specs.Inserted.{Names}
-use Rattle.laws_program.specs.Steps.{is_same_bay, exchanges, IsGuarded}
-use Rattle.laws_program.specs.Guarded.{BlanksUnder, BlanksNone}
 use Rattle.laws_program.proofs.Stepping.{either, either_is, sorted, other_bay, same_bay, becomes_medium, step_keeps}
 use Rattle.laws_program.proofs.Inserting.{file_text, file_stored, not_loaded}
 

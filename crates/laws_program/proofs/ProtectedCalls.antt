@@ -1,26 +1,8 @@
 -- A protected disk that stands under a name before calls of INT 13h stands there after them.
 use Rattle.std.proofs.Common.{◌≡◌, ◌∙◌, ℕ, true, List, ◌++◌, Option, Some, Result, Ok, Err, ap, sym, subst, append-nil}
-use Rattle.flop_base.specs.Shelf.{Files}
-use Rattle.flop_base.specs.declared.answers.Status.{Status}
-use Rattle.raw_image.specs.Disk.{Disk, IsDisk}
-use Rattle.flop_base.specs.Counters.{DriveCounts}
-use Rattle.pc_bus.specs.Boards.{Board}
-use Rattle.floppy_jobs.specs.declared.calls.CallLine.{CallLine}
-use Rattle.sector_model.specs.States.{State}
-use Rattle.sector_model.specs.Steps.{IsImageOf}
-use Rattle.sector_model.specs.Runs.{Taken, Run, requests_of}
-use Rattle.sector_model.specs.Plays.{World}
-use Rattle.commands.proofs.Passed.{run_both}
-use Rattle.text_commands.specs.CallRounds.{Breaks, AtStop, AtPut, course_of}
-use Rattle.text_commands.specs.CallCourses.{ServesCalls, ServesParsed, ServesLines}
+use Rattle.laws_program.proofs.Common.{Files, Status, Disk, IsDisk, DriveCounts, Board, CallLine, State, IsImageOf, Taken, Run, requests_of, World, run_both, Breaks, AtStop, AtPut, course_of, ServesCalls, ServesParsed, ServesLines, line_run, rounds_run, Outside, world, DoesOrStarves, AsAsked, StarvesWords, RunsOver, BlanksNone}
 use Rattle.text_commands.specs.CallCourses as calls
-use Rattle.text_commands.proofs.RanCalls.{line_run, rounds_run}
-use Rattle.archive_commands.specs.Files.{Outside}
 use Rattle.floppy_words.specs.declared.form.Form.TheVariants as form
-use Rattle.text_commands.specs.JobRounds.{world}
-use Rattle.floppy_tools.specs.Programs.{DoesOrStarves, AsAsked, StarvesWords}
-use Rattle.floppy_tools.specs.Machines.{RunsOver}
-use Rattle.laws_program.specs.Guarded.{BlanksNone}
 use Rattle.laws_program.proofs.Protected.{IsStored, HasImage, image_in, still, course_kept, ends_kept, end_stopped, begun}
 
 module _ (name : List ℕ) (disk : Disk) (valid : IsDisk disk) (guarded : disk.protected ≡ true) where

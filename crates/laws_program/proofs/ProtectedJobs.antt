@@ -1,22 +1,7 @@
 -- Which requests a batch job runs, by its text.
 use Rattle.std.proofs.Common.{◌≡◌, ℕ, true, List, [], ◌∷◌, ◌++◌, Option, Some, Result, Ok, sym, subst}
-use Rattle.flop_base.specs.Shelf.{Files}
-use Rattle.flop_base.specs.declared.answers.Status.{Status}
-use Rattle.raw_image.specs.Disk.{Disk, IsDisk}
-use Rattle.flop_base.specs.Counters.{DriveCounts}
-use Rattle.pc_bus.specs.Boards.{Board}
-use Rattle.floppy_jobs.specs.Texts.{job_of}
-use Rattle.floppy_jobs.specs.declared.request.Request.{Request}
-use Rattle.sector_model.specs.Ties.{IsJob}
-use Rattle.sector_model.specs.Steps.{IsImageOf}
-use Rattle.sector_model.specs.Runs.{Taken, requests_of}
-use Rattle.sector_model.specs.Plays.{World, Plays, There, Missing, TooLong, Faulty, Starved, PlaysParsed, PlaysRequests, Played, Stopped, BrokenOff, EndStopped, IsText}
-use Rattle.archive_commands.specs.Files.{Outside}
+use Rattle.laws_program.proofs.Common.{Files, Status, Disk, IsDisk, DriveCounts, Board, job_of, Request, IsJob, IsImageOf, Taken, requests_of, World, Plays, There, Missing, TooLong, Faulty, Starved, PlaysParsed, PlaysRequests, Played, Stopped, BrokenOff, EndStopped, IsText, Outside, world, DoesOrStarves, AsAsked, StarvesWords, RunsOver, BlanksNone}
 use Rattle.floppy_words.specs.declared.form.Form.TheVariants as form
-use Rattle.text_commands.specs.JobRounds.{world}
-use Rattle.floppy_tools.specs.Programs.{DoesOrStarves, AsAsked, StarvesWords}
-use Rattle.floppy_tools.specs.Machines.{RunsOver}
-use Rattle.laws_program.specs.Guarded.{BlanksNone}
 use Rattle.laws_program.proofs.Plays.{text_there}
 use Rattle.laws_program.proofs.Protected.{HasImage, play_stays}
 

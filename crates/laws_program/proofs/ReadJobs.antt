@@ -1,38 +1,11 @@
 -- A batch job that only reads stores what its files have already.
-use Rattle.std.proofs.Common.{◌≡◌, ◌∙◌, ℕ, Bool, true, false, true≢false, List, [], ◌∷◌, ◌++◌, append-nil, Option, Some, None, Result, Ok, Err, refl, sym, ap, subst}
-use Rattle.std.specs.Prelude.{◌==◌, MatchBool, MatchOption, ◌-◌, if◌then◌else◌}
-use Rattle.flop_base.specs.Bays.{Two, both, in_bay, with_bay}
-use Rattle.flop_base.specs.Shelf.{Files, Store}
-use Rattle.flop_base.specs.Counters.{DriveCounts}
-use Rattle.flop_base.specs.declared.answers.Code.{Code}
+use Rattle.std.proofs.Common.{◌≡◌, ◌∙◌, ℕ, Bool, true, false, true≢false, List, [], ◌∷◌, ◌++◌, Option, Some, None, Result, Ok, Err, refl, sym, ap, subst}
+use Rattle.std.specs.Prelude.{◌==◌, MatchBool, ◌-◌, if◌then◌else◌}
+use Rattle.laws_program.proofs.Common.{Two, both, in_bay, with_bay, Files, Store, DriveCounts, Code, Status, Chrn, Disk, job_of, Request, Board, Reply, StationState, Bay, bay_of, set_bay, fresh_bay, Becomes, Stays, State, ChangesMedium, is_bay, rate_refusal, read_refusal, IsRefusedAtOnce, Acks, AcksDrive, ReadsDrive, Step, refusal_of, Taken, Run, requests_of, World, Plays, There, Missing, TooLong, Faulty, Starved, PlaysParsed, PlaysRequests, Played, Stopped, BrokenOff, EndStopped, IsText, IsJob, world, Outside, DoesOrStarves, AsAsked, StarvesWords, RunsOver, IsSetUp, StoresFirst, medium_store, bay_store, stores_of, stores_by, end_stores, state_after, all_stored, step_stores, is_same_bay}
 use Rattle.flop_base.specs.declared.answers.Code.TheVariants as code
-use Rattle.flop_base.specs.declared.answers.Status.{Status}
-use Rattle.flop_base.specs.declared.key.Chrn.{Chrn}
-use Rattle.raw_image.specs.Disk.{Disk}
-use Rattle.raw_image.specs.Image.{file_of}
-use Rattle.floppy_jobs.specs.Texts.{job_of}
-use Rattle.floppy_jobs.specs.declared.request.Request.{Request}
 use Rattle.floppy_jobs.specs.declared.request.Request.TheVariants as request
-use Rattle.pc_bus.specs.Boards.{Board}
-use Rattle.sector_model.specs.declared.reply.Reply.{Reply}
-use Rattle.sector_model.specs.Stations.{StationState, Bay, bay_of, set_bay, fresh_bay, Becomes, Stays}
-use Rattle.sector_model.specs.States.{State, ChangesMedium, IsSame}
-use Rattle.sector_model.specs.Orders.{is_bay, rate_refusal, read_refusal, IsRefusedAtOnce}
-use Rattle.sector_model.specs.Calls.{Acks, AcksDrive}
-use Rattle.sector_model.specs.Reads.{ReadsDrive}
-use Rattle.sector_model.specs.Steps.{Step, IsImageOf, refusal_of}
-use Rattle.sector_model.specs.Runs.{Taken, Run, requests_of}
-use Rattle.sector_model.specs.Plays.{World, Plays, There, Missing, TooLong, Faulty, Starved, PlaysParsed, PlaysRequests, Played, Stopped, BrokenOff, EndStopped, IsText}
-use Rattle.sector_model.specs.Ties.{IsJob}
-use Rattle.text_commands.specs.JobRounds.{world}
-use Rattle.archive_commands.specs.Files.{Outside}
 use Rattle.floppy_words.specs.declared.form.Form.TheVariants as form
-use Rattle.floppy_tools.specs.Programs.{DoesOrStarves, AsAsked, StarvesWords}
-use Rattle.floppy_tools.specs.Machines.{RunsOver, IsSetUp}
-use Rattle.laws_commands.specs.Stores.{StoresFirst, medium_store, bay_store, stores_of, stores_by, end_stores, state_after, all_stored}
-use Rattle.laws_commands.proofs.Storing.{step_stores, run_leads}
-use Rattle.laws_program.specs.Steps.{is_same_bay}
-use Rattle.laws_program.specs.StoredAgain.{only_reads, AllRead, IsStoredAgain, AreStoredAgain, StoresAgainAtEnd}
+use Rattle.laws_program.specs.StoredAgain.{only_reads, AllRead, AreStoredAgain, StoresAgainAtEnd}
 use Rattle.laws_program.proofs.Courses.{form_runs}
 use Rattle.laws_program.proofs.Plays.{text_there}
 use Rattle.laws_program.proofs.Protected.{in_same}
@@ -156,30 +129,13 @@ module _ (told : Option Files) (old new : State) where
       (λ cause refused. stays_held step.0.names refused.stays held)
   step_held (request.Tries tries) answer after reads step held =
       still_held step.0.names (λ bay. ap (λ (s : StationState). (bay_of s bay).medium) step.2.becomes) held
-  step_held (request.Blank at name count) answer after reads step held = absurd (true≢false (sym reads))
-  step_held (request.BlankDd at name count) answer after reads step held = absurd (true≢false (sym reads))
-  step_held (request.Eject at) answer after reads step held = absurd (true≢false (sym reads))
-  step_held (request.Write at key address) answer after reads step held = absurd (true≢false (sym reads))
-  step_held (request.WriteDeleted at key address) answer after reads step held = absurd (true≢false (sym reads))
-  step_held (request.Format at c h) answer after reads step held = absurd (true≢false (sym reads))
+  step_held _ answer after reads step held = absurd (true≢false (sym reads))
 
 -- ---- a run
 
 no_store : (asked : Request) (answer : Reply) (state : State) → only_reads asked ≡ true → stores_by asked answer state ≡ []
-no_store (request.Insert at name) answer state reads = refl
-no_store (request.Ack at) answer state reads = refl
-no_store (request.Read at key address) answer state reads = refl
-no_store (request.Fill address count byte) answer state reads = refl
-no_store (request.Dump address count) answer state reads = refl
-no_store (request.Unit at) answer state reads = refl
-no_store (request.SetRate at rate) answer state reads = refl
-no_store (request.Tries tries) answer state reads = refl
-no_store (request.Blank at name count) answer state reads = refl
-no_store (request.BlankDd at name count) answer state reads = refl
 no_store (request.Eject at) answer state reads = absurd (true≢false (sym reads))
-no_store (request.Write at key address) answer state reads = refl
-no_store (request.WriteDeleted at key address) answer state reads = refl
-no_store (request.Format at c h) answer state reads = refl
+no_store _ answer state reads = refl
 
 no_stores : (state : State) (course : List Taken) → AllRead (requests_of course) → stores_of state course ≡ []
 no_stores state [] reads = refl

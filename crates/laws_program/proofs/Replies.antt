@@ -1,49 +1,21 @@
 -- What the status of a subcommand (form) says of its replies.
 use Rattle.std.proofs.Common.{◌≡◌, ℕ, Bool, List, Some, None, refl, sym, subst}
-use Rattle.flop_base.specs.Shelf.{Files, file_at}
-use Rattle.flop_base.specs.declared.answers.Rate.{Rate}
-use Rattle.flop_base.specs.declared.answers.Rate.TheVariants.{R250, R500}
-use Rattle.flop_base.specs.declared.answers.Status.{Status}
+use Rattle.laws_program.proofs.Common.{Files, file_at, Rate, R250, R500, Status, Disk, DriveCounts, Blames, Taken, has_refusal, IsImageOf, World, IsFlatFile, Form, world, DoesForm, DoesOrStarves, AsAsked, StarvesWords, Stand, RanOver, EndsByReplies, sectors_at, LogLine, IsLogFound, IsDiskFile, InsertsDisks, both, job_of, Request, IsText}
 use Rattle.flop_base.specs.declared.answers.Status.TheVariants as status
-use Rattle.raw_image.specs.Disk.{Disk}
-use Rattle.flop_base.specs.Counters.{DriveCounts}
-use Rattle.sector_model.specs.Faults.{Blames}
-use Rattle.sector_model.specs.Runs.{Taken, has_refusal}
-use Rattle.sector_model.specs.Steps.{IsImageOf}
-use Rattle.sector_model.specs.Plays.{World}
-use Rattle.disk_commands.specs.FlatFiles.{IsFlatFile}
-use Rattle.floppy_words.specs.declared.form.Form.{Form}
 use Rattle.floppy_words.specs.declared.form.Form.TheVariants as form
-use Rattle.text_commands.specs.JobRounds.{world}
-use Rattle.floppy_tools.specs.Programs.{DoesForm, DoesOrStarves, AsAsked, StarvesWords}
-use Rattle.floppy_tools.specs.Performed.{Stand, RanOver}
-use Rattle.laws_program.specs.Ends.{EndsByReplies}
 use Rattle.laws_program.proofs.Telling.{EndsBy}
 use Rattle.laws_program.proofs.Completed.{format_by, copy_by, verify_by, import_by, export_by, exercise_by}
 use Rattle.laws_program.proofs.RescueStatus.{rescue_by}
 use Rattle.laws_program.proofs.RescueAgain.{rescue_again_by}
-use Rattle.flop_base.specs.Standard.{sectors_at}
-use Rattle.rescue.specs.declared.line.LogLine.{LogLine}
-use Rattle.disk_commands.specs.Logs.{IsLogFound}
 use Rattle.laws_program.proofs.PlayStatus.{play_by, begins_kept}
-use Rattle.laws_program.specs.Inserted.{IsDiskFile, InsertsDisks}
-use Rattle.flop_base.specs.Bays.{both}
-use Rattle.floppy_jobs.specs.Texts.{job_of}
-use Rattle.floppy_jobs.specs.declared.request.Request.{Request}
-use Rattle.sector_model.specs.Plays.{IsText}
 use Rattle.std.proofs.Common.{Ok}
 
 pub counted_by : (refused : Bool) (old new : Stand) (ended : Status) → Blames (ended ≡ status.FileFault) old.outside.shelf_faults new.outside.shelf_faults
     → Blames (ended ≡ status.SinkFault) old.outside.sink_faults new.outside.sink_faults → EndsBy refused ended → EndsByReplies refused old new ended
-counted_by refused old new status.AllOk shelf sink ends = ends
 counted_by refused old new status.NoMemory shelf sink ends = tt
 counted_by refused old new status.FileFault shelf sink ends = shelf.rose refl
 counted_by refused old new status.SinkFault shelf sink ends = sink.rose refl
-counted_by refused old new status.SomeRefused shelf sink ends = ends
-counted_by refused old new status.BadImage shelf sink ends = ends
-counted_by refused old new status.Absent shelf sink ends = ends
-counted_by refused old new status.BadJob shelf sink ends = ends
-counted_by refused old new status.BadWords shelf sink ends = ends
+counted_by refused old new _ shelf sink ends = ends
 
 done_by : (asked : Form) (one two : World) (course : List Taken) (old new : Stand) (ended : Status)
     → (DoesForm asked one course two ended → EndsBy (has_refusal course) ended)

@@ -1,33 +1,14 @@
 -- The status of a rescue that goes on by a log, by whether some reply was a refusal.
 use Rattle.std.proofs.Common.{◌≡◌, ℕ, true, false, List, [], ◌∷◌, length, Option, Some, refl, sym, ap, subst, inl, inr, unwrap_or}
 use Rattle.std.specs.Prelude.{◌||◌}
-use Rattle.flop_base.specs.Shelf.{Files}
-use Rattle.flop_base.specs.Standard.{sectors_at}
-use Rattle.flop_base.specs.declared.answers.Status.{Status}
+use Rattle.laws_program.proofs.Common.{Files, sectors_at, Status, Disk, Reply, Stop, State, Step, StopCause, IsImageOf, IsBadImage, IsLonger, IsAbsent, is_refusal, Taken, has_refusal, IsEndStop, World, Shape, shape_of, Script, Fails, RunsScript, unless_refused, no_tracks, shape_at, through, with_report, logged_keys, LogLine, IsLogFound, IsFound, by_log, rescues, rescue_rest, Rescues, done_does}
 use Rattle.flop_base.specs.declared.answers.Status.TheVariants as status
-use Rattle.raw_image.specs.Disk.{Disk}
 use Rattle.floppy_jobs.specs.declared.request.Request.TheVariants as request
-use Rattle.sector_model.specs.declared.reply.Reply.{Reply}
 use Rattle.sector_model.specs.declared.reply.Reply.TheVariants as reply
-use Rattle.sector_model.specs.declared.reply.Stop.{Stop}
 use Rattle.sector_model.specs.declared.reply.Stop.TheVariants as stop
-use Rattle.sector_model.specs.States.{State}
-use Rattle.sector_model.specs.Steps.{Step, StopCause, IsImageOf, IsBadImage, IsLonger, IsAbsent}
-use Rattle.sector_model.specs.Texts.{is_refusal}
-use Rattle.sector_model.specs.Runs.{Taken, has_refusal, IsEndStop}
-use Rattle.sector_model.specs.Plays.{World}
-use Rattle.floppy_session.specs.declared.shape.Shape.{Shape}
-use Rattle.floppy_session.specs.Shapes.{shape_of}
-use Rattle.commands.specs.Scripts.{Script, Fails, RunsScript, unless_refused}
-use Rattle.commands.specs.Parts.{needs, carries, may_starve, no_tracks, shape_at, opens, through}
-use Rattle.commands.specs.Leading.{with_report}
-use Rattle.rescue.specs.Course.{logged_keys}
-use Rattle.rescue.specs.declared.line.LogLine.{LogLine}
-use Rattle.disk_commands.specs.Logs.{IsLogFound, IsFound}
-use Rattle.disk_commands.proofs.RescueRests.{by_log}
-use Rattle.disk_commands.specs.Rescue.{rescues, acknowledges_both, prepares_old, prepares, rescues_all, rescue_found, rescue_rest, Rescues}
+use Rattle.commands.specs.Parts.{needs, carries, may_starve, opens}
+use Rattle.disk_commands.specs.Rescue.{acknowledges_both, prepares_old, prepares, rescues_all, rescue_found}
 use Rattle.laws_commands.proofs.PutIn.{put_shape}
-use Rattle.laws_commands.proofs.Steps.{done_does}
 use Rattle.laws_program.proofs.Telling.{EndsBy, IsFaithful, acknowledges_tells, prints_by, end_by, script_tells, unrefused}
 use Rattle.laws_program.proofs.PlayStatus.{never_bad, never_long, never_absent}
 use Rattle.laws_program.proofs.RescueStatus.{records_by, behind}
@@ -36,8 +17,6 @@ use Rattle.laws_program.proofs.RescueStatus.{records_by, behind}
 
 pub stop_here : (files : Files) (name : List ℕ) (disk : Disk) (bay : ℕ) (cause : Stop) → IsImageOf (Some files) name disk
     → StopCause (Some files) (request.Insert bay name) cause → IsEndStop cause
-stop_here files name disk bay stop.FileFault image is = tt
-stop_here files name disk bay stop.NoMemory image is = tt
 stop_here files name disk bay (stop.BadImage other error) image is =
     let e = is.0.1 in
     let same : other ≡ name = cc e in
@@ -50,6 +29,7 @@ stop_here files name disk bay (stop.Absent other) image is =
     let e = is.0.1 in
     let same : other ≡ name = cc e in
     absurd (never_absent files name disk image (subst (λ (n : List ℕ). IsAbsent (Some files) n) same is.1))
+stop_here files name disk bay _ image is = tt
 
 inserts_tells : (bay : ℕ) (name : List ℕ) (rest : Unit {0} → Script) (files : Files) (disk : Disk) (old new : World) (course : List Taken) (ended : Status)
     → old.files ≡ Some files → IsImageOf (Some files) name disk → IsFaithful false (rest tt)

@@ -1,34 +1,14 @@
 -- The status of a rescue without a log, by whether some reply was a refusal.
 use Rattle.std.proofs.Common.{arith, ◌≡◌, ◌≤◌, ◌-◌, ◌∙◌, ℕ, Bool, true, false, List, [], ◌∷◌, ◌++◌, length, Option, Some, None, refl, ap, sym, subst, if◌then◌else◌}
 use Rattle.std.specs.Prelude.{◌||◌, nat_lt}
-use Rattle.std.proofs.lemmas.Bool.{lt-ltb, le-ltb, ltb-false, ltb-true}
-use Rattle.std.proofs.lemmas.List.{length-append}
-use Rattle.flop_base.specs.Shelf.{Files, file_at}
-use Rattle.flop_base.specs.Standard.{sectors_at}
-use Rattle.flop_base.specs.declared.answers.Code.{Code}
+use Rattle.laws_program.proofs.Common.{lt-ltb, le-ltb, ltb-false, ltb-true, length-append, Files, file_at, sectors_at, Code, Status, Chrn, Disk, Reply, IsImageOf, is_refusal, Taken, has_refusal, World, whole_status, blank_request, Shape, Script, carries, formats, write_of, LogLine, IsFound, asked_keys, outcome_of, rescue_rest, Rescues, outcome_status, by_absent}
 use Rattle.flop_base.specs.declared.answers.Code.TheVariants as code
-use Rattle.flop_base.specs.declared.answers.Status.{Status}
 use Rattle.flop_base.specs.declared.answers.Status.TheVariants as status
-use Rattle.flop_base.specs.declared.key.Chrn.{Chrn}
-use Rattle.raw_image.specs.Disk.{Disk}
 use Rattle.floppy_jobs.specs.declared.request.Request.TheVariants as request
-use Rattle.sector_model.specs.declared.reply.Reply.{Reply}
 use Rattle.sector_model.specs.declared.reply.Reply.TheVariants as reply
 use Rattle.sector_model.specs.declared.reply.Reason.TheVariants as reason
-use Rattle.sector_model.specs.Steps.{IsImageOf}
-use Rattle.sector_model.specs.Texts.{is_refusal}
-use Rattle.sector_model.specs.Runs.{Taken, has_refusal}
-use Rattle.sector_model.specs.Plays.{World, whole_status}
-use Rattle.floppy_session.specs.Blanks.{blank_request}
-use Rattle.floppy_session.specs.declared.shape.Shape.{Shape}
-use Rattle.commands.specs.Scripts.{Script}
-use Rattle.commands.specs.Parts.{asks, carries, may_starve, through, formats}
-use Rattle.rescue.specs.Course.{write_of}
-use Rattle.rescue.specs.declared.line.LogLine.{LogLine}
-use Rattle.disk_commands.specs.Logs.{IsFound}
-use Rattle.disk_commands.specs.Rescue.{does_next, follows, rescues, acknowledges_both, prepares_new, prepares, asked_keys, outcome_of, rescues_all, stores_log, rescue_found, rescue_rest, Rescues}
-use Rattle.rescue.specs.Course.{outcome_status}
-use Rattle.disk_commands.proofs.RescueRests.{by_absent}
+use Rattle.commands.specs.Parts.{asks, may_starve, through}
+use Rattle.disk_commands.specs.Rescue.{does_next, follows, rescues, acknowledges_both, prepares_new, prepares, rescues_all, stores_log, rescue_found}
 use Rattle.laws_program.proofs.Telling.{EndsBy, NeverInserts, IsFaithful, PartTells, opens_tells, carries_tells, carries_tells_at, acknowledges_tells, tracks_tell, or_none, some_whole}
 use Rattle.laws_program.proofs.Completed.{blank_never, format_never}
 
@@ -67,11 +47,7 @@ module _ (key : Chrn) (lines : List LogLine) (rest : List LogLine → Script) (i
   refused code.Overrun = lined code.Overrun
   refused code.BadCrc = lined code.BadCrc
   refused code.Seek = lined code.Seek
-  refused code.BadRequest = some_whole (some_line lines)
-  refused code.Page = some_whole (some_line lines)
-  refused code.Changed = some_whole (some_line lines)
-  refused code.Protected = some_whole (some_line lines)
-  refused code.NotReady = some_whole (some_line lines)
+  refused _ = some_whole (some_line lines)
 
   followed : (answer : Reply) → IsFaithful (some_line lines || is_refusal answer) (follows key answer lines rest)
   unfolding follows does_next
@@ -79,9 +55,7 @@ module _ (key : Chrn) (lines : List LogLine) (rest : List LogLine → Script) (i
   followed reply.DoneDeleted = written true
   followed (reply.Bytes address content) = written false
   followed (reply.Refused (reason.Driver cause)) = refused cause
-  followed (reply.Refused reason.Busy) = some_whole (some_line lines)
-  followed (reply.Refused reason.Empty) = some_whole (some_line lines)
-  followed (reply.Refused reason.NoSpare) = some_whole (some_line lines)
+  followed _ = some_whole (some_line lines)
 
 rescued_by : (key : Chrn) (lines : List LogLine) → PartTells some_line (some_line lines) (rescues key lines)
 unfolding rescues asks

@@ -1,44 +1,11 @@
 -- What a rescue stores, and in which order.
 use Rattle.std.proofs.Common.{ℕ, List, [], Some, ap}
-use Rattle.flop_base.specs.declared.answers.Status.{Status}
-use Rattle.flop_base.specs.Counters.{DriveCounts}
-use Rattle.pc_bus.specs.Boards.{Board}
-use Rattle.sector_model.specs.Runs.{Taken}
-use Rattle.sector_model.specs.Plays.{World}
-use Rattle.archive_commands.specs.Files.{Outside}
+use Rattle.laws_program.proofs.Common.{Status, DriveCounts, Board, Taken, World, Outside, world, DoesOrStarves, AsAsked, StarvesWords, RunsOver, LogLine, log_of, StoresDiskThenLog, nothing_first, blank_disk, R500, stores_in_order, IsRegularDisk, fresh_memory, sectors_at, user_bytes, IsFaultless, IsUndisturbed, State, IsLogFound, BringsUpNoMark, HasTarget, IsTarget, IsRescue, Files, file_at, Disk, IsImageOf, log_text, LogsNotFound, IsUnmistaken, IsEndStatus, HadNoFault, HadNoStall, StoresLogOf, IsNotToldStopped}
 use Rattle.floppy_words.specs.declared.form.Form.TheVariants as form
-use Rattle.text_commands.specs.JobRounds.{world}
-use Rattle.floppy_tools.specs.Programs.{DoesOrStarves, AsAsked, StarvesWords}
-use Rattle.floppy_tools.specs.Machines.{RunsOver}
-use Rattle.rescue.specs.declared.line.LogLine.{LogLine}
-use Rattle.laws_commands.specs.Rescued.{log_of}
-use Rattle.laws_commands.specs.Stores.{StoresDiskThenLog}
-use Rattle.laws_commands.proofs.Storing.{nothing_first}
-use Rattle.raw_image.specs.Disk.{blank_disk}
-use Rattle.flop_base.specs.declared.answers.Rate.TheVariants.{R500}
-use Rattle.laws_commands.proofs.Order.{stores_in_order}
 use Rattle.laws_commands.proofs.Whole.{rescue_logs, rescue_stores}
-use Rattle.sector_map.specs.Disks.{IsRegularDisk}
-use Rattle.laws_commands.proofs.CommandEnds.{fresh_memory}
 use Rattle.std.specs.Prelude.{◌≢◌, None, length, IsSomeAnd}
-use Rattle.flop_base.specs.Standard.{sectors_at}
-use Rattle.flop_base.specs.Memory.{user_bytes}
-use Rattle.flop_base.specs.Counters.{IsFaultless, IsUndisturbed}
-use Rattle.sector_model.specs.States.{State}
-use Rattle.disk_commands.specs.Logs.{IsLogFound}
-use Rattle.laws_commands.specs.Rescued.{BringsUpNoMark, HasTarget, IsTarget, IsRescue}
 use Rattle.std.proofs.Common.{◌≡◌, Option, subst}
 use Rattle.std.specs.Prelude.{IfSome}
-use Rattle.flop_base.specs.Shelf.{Files, file_at}
-use Rattle.raw_image.specs.Disk.{Disk}
-use Rattle.sector_model.specs.Steps.{IsImageOf}
-use Rattle.rescue.specs.Log.{log_text}
-use Rattle.laws_commands.specs.Rescued.{LogsNotFound}
-use Rattle.laws_commands.specs.Verified.{IsUnmistaken}
-use Rattle.laws_commands.specs.VerifyRuns.{IsEndStatus}
-use Rattle.laws_program.specs.Disturbed.{HadNoFault, HadNoStall}
-use Rattle.laws_program.specs.Stored.{StoresLogOf}
-use Rattle.laws_program.specs.Told.{IsNotToldStopped}
 use Rattle.laws_program.proofs.OnBoards.{undisturbed_first, faultless_second}
 use Rattle.laws_program.proofs.Unstopped.{rescue_unstopped}
 

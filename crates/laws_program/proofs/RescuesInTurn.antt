@@ -1,35 +1,12 @@
 -- Rescues one after the other: each finds what the run before left.
-use Rattle.std.proofs.Common.{arith, ◌≡◌, ◌≢◌, ◌∙◌, ◌+◌, ◌≤◌, ℕ, zero, suc, Bool, true, false, All, List, [], ◌∷◌, ◌++◌, length, append-nil, append_assoc, lit<, Option, Some, None, refl, sym, ap, subst, inl, inr}
+use Rattle.std.proofs.Common.{arith, ◌≡◌, ◌≢◌, ◌∙◌, ◌+◌, ◌≤◌, ℕ, zero, suc, Bool, true, false, List, [], ◌∷◌, ◌++◌, length, append-nil, append_assoc, lit<, Option, Some, None, refl, sym, ap, subst, inl, inr}
 use Rattle.std.specs.Prelude.{◌⊎◌, Contains, IfSome, IsSomeAnd, nat_lt, if◌then◌else◌}
 use Rattle.std.specs.FinMap as fin
-use Rattle.std.proofs.lemmas.Bool.{cases_eq, ltb-false}
-use Rattle.std.proofs.lemmas.List.Elements.{All-contains, All-weaker, recursion_from_All}
-use Rattle.flop_base.specs.Shelf.{Files, file_at, after_store, stored}
-use Rattle.flop_base.specs.Standard.{sectors_at}
-use Rattle.flop_base.specs.declared.answers.Status.{Status}
+use Rattle.laws_program.proofs.Common.{cases_eq, ltb-false, All-contains, All-weaker, recursion_from_All, Files, file_at, after_store, stored, sectors_at, Status, Chrn, Disk, IsDisk, file_of, IsRegularDisk, Taken, World, IsAbsent, shape_of, logged_keys, outcome_status, IsLogLine, IsLog, log_text, LogLine, IsLogFound, most_log_bytes, asked_keys, world, IsFieldOf, IsSettled, GivesFields, StoresRescue, TellsRescue, IsNotFound, count_writes, outcome_in, log_of, entry_at, IsStandardKey, image_there, each_standard}
 use Rattle.flop_base.specs.declared.answers.Status.TheVariants as status
-use Rattle.flop_base.specs.declared.key.Chrn.{Chrn}
-use Rattle.raw_image.specs.Disk.{Disk, IsDisk}
-use Rattle.raw_image.specs.Image.{file_of}
-use Rattle.sector_map.specs.Disks.{IsRegularDisk}
-use Rattle.sector_model.specs.Runs.{Taken}
-use Rattle.sector_model.specs.Plays.{World}
-use Rattle.sector_model.specs.Steps.{IsAbsent, IsImageOf}
-use Rattle.floppy_session.specs.Shapes.{shape_of}
-use Rattle.rescue.specs.Course.{logged_keys, outcome_status}
-use Rattle.rescue.specs.Log.{IsLogLine, IsLog, log_text}
-use Rattle.rescue.specs.declared.line.LogLine.{LogLine}
 use Rattle.rescue.proofs.LawLemmas.{one_spelling}
-use Rattle.disk_commands.specs.Logs.{IsLogFound, most_log_bytes}
-use Rattle.disk_commands.specs.Rescue.{asked_keys}
-use Rattle.text_commands.specs.JobRounds.{world}
-use Rattle.laws_commands.specs.Copied.{IsFieldOf}
 use Rattle.laws_commands.specs.LaidFields.{HasLaidFields}
-use Rattle.laws_commands.specs.Rescued.{IsSettled, GivesFields, StoresRescue, TellsRescue, IsNotFound, count_writes, outcome_in, log_of, entry_at}
-use Rattle.laws_commands.specs.Verified.{IsStandardKey}
 use Rattle.laws_commands.proofs.Sectors.{few_sectors}
-use Rattle.laws_commands.proofs.StoredFiles.{image_there}
-use Rattle.laws_commands.proofs.RescueEnds.{each_standard}
 use Rattle.laws_program.specs.InTurn.{RescueRun, IsRescueRun, StandAsLeft, AreInTurn, last_run, SomeRun, IsSavedFrom, CouldBeRead, LeavesRescued}
 use Rattle.laws_program.proofs.Rescues.{rescue_settles, rescue_settles_again, rescue_loses}
 

@@ -1,19 +1,9 @@
 -- Two runs of the same requests from alike states: they answer alike as far as both go.
 use Rattle.std.proofs.Common.{◌≡◌, ◌∙◌, ℕ, suc, Bool, List, [], ◌∷◌, ◌++◌, length, refl, sym, ap, subst, Option, Some, None, inl, inr}
 use Rattle.std.specs.Prelude.{MatchOption, if◌then◌else◌}
-use Rattle.flop_base.specs.Shelf.{Files, file_at}
-use Rattle.floppy_jobs.specs.declared.request.Request.{Request}
+use Rattle.laws_program.proofs.Common.{Files, file_at, Request, Reply, Stop, bay_of, is_bay, State, Step, StopsAt, refusal_of, is_loaded, unless_bad, Taken, Run, requests_of, IsEndStop, AreUndisturbed, AreRegularBefore, AnswerAlike, AnswersAgree}
 use Rattle.floppy_jobs.specs.declared.request.Request.TheVariants as request
-use Rattle.sector_model.specs.declared.reply.Reply.{Reply}
 use Rattle.sector_model.specs.declared.reply.Reason.TheVariants as reason
-use Rattle.sector_model.specs.declared.reply.Stop.{Stop}
-use Rattle.sector_model.specs.Stations.{bay_of}
-use Rattle.sector_model.specs.Orders.{is_bay}
-use Rattle.sector_model.specs.States.{State}
-use Rattle.sector_model.specs.Steps.{Step, StopsAt, refusal_of, is_loaded, unless_bad}
-use Rattle.sector_model.specs.Runs.{Taken, Run, requests_of, IsEndStop}
-use Rattle.sector_model.specs.Ties.{AreUndisturbed}
-use Rattle.laws_program.specs.Determined.{AreRegularBefore, AnswerAlike, AnswersAgree}
 use Rattle.laws_program.proofs.AlikeDisks.{bays_in, loaded_same}
 use Rattle.laws_program.proofs.AlikeFiles.{AlikeTold, stop_by, same_stop, no_stop, stop_cases, IsLoadStop}
 use Rattle.laws_program.proofs.StepsAgree.{AlikeStages, IsCalmStep, steps_agree}
@@ -23,21 +13,15 @@ use Rattle.laws_program.proofs.StepsAgree.{AlikeStages, IsCalmStep, steps_agree}
 -- loads stop a run at the same names, with the files of either
 abbrev pub SameStops : Option Files → Option Files → Type 0
 SameStops (Some files) (Some others) = (name : List ℕ) → stop_by name (file_at files name) ≡ stop_by name (file_at others name)
-SameStops (Some files) None = ⊥
-SameStops None (Some others) = ⊥
-SameStops None None = ⊥
+SameStops _ _ = ⊥
 
 told_stops : (told other : Option Files) → AlikeTold told other → SameStops told other
-told_stops None None same = absurd same
-told_stops None (Some b) same = absurd same
-told_stops (Some a) None same = absurd same
 told_stops (Some a) (Some b) same = λ name. sym (same_stop name (file_at a name) (file_at b name) (same name))
+told_stops _ _ same = absurd same
 
 told_stops_too : (told other : Option Files) → AlikeTold told other → SameStops other told
-told_stops_too None None same = absurd same
-told_stops_too None (Some b) same = absurd same
-told_stops_too (Some a) None same = absurd same
 told_stops_too (Some a) (Some b) same = λ name. same_stop name (file_at a name) (file_at b name) (same name)
+told_stops_too _ _ same = absurd same
 
 -- what two states have in common where a request comes to both
 pub record AreBeside (one : State) (told : Option Files) (two : State) (other : Option Files) : Type 0 where
@@ -109,9 +93,8 @@ pub data Parted (course course_too : List Taken) (mid : State) (files : Option F
 
 -- all answers of two courses agree, as far as both go
 abbrev pub AllAgree : List Taken → List Taken → Type 0
-AllAgree [] other = Unit {0}
-AllAgree (taken ∷ later) [] = Unit {0}
 AllAgree (taken ∷ later) (next ∷ rest) = (next.asked ≡ taken.asked) × AnswerAlike taken.answer next.answer × AllAgree later rest
+AllAgree _ _ = Unit {0}
 
 pub record RunsAgree (course course_too : List Taken) (mid : State) (files : Option Files) (rest : List Request) (mid_too : State) (files_too : Option Files) (rest_too : List Request) : Type 0 where
   pub agree : AllAgree course course_too
@@ -161,8 +144,6 @@ runs_agree (t ∷ later) (u ∷ more) one two mid mid_too told other files files
 
 -- answers of two runs agree as far as both go, while the disks of the first are regular
 pub while_agree : (course course_too : List Taken) (one two mid mid_too : State) (told other files files_too : Option Files) (requests rest rest_too : List Request) → AlikeStages one told two other → AreUndisturbed one.station.counters course → AreUndisturbed two.station.counters course_too → Run one told course mid files → Run two other course_too mid_too files_too → requests ≡ requests_of course ++ rest → requests ≡ requests_of course_too ++ rest_too → AnswersAgree one course course_too
-while_agree [] course_too one two mid mid_too told other files files_too requests rest rest_too same calm calm_too run run_too all all_too = tt
-while_agree (t ∷ later) [] one two mid mid_too told other files files_too requests rest rest_too same calm calm_too run run_too all all_too = tt
 while_agree (t ∷ later) (u ∷ more) one two mid mid_too told other files files_too requests rest rest_too same calm calm_too run run_too all all_too = λ regular.
     let lists : u.asked ∷ (requests_of more ++ rest_too) ≡ t.asked ∷ (requests_of later ++ rest) = sym all_too ∙ all in
     let asked : u.asked ≡ t.asked = same_head u.asked t.asked (requests_of more ++ rest_too) (requests_of later ++ rest) lists in
@@ -173,3 +154,4 @@ while_agree (t ∷ later) (u ∷ more) one two mid mid_too told other files file
     let quiet_too = subst (λ (q : Request). IsCalmStep q u.answer two.station.counters u.after.station.counters) asked quiet_here in
     let here = steps_agree one two t.after u.after told other run.0 run_too.0 same t.answer u.answer regular t.asked quiet quiet_too run.1 step_too in
     (asked, here.answers, while_agree later more t.after u.after mid mid_too run.0 run_too.0 files files_too (requests_of later ++ rest) rest rest_too here.after calm.2 calm_too.2 run.2 run_too.2 refl (sym behind))
+while_agree _ _ one two mid mid_too told other files files_too requests rest rest_too same calm calm_too run run_too all all_too = tt

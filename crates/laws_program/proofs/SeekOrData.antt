@@ -1,13 +1,11 @@
 -- A controller that begins no data command during a seek, and no seek during a data command.
 use Rattle.std.proofs.Common.{◌≡◌, ◌∙◌, inl, inr, ℕ, ◌+◌, ◌==◌, Bool, true, false, Option, Some, None, [], ◌∷◌, ◌++◌, if◌then◌else◌, refl, ap, sym, subst}
-use Rattle.std.proofs.lemmas.Bool.{false≢true}
+use Rattle.laws_program.proofs.Common.{false≢true, Seeking, is_seeking, seek_bits, sensed, Seek, is_executing, Board, controller_of, RunsNoSeek, Goes, Lasting, lasts, NotBoth}
 use Rattle.fdc_commands.specs.Table.{answer, kept}
 use Rattle.fdc_commands.specs.declared.bytes.Accepted.{Accepted}
 use Rattle.fdc_commands.specs.declared.bytes.Accepted.TheVariants.{Invalid, More, Ready}
 use Rattle.fdc_commands.specs.declared.command.Command.{Command}
 use Rattle.fdc_commands.specs.declared.command.Command.TheVariants as command
-use Rattle.fdc_commands.specs.Seeking.{Seeking, is_seeking, seek_bits, sensed}
-use Rattle.fdc_commands.specs.declared.motion.Seek.{Seek}
 use Rattle.fdc_stages.specs.declared.formatting.FormatNext.{FormatNext}
 use Rattle.fdc_stages.specs.declared.formatting.FormatNext.TheVariants as format_next
 use Rattle.fdc_stages.specs.declared.writing.WriteNext.{WriteNext}
@@ -23,7 +21,6 @@ use Rattle.fdc_phases.specs.declared.transfers.Writing.{Writing}
 use Rattle.fdc_core.specs.Commands.{BeginsData, Begins, ObeysAtRest, Obeys, TakesAs, answered, sensing_by}
 use Rattle.fdc_core.specs.Courses.{Works}
 use Rattle.fdc_core.specs.Formatting.{after_laid}
-use Rattle.fdc_core.specs.Listening.{is_executing}
 use Rattle.fdc_core.specs.Ports.{Writes, dor_resets, dsr_resets, given, is_taking, takes_in}
 use Rattle.fdc_core.specs.State.{is_held, reset}
 use Rattle.fdc_core.specs.Steps.{MovesIn, RestsIn, polled}
@@ -31,21 +28,16 @@ use Rattle.fdc_core.specs.Tasks.{StepsNowhere, TaskStepsNowhere}
 use Rattle.fdc_core.specs.Writing.{after_next}
 use Rattle.fdc_core.specs.declared.controller.Fdc.{Fdc}
 use Rattle.fdc_core.specs.declared.controller.Lines.{Lines}
-use Rattle.pc_bus.specs.Boards.{Board, controller_of}
 use Rattle.pc_bus.specs.Steps.{Step}
-use Rattle.laws_machine.specs.OnSteps.Ends.{RunsNoSeek}
-use Rattle.laws_machine.specs.OnSteps.Moves.{Goes, Lasting}
 use Rattle.laws_machine.proofs.Facts.{idle_read, polled_phase, told_busy}
 use Rattle.laws_machine.proofs.OnAwaits.Words.{word_leaves}
 use Rattle.laws_machine.proofs.OnQuiet.Listening.{word_heard}
 use Rattle.laws_machine.proofs.OnSteps.Acts.{Touches, at_controller}
 use Rattle.laws_machine.proofs.OnSteps.Controllers.{by_phase, controller_dma, polled_seek}
 use Rattle.laws_machine.proofs.OnSteps.DataEnds.{port_is, zero_of}
-use Rattle.laws_machine.proofs.OnSteps.Moves.{lasts}
 use Rattle.laws_machine.proofs.OnSteps.Transfers.{after_step}
 use Rattle.laws_machine.proofs.OnSteps.Words.{controller}
 use Rattle.laws_machine.proofs.OnWrites.Stillness.{no_bits}
-use Rattle.laws_program.specs.Seeks.{NotBoth}
 
 -- ---- the seeks
 
@@ -111,9 +103,8 @@ task_seeks (Format formatting) head_drive steps polls between does = elim does [
 ]
 
 alone_seeks : (p : Phase) (polls between : Fdc) → is_executing p ≡ true → StepsNowhere p polls between → between.seeks ≡ polls.seeks
-alone_seeks phase.Command polls between busy does = absurd (false≢true busy)
-alone_seeks (phase.Result answer) polls between busy does = absurd (false≢true busy)
 alone_seeks (phase.Execute execution) polls between busy does = task_seeks execution.task execution.head_drive execution.steps polls between does
+alone_seeks _ polls between busy does = absurd (false≢true busy)
 
 between_seek : (old new : Board) (step : Step old new) → is_executing (controller_of old).phase ≡ true
     → step.between.seeks.seek ≡ (controller_of old).seeks.seek
@@ -203,9 +194,8 @@ set_apart true set was = inl refl
 set_apart false set was = was
 
 taking_idle : (p : Phase) (held : Bool) → takes_in p held ≡ true → is_executing p ≡ false
-taking_idle phase.Command held takes = refl
-taking_idle (phase.Result answer) held takes = refl
 taking_idle (phase.Execute execution) held takes = absurd (false≢true takes)
+taking_idle _ held takes = refl
 
 sent : (value : ℕ) (lines : Lines) (old new : Fdc) (port : ℕ) → port ≡ 0x3F5 → Writes port value lines old new → NotBoth old → NotBoth new
 sent value lines old new port is writes was = by_taking (is_taking old) refl

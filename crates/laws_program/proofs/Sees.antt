@@ -1,27 +1,11 @@
 -- What a read of a regular track answers, where nothing disturbs the read: the track's fields settle the answer.
 use Rattle.std.proofs.Common.{arith, ◌≡◌, ◌∙◌, ◌+◌, ◌*◌, ◌≤◌, ℕ, Bool, List, length, refl, sym, ap, subst, inl, inr, Result, Ok, Err}
 use Rattle.std.proofs.lemmas.List.FromFn.{length-map-range_with_len}
-use Rattle.flop_base.specs.declared.key.Chrn.{Chrn}
-use Rattle.flop_base.specs.declared.answers.Code.{Code}
+use Rattle.laws_program.proofs.Common.{Chrn, Code, HasTrack, track_of, GoesOn, IsUndisturbed, with_items, user_bytes, Look, IsAddressAt, content_size, HasAddressMark, IsRegular, plain_clear, length-with_items, met_track, clear_address, key_cylinder, StationState, Becomes, bay_of, met, IsRead, IsReadCause, ReadsDrive, IsRegularIn}
 use Rattle.flop_base.specs.declared.answers.Code.TheVariants as code
-use Rattle.raw_image.specs.Disk.{HasTrack, track_of}
-use Rattle.flop_base.specs.Counters.{GoesOn, IsUndisturbed}
-use Rattle.flop_base.specs.Lists.{with_items}
-use Rattle.flop_base.specs.Memory.{user_bytes}
-use Rattle.track_model.specs.declared.Look.{Look}
 use Rattle.track_model.specs.declared.Look.TheVariants as look
 use Rattle.track_model.specs.Bytes.{byte_at, bytes_at}
-use Rattle.track_model.specs.Fields.{IsAddressAt, content_size}
-use Rattle.track_model.specs.Looks.{HasAddressMark}
 use Rattle.track_model.specs.Sectors.{IsSector}
-use Rattle.track_model.specs.Regular.{IsRegular}
-use Rattle.track_model.proofs.Sectored.{plain_clear}
-use Rattle.track_model.proofs.Splices.{length-with_items}
-use Rattle.sector_map.proofs.MetTracks.{met_track}
-use Rattle.sector_map.proofs.RegularTracks.{clear_address, key_cylinder}
-use Rattle.sector_model.specs.Stations.{StationState, Becomes, bay_of, met}
-use Rattle.sector_model.specs.Reads.{IsRead, IsReadCause, ReadsDrive}
-use Rattle.laws_program.specs.Determined.{IsRegularIn}
 use Rattle.laws_program.proofs.AlikeDisks.{regular_met}
 use Rattle.laws_program.proofs.Calm.{no_faults, no_overrun, no_loss}
 use Rattle.laws_program.proofs.Shown.{Shows, ShowSame, SameAnswer, one_answer}
@@ -47,22 +31,9 @@ sees_on one two key called same (There p answer at shows is) =
 
 same_reads : (a b : Look) → SameAnswer a b → read_by b ≡ read_by a
 same_reads (look.Found a p) (look.Found b q) same = ap (λ (d : Bool). Ok d) (sym same)
-same_reads (look.Found a p) look.NoData same = absurd same
-same_reads (look.Found a p) look.BadCrc same = absurd same
-same_reads (look.Found a p) look.NoSector same = absurd same
-same_reads (look.Found a p) look.NoMark same = absurd same
-same_reads look.NoData (look.Found b q) same = absurd same
 same_reads look.NoData look.NoData same = refl
-same_reads look.NoData look.BadCrc same = absurd same
-same_reads look.NoData look.NoSector same = absurd same
-same_reads look.NoData look.NoMark same = absurd same
-same_reads look.BadCrc (look.Found b q) same = absurd same
-same_reads look.BadCrc look.NoData same = absurd same
 same_reads look.BadCrc look.BadCrc same = refl
-same_reads look.BadCrc look.NoSector same = absurd same
-same_reads look.BadCrc look.NoMark same = absurd same
-same_reads look.NoSector b same = absurd same
-same_reads look.NoMark b same = absurd same
+same_reads _ _ same = absurd same
 
 -- a track shows only one answer to a read
 pub one_seen : (track : List ℕ) (c h : ℕ) (key : Chrn) (a b : Result Bool Code) → IsRegular track c h → Sees track key a → Sees track key b → b ≡ a
@@ -109,11 +80,7 @@ module _ (bay : ℕ) (key : Chrn) (address : ℕ) (old new : StationState) (regu
   cause_sees code.BadCrc cause = let seen = cause.bad_data refl calm in There seen.0 look.BadCrc seen.1 seen.2 refl
   cause_sees code.Overrun cause = absurd (no_overrun bay old.counters new.counters calm goes (cause.overrun refl))
   cause_sees code.Seek cause = absurd (no_loss bay old.counters new.counters calm goes 77 (omega arith) (cause.lost refl))
-  cause_sees code.BadRequest cause = absurd cause.device
-  cause_sees code.Protected cause = absurd cause.device
-  cause_sees code.Changed cause = absurd cause.device
-  cause_sees code.Page cause = absurd cause.device
-  cause_sees code.NotReady cause = absurd cause.device
+  cause_sees _ cause = absurd cause.device
 
   pub drive_sees : (called : Result Bool Code) → ReadsDrive bay key address old called new → Sees track key called
   drive_sees (Ok deleted) drive = found_sees deleted drive.found

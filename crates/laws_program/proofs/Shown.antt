@@ -1,21 +1,13 @@
 -- Tracks that show the same: they may differ only in contents, and not in anything else that answers depend on.
 use Rattle.std.proofs.Common.{◌≡◌, ◌↔◌, ℕ, Bool, List, sym, subst}
-use Rattle.flop_base.specs.declared.key.Chrn.{Chrn}
-use Rattle.track_model.specs.declared.Look.{Look}
-use Rattle.track_model.specs.declared.Look.TheVariants.{Found, NoMark, NoSector, NoData, BadCrc}
-use Rattle.track_model.specs.Fields.{IsAddressAt}
-use Rattle.track_model.specs.Looks.{LookAt, HasAddressMark}
-use Rattle.track_model.specs.Regular.{IsRegular}
-use Rattle.track_model.proofs.Unique.{one_look_at}
-use Rattle.sector_map.specs.MetTracks.{HasNothing}
+use Rattle.laws_program.proofs.Common.{Chrn, Look, Found, NoMark, NoSector, NoData, BadCrc, IsAddressAt, LookAt, HasAddressMark, IsRegular, one_look_at, HasNothing}
 
 -- the look at an address field has this answer, wherever its content stands
 abbrev pub Shows : List ℕ → ℕ → ℕ → Look → Type 0
 Shows track p n (Found deleted place) = (q : ℕ) × LookAt track p n (Found deleted q)
 Shows track p n NoData = LookAt track p n NoData
 Shows track p n BadCrc = LookAt track p n BadCrc
-Shows track p n NoSector = ⊥
-Shows track p n NoMark = ⊥
+Shows track p n _ = ⊥
 
 -- two tracks show the same
 pub record ShowSame (one two : List ℕ) : Type 0 where
@@ -85,32 +77,16 @@ one_answer track p n BadCrc NoData x y = let e = one_look_at track p n BadCrc No
 one_answer track p n BadCrc BadCrc x y = tt
 one_answer track p n NoSector b x y = absurd x
 one_answer track p n NoMark b x y = absurd x
-one_answer track p n (Found a u) NoSector x y = absurd y
-one_answer track p n (Found a u) NoMark x y = absurd y
-one_answer track p n NoData NoSector x y = absurd y
-one_answer track p n NoData NoMark x y = absurd y
-one_answer track p n BadCrc NoSector x y = absurd y
-one_answer track p n BadCrc NoMark x y = absurd y
+one_answer track p n _ _ x y = absurd y
 
 -- a track that shows a look shows each look with the same answer
 pub shows_answer : (track : List ℕ) (p n : ℕ) (a b : Look) → SameAnswer a b → Shows track p n a → Shows track p n b
 shows_answer track p n (Found a u) (Found b v) same x = (x.0, subst (λ (d : Bool). LookAt track p n (Found d x.0)) same x.1)
-shows_answer track p n (Found a u) NoData same x = absurd same
-shows_answer track p n (Found a u) BadCrc same x = absurd same
-shows_answer track p n (Found a u) NoSector same x = absurd same
-shows_answer track p n (Found a u) NoMark same x = absurd same
-shows_answer track p n NoData (Found b v) same x = absurd same
 shows_answer track p n NoData NoData same x = x
-shows_answer track p n NoData BadCrc same x = absurd same
-shows_answer track p n NoData NoSector same x = absurd same
-shows_answer track p n NoData NoMark same x = absurd same
-shows_answer track p n BadCrc (Found b v) same x = absurd same
-shows_answer track p n BadCrc NoData same x = absurd same
 shows_answer track p n BadCrc BadCrc same x = x
-shows_answer track p n BadCrc NoSector same x = absurd same
-shows_answer track p n BadCrc NoMark same x = absurd same
 shows_answer track p n NoSector b same x = absurd x
 shows_answer track p n NoMark b same x = absurd x
+shows_answer track p n _ _ same x = absurd same
 
 -- two tracks that show the same answer at an address field show the same there
 pub show_answer : (one two : List ℕ) (p n : ℕ) (a b look : Look) → Shows one p n a → Shows two p n b → SameAnswer a b → Shows one p n look → Shows two p n look

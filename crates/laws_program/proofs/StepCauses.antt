@@ -1,33 +1,10 @@
 -- Each step of a run: what a format did, why a request was refused, and how many data commands were sent.
 use Rattle.std.proofs.Common.{arith, ◌≡◌, ◌+◌, ◌*◌, ◌≤◌, ◌∙◌, ℕ, Bool, true, false, true≢false, List, [], ◌∷◌, Option, Some, None, Result, Ok, Err, refl, ap, sym, subst}
 use Rattle.std.specs.Prelude.{option_map, MatchOption, MatchBool, IfErr, if◌then◌else◌}
-use Rattle.std.proofs.lemmas.List.Elements.{All-nil}
-use Rattle.flop_base.specs.Shelf.{Files}
-use Rattle.flop_base.specs.Standard.{gap_at, standard_fill, sectors_at}
-use Rattle.flop_base.specs.Counters.{Counters, IsDriven}
-use Rattle.flop_base.specs.declared.answers.Code.{Code}
-use Rattle.flop_base.specs.declared.answers.Code.TheVariants.{BadRequest}
-use Rattle.flop_base.specs.declared.key.Chrn.{Chrn}
-use Rattle.raw_image.specs.Disk.{Disk}
-use Rattle.floppy_jobs.specs.declared.request.Request.{Request}
+use Rattle.laws_program.proofs.Common.{All-nil, Files, gap_at, standard_fill, sectors_at, Counters, IsDriven, Code, BadRequest, Chrn, Disk, Request, Format, Laying, Reply, Reason, StationState, bay_of, State, IsSame, is_bay, read_refusal, write_refusal, format_refusal, rate_refusal, IsRefusedAtOnce, Acks, AcksDrive, WritesTo, WritesDrive, written_from, Lays, FormatsTo, Step, IsDriverCall, IsRefused, refusal_of, read_reply, reply_of, is_refusal, Taken, Run, same_within, ok_taken, EachStep, format_in, IsFormat, FormatsTrack, by_driver, refusal_at_once, IsWriteRefused, IsDriveCause, TellsCause, most_commands, Sends, SendsFew}
 use Rattle.floppy_jobs.specs.declared.request.Request.TheVariants as request
-use Rattle.sector_map.specs.Layings.{Format, Laying}
-use Rattle.sector_model.specs.declared.reply.Reply.{Reply}
 use Rattle.sector_model.specs.declared.reply.Reply.TheVariants as reply
-use Rattle.sector_model.specs.declared.reply.Reason.{Reason}
 use Rattle.sector_model.specs.declared.reply.Reason.TheVariants as reason
-use Rattle.sector_model.specs.Stations.{StationState, bay_of}
-use Rattle.sector_model.specs.States.{State, IsSame}
-use Rattle.sector_model.specs.Orders.{is_bay, read_refusal, write_refusal, format_refusal, rate_refusal, IsRefusedAtOnce}
-use Rattle.sector_model.specs.Calls.{Acks, AcksDrive}
-use Rattle.sector_model.specs.Writes.{WritesTo, WritesDrive, written_from}
-use Rattle.sector_model.specs.Formats.{Lays, FormatsTo}
-use Rattle.sector_model.specs.Steps.{Step, IsDriverCall, IsRefused, refusal_of, read_reply, reply_of}
-use Rattle.sector_model.specs.Texts.{is_refusal}
-use Rattle.sector_model.specs.Runs.{Taken, Run}
-use Rattle.sector_model.proofs.JobTimes.{same_within}
-use Rattle.laws_commands.proofs.Bays.{ok_taken}
-use Rattle.laws_program.specs.Steps.{EachStep, format_in, IsFormat, FormatsTrack, by_driver, refusal_at_once, IsWriteRefused, IsDriveCause, TellsCause, most_commands, Sends, SendsFew}
 use Rattle.laws_program.proofs.Stepping.{becomes_medium, either, driven_less, fine_call, ok_not}
 
 -- ---- formats

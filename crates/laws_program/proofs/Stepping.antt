@@ -1,32 +1,10 @@
 -- What each step of a run may do to the media in the bays.
 use Rattle.std.proofs.Common.{arith, ◌≡◌, ◌≤◌, ◌∙◌, ℕ, Bool, true, false, true≢false, List, [], ◌∷◌, length, Option, Some, None, Result, Ok, Err, refl, ap, sym, subst, inl, inr, ◌⊎◌}
 use Rattle.std.specs.Prelude.{◌==◌, ◌&&◌, not, if◌then◌else◌, MatchOption, MatchBool, IsOk, is_some, ◌-◌}
-use Rattle.std.specs.Option.{option_map_or}
-use Rattle.flop_base.specs.Shelf.{Files}
-use Rattle.flop_base.specs.declared.answers.Code.{Code}
+use Rattle.laws_program.proofs.Common.{option_map_or, Files, Code, Chrn, Disk, Request, Two, in_bay, with_bay, Counters, IsDriven, Change, Written, Reply, StationState, Bay, bay_of, set_bay, fresh_bay, Becomes, Stays, State, is_acknowledged, is_protected, write_refusal, format_refusal, rate_refusal, is_bay, is_sector_request, is_format_request, crosses_page, read_refusal, IsRefusedAtOnce, Acks, AcksDrive, Reads, ReadsDrive, IsRead, WritesTo, Reaches, IsWritten, written_from, FormatsTo, Step, refusal_of, read_reply, reply_of, is_refusal, Taken, Run, content_size, EachStep, is_same_bay, exchanges, has_exchanged, IsGuarded, KeepsGuarded, ReadsField, IsWrite, WritesField, WritesAlone, KeepsOtherFields, IsRegularDisk}
 use Rattle.flop_base.specs.declared.answers.Code.TheVariants as code
-use Rattle.flop_base.specs.declared.key.Chrn.{Chrn}
-use Rattle.raw_image.specs.Disk.{Disk}
-use Rattle.floppy_jobs.specs.declared.request.Request.{Request}
 use Rattle.floppy_jobs.specs.declared.request.Request.TheVariants as request
-use Rattle.flop_base.specs.Bays.{Two, in_bay, with_bay}
-use Rattle.flop_base.specs.Counters.{Counters, IsDriven}
-use Rattle.sector_map.specs.Changes.{Change, Written}
-use Rattle.sector_model.specs.declared.reply.Reply.{Reply}
 use Rattle.sector_model.specs.declared.reply.Reply.TheVariants as reply
-use Rattle.sector_model.specs.Stations.{StationState, Bay, bay_of, set_bay, fresh_bay, Becomes, Stays}
-use Rattle.sector_model.specs.States.{State}
-use Rattle.sector_model.specs.Orders.{is_acknowledged, is_protected, write_refusal, format_refusal, rate_refusal, is_bay, is_sector_request, is_format_request, crosses_page, read_refusal, IsRefusedAtOnce}
-use Rattle.sector_model.specs.Calls.{Acks, AcksDrive}
-use Rattle.sector_model.specs.Reads.{Reads, ReadsDrive, IsRead}
-use Rattle.sector_model.specs.Writes.{WritesTo, Reaches, IsWritten, written_from}
-use Rattle.sector_model.specs.Formats.{FormatsTo}
-use Rattle.sector_model.specs.Steps.{Step, refusal_of, read_reply, reply_of}
-use Rattle.sector_model.specs.Texts.{is_refusal}
-use Rattle.sector_model.specs.Runs.{Taken, Run}
-use Rattle.track_model.specs.Fields.{content_size}
-use Rattle.laws_program.specs.Steps.{EachStep, is_same_bay, exchanges, has_exchanged, IsGuarded, KeepsGuarded, ReadsField, IsWrite, WritesField, WritesAlone, KeepsOtherFields}
-use Rattle.sector_map.specs.Disks.{IsRegularDisk}
 
 -- ---- bays
 
@@ -206,15 +184,7 @@ module _ (old : State) (bay : ℕ) (guarded : IsGuarded old.station bay) where
       either (refusal_of old (request.Eject at)) step (λ does. absurd (not_done answer does.0 e)) (λ cause refused. stays_keeps new refused.same.stays)
   refused_keeps (request.Unit at) told answer new after step e same =
       either (refusal_of old (request.Unit at)) step (λ does. absurd (not_done answer does.0 e)) (λ cause refused. stays_keeps new refused.same.stays)
-  refused_keeps (request.Ack at) told answer new after step e same = absurd (true≢false (sym same))
-  refused_keeps (request.Read at key address) told answer new after step e same = absurd (true≢false (sym same))
-  refused_keeps (request.Write at key address) told answer new after step e same = absurd (true≢false (sym same))
-  refused_keeps (request.WriteDeleted at key address) told answer new after step e same = absurd (true≢false (sym same))
-  refused_keeps (request.Format at c h) told answer new after step e same = absurd (true≢false (sym same))
-  refused_keeps (request.Fill address count byte) told answer new after step e same = absurd (true≢false (sym same))
-  refused_keeps (request.Dump address count) told answer new after step e same = absurd (true≢false (sym same))
-  refused_keeps (request.SetRate at rate) told answer new after step e same = absurd (true≢false (sym same))
-  refused_keeps (request.Tries tries) told answer new after step e same = absurd (true≢false (sym same))
+  refused_keeps _ told answer new after step e same = absurd (true≢false (sym same))
 
   taken_keeps : (taken : Taken) (told after : Option Files) → Step taken.asked old told taken.answer taken.after after → has_exchanged bay taken ≡ false
       → Keeps taken.after

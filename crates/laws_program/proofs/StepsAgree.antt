@@ -1,37 +1,16 @@
 -- Two steps of one request from alike states that nothing disturbed: they are answered alike, and lead to alike states.
 use Rattle.std.proofs.Common.{arith, ◌≡◌, ◌∙◌, ◌+◌, ◌-◌, ◌*◌, ◌<◌, ◌≤◌, ◌^◌, ℕ, nat_le, Bool, true, false, List, length, get_or, replicate, refl, sym, ap, subst, inl, inr, Option, Some, None, lit≤}
 use Rattle.std.specs.Prelude.{◌==◌, if◌then◌else◌}
-use Rattle.std.proofs.lemmas.Bool.{leb-true, and_parts, cases_lt}
-use Rattle.std.proofs.lemmas.List.{length-replicate, get_or-replicate, get_or_past}
-use Rattle.flop_base.specs.Shelf.{Files, stored}
-use Rattle.flop_base.specs.Standard.{words_at}
-use Rattle.flop_base.specs.declared.answers.Rate.{Rate}
-use Rattle.flop_base.specs.declared.answers.Rate.TheVariants.{R500, R250}
-use Rattle.raw_image.specs.Disk.{Disk, IsDisk}
-use Rattle.raw_image.specs.Image.{file_of}
-use Rattle.flop_base.specs.Bays.{Two, in_bay, with_bay}
-use Rattle.flop_base.specs.Counters.{Counters, IsUndisturbed}
-use Rattle.flop_base.specs.Lists.{with_items}
-use Rattle.flop_base.specs.Memory.{user_bytes, bytes_from}
-use Rattle.floppy_jobs.specs.declared.request.Request.{Request}
+use Rattle.laws_program.proofs.Common.{leb-true, and_parts, cases_lt, length-replicate, get_or-replicate, get_or_past, Files, stored, words_at, Rate, R500, R250, Disk, IsDisk, file_of, Two, in_bay, with_bay, Counters, IsUndisturbed, with_items, user_bytes, bytes_from, Request, Reply, Reason, bay_of, set_bay, fresh_bay, dump_port_accesses, is_bay, State, IsSame, ChangesMedium, Step, Fills, IsDriverCall, IsRefused, refusal_of, is_loaded, unless_bad, is_blank_request, spare_refusal, blank_of, reply_of, read_reply, entered_by, HasRegularDisks, AnswerAlike, length-with_items}
 use Rattle.floppy_jobs.specs.declared.request.Request.TheVariants as request
-use Rattle.sector_model.specs.declared.reply.Reply.{Reply}
 use Rattle.sector_model.specs.declared.reply.Reply.TheVariants as reply
-use Rattle.sector_model.specs.declared.reply.Reason.{Reason}
 use Rattle.sector_model.specs.declared.reply.Reason.TheVariants as reason
-use Rattle.sector_model.specs.Stations.{bay_of, set_bay, fresh_bay}
-use Rattle.sector_model.specs.Lasting.{dump_port_accesses}
-use Rattle.sector_model.specs.Orders.{is_bay}
-use Rattle.sector_model.specs.States.{State, IsSame, ChangesMedium}
-use Rattle.sector_model.specs.Steps.{Step, Does, Fills, IsDriverCall, IsRefused, refusal_of, is_loaded, unless_bad, is_blank_request, spare_refusal, blank_of, reply_of, read_reply}
-use Rattle.sector_model.specs.Ties.{entered_by}
-use Rattle.laws_program.specs.Determined.{HasRegularDisks, AnswerAlike}
+use Rattle.sector_model.specs.Steps.{Does}
 use Rattle.laws_program.proofs.AlikeDisks.{AlikeDisks, AlikeMedia, AlikeBays, AlikeStations, disk_itself, loaded_same, bays_in, set_same, memory_same, becomes_same, regular_bay}
 use Rattle.laws_program.proofs.AfterDisks.{in_both}
 use Rattle.laws_program.proofs.AlikeFiles.{AlikeTold, images_alike, disk_files, stored_same}
 use Rattle.laws_program.proofs.Calm.{calm_bay}
 use Rattle.laws_program.proofs.CallsAgree.{CallsAgree, both_ways, length-bytes_from, read_call, write_call, format_call, rate_call, ack_call}
-use Rattle.track_model.proofs.Splices.{length-with_items}
 
 -- two states with their told files that differ only in contents
 pub record AlikeStages (one : State) (told : Option Files) (two : State) (other : Option Files) : Type 0 where
@@ -45,10 +24,8 @@ pub record StepsAgree (answer answer_too : Reply) (one : State) (told : Option F
   pub after : AlikeStages one told two other
 
 pub same_answers : (a b : Reply) → b ≡ a → AnswerAlike a b
-same_answers reply.Done b e = e
-same_answers reply.DoneDeleted b e = e
 same_answers (reply.Bytes address content) b e = (content, e, refl)
-same_answers (reply.Refused cause) b e = e
+same_answers _ b e = e
 
 -- ---- blank media
 

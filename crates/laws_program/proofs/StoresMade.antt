@@ -1,37 +1,10 @@
 -- Which stores each subcommand (form) makes.
 use Rattle.std.proofs.Common.{◌≡◌, ◌∙◌, ℕ, List, [], ◌∷◌, ◌++◌, append-nil, Option, Some, None, Result, Ok, Err, refl, sym, ap, subst}
-use Rattle.flop_base.specs.Shelf.{Files, Store, stored}
-use Rattle.flop_base.specs.declared.answers.Rate.TheVariants.{R500, R250}
-use Rattle.flop_base.specs.declared.answers.Status.{Status}
-use Rattle.flop_base.specs.Counters.{DriveCounts}
-use Rattle.raw_image.specs.Disk.{Disk, blank_disk}
-use Rattle.raw_image.specs.Image.{image_of, file_of}
-use Rattle.raw_image.specs.declared.error.ImageError.{ImageError}
-use Rattle.imagedisk.specs.Reading.{image_of as imd_of}
-use Rattle.floppy_jobs.specs.declared.request.Request.{Request}
-use Rattle.floppy_jobs.specs.declared.calls.CallLine.{CallLine}
-use Rattle.pc_bus.specs.Boards.{Board}
-use Rattle.sector_model.specs.States.{State}
-use Rattle.sector_model.specs.Runs.{Taken, Run}
-use Rattle.sector_model.specs.Plays.{World, Plays, There, Missing, TooLong, Faulty, Starved, PlaysParsed, PlaysRequests, Played, Stopped, BrokenOff, EndStopped}
-use Rattle.commands.proofs.Passed.{run_both}
-use Rattle.text_commands.specs.CallRounds.{Breaks, AtStop, AtPut, course_of}
-use Rattle.text_commands.specs.CallCourses.{ServesCalls, ServesParsed, ServesLines}
+use Rattle.laws_program.proofs.Common.{Files, stored, R500, R250, Status, DriveCounts, Disk, blank_disk, image_of, file_of, ImageError, imd_of, Request, CallLine, Board, State, Taken, Run, World, Plays, There, Missing, TooLong, Faulty, Starved, PlaysParsed, PlaysRequests, Played, Stopped, BrokenOff, EndStopped, run_both, Breaks, AtStop, AtPut, course_of, ServesCalls, ServesParsed, ServesLines, line_run, rounds_run, world, Outside, Halt, Makes, HasNoDisk, IsImdFile, HasNoImd, IsRemasterFile, HasNoRemaster, Form, DoesForm, AsAsked, StarvesWords, Does, RunsOver, StoresFirst, end_stores, StoresRun, StoresDiskAlone, StoresFileAlone, stores_in_order, nothing_first, all_first, ends_store, end_stops, run_then, run_alone, no_run}
 use Rattle.text_commands.specs.CallCourses as calls
-use Rattle.text_commands.proofs.RanCalls.{line_run, rounds_run}
-use Rattle.text_commands.specs.JobRounds.{world}
-use Rattle.archive_commands.specs.Files.{Outside}
-use Rattle.archive_commands.specs.declared.halt.Halt.{Halt}
 use Rattle.archive_commands.specs.declared.halt.Halt.TheVariants as halt
-use Rattle.archive_commands.specs.Making.{Makes, IsDiskFile, HasNoDisk, IsImdFile, HasNoImd, IsRemasterFile, HasNoRemaster}
-use Rattle.floppy_words.specs.declared.form.Form.{Form}
+use Rattle.archive_commands.specs.Making.{IsDiskFile}
 use Rattle.floppy_words.specs.declared.form.Form.TheVariants as form
-use Rattle.floppy_tools.specs.Programs.{DoesForm, DoesOrStarves, AsAsked, StarvesWords, Does}
-use Rattle.floppy_tools.specs.Machines.{RunsOver}
-use Rattle.laws_commands.specs.Rescued.{log_of}
-use Rattle.laws_commands.specs.Stores.{store_of, all_stored, StoresFirst, end_stores, StoresRun, StoresDiskAlone, StoresFileAlone, StoresDiskThenLog}
-use Rattle.laws_commands.proofs.Order.{stores_in_order}
-use Rattle.laws_commands.proofs.Storing.{nothing_first, all_first, ends_store, end_stops, run_then, run_alone, no_run}
 use Rattle.laws_commands.proofs.ScriptStores.{verify_stores, exercise_stores, format_stores, copy_stores, import_stores, export_stores}
 use Rattle.laws_program.specs.StoresMade.{StoresFor, StoresAsked}
 
@@ -173,15 +146,13 @@ starved_stores (form.Int13 file) start course told after nothing same = no_run s
 starved_stores (form.Format name count) start course told after nothing same = no_disk_stored name told after same
 starved_stores (form.FormatDd name count) start course told after nothing same = no_disk_stored name told after same
 starved_stores (form.Copy from to) start course told after nothing same = no_disk_stored to told after same
-starved_stores (form.Verify name) start course told after nothing same = same
-starved_stores (form.Exercise seed count) start course told after nothing same = same
 starved_stores (form.Import flat name) start course told after nothing same = no_disk_stored name told after same
 starved_stores (form.Export name flat) start course told after nothing same = no_file_stored flat told after same
 starved_stores (form.Rescue from to log) start course told after nothing same = (no_disk, nothing_first _ told after same)
-starved_stores (form.Survey name) start course told after nothing same = same
 starved_stores (form.FromImd imd name) start course told after nothing same = no_disk_stored name told after same
 starved_stores (form.ToImd name imd) start course told after nothing same = no_file_stored imd told after same
 starved_stores (form.Remaster from to) start course told after nothing same = no_disk_stored to told after same
+starved_stores _ start course told after nothing same = same
 
 asked_stores : (asked : Option Form) (old : World) (course : List Taken) (new : World) (ended : Status) → Does asked old course new ended
     → StoresAsked asked old.state course old.files new.files

@@ -1,23 +1,7 @@
 -- What a write to a regular disk does where nothing disturbs it, by what the track shows.
 use Rattle.std.proofs.Common.{arith, ◌≡◌, ◌∙◌, ℕ, List, [], ◌∷◌, ◌++◌, length, refl, sym, ap, subst, inl, inr, Option, Some, None, Result, Ok, Err, IsOk, length-append}
-use Rattle.flop_base.specs.declared.key.Chrn.{Chrn}
-use Rattle.flop_base.specs.declared.answers.Code.{Code}
+use Rattle.laws_program.proofs.Common.{Chrn, Code, Rate, Disk, HasTrack, track_of, GoesOn, IsUndisturbed, IsAddressAt, HasAddressMark, IsRegular, plain_clear, Change, Written, IsChange, met_in, MeetsTrack, met_track, nothing_there, cases_rate, key_cylinder, StationState, Bay, bay_of, met, Reaches, IsWritten, IsWriteCause, ChangesAlone, WritesDrive, IsRegularIn}
 use Rattle.flop_base.specs.declared.answers.Code.TheVariants as code
-use Rattle.flop_base.specs.declared.answers.Rate.{Rate}
-use Rattle.raw_image.specs.Disk.{Disk, HasTrack, track_of}
-use Rattle.flop_base.specs.Counters.{GoesOn, IsUndisturbed}
-use Rattle.track_model.specs.Fields.{IsAddressAt}
-use Rattle.track_model.specs.Looks.{HasAddressMark}
-use Rattle.track_model.specs.Regular.{IsRegular}
-use Rattle.track_model.proofs.Sectored.{plain_clear}
-use Rattle.sector_map.specs.Changes.{Change, Written, IsChange}
-use Rattle.sector_map.specs.Met.{met_in}
-use Rattle.sector_map.specs.MetTracks.{MeetsTrack}
-use Rattle.sector_map.proofs.MetTracks.{met_track, nothing_there, cases_rate}
-use Rattle.sector_map.proofs.RegularTracks.{key_cylinder}
-use Rattle.sector_model.specs.Stations.{StationState, Bay, bay_of, met}
-use Rattle.sector_model.specs.Writes.{Reaches, IsWritten, IsWriteCause, ChangesAlone, WritesDrive}
-use Rattle.laws_program.specs.Determined.{IsRegularIn}
 use Rattle.laws_program.proofs.AlikeDisks.{regular_met, in_with}
 use Rattle.laws_program.proofs.Calm.{no_faults, no_overrun, no_loss, disturbed_less}
 use Rattle.laws_program.proofs.Shown.{ShowSame}
@@ -153,11 +137,7 @@ module _ (written : Written) (bay : ℕ) (old new : StationState) (regular : IsR
       ]
       refuses code.Overrun cause = absurd (no_overrun bay old.counters new.counters calm goes (cause.overrun refl))
       refuses code.Seek cause = absurd (no_loss bay old.counters new.counters calm goes 77 (omega arith) (cause.lost refl))
-      refuses code.BadRequest cause = absurd cause.device
-      refuses code.Protected cause = absurd cause.device
-      refuses code.Changed cause = absurd cause.device
-      refuses code.Page cause = absurd cause.device
-      refuses code.NotReady cause = absurd cause.device
+      refuses _ cause = absurd cause.device
 
   pub write_takes : (called : Result (Unit {0}) Code) → WritesDrive written bay old called new → Takes written bay called old new
   write_takes (Ok u) drive =

@@ -1,29 +1,12 @@
 -- Scripts whose status says whether some reply was a refusal.
 use Rattle.std.proofs.Common.{◌≡◌, ℕ, zero, suc, ◌+◌, Bool, true, false, List, [], ◌∷◌, Option, Some, refl, sym, subst, inl, inr}
 use Rattle.std.specs.Prelude.{◌||◌}
-use Rattle.flop_base.specs.Shelf.{Files}
-use Rattle.flop_base.specs.Sink.{grown}
-use Rattle.flop_base.specs.declared.answers.Rate.{Rate}
-use Rattle.flop_base.specs.declared.answers.Rate.TheVariants.{R500, R250}
-use Rattle.flop_base.specs.declared.answers.Status.{Status}
+use Rattle.laws_program.proofs.Common.{Files, grown, Rate, R500, R250, Status, Disk, Request, Reply, Stop, State, Step, StopsAt, StopCause, IsImageOf, stop_status, is_refusal, Taken, has_refusal, IsEndStop, World, Prints, Whole, InPart, IsPutFault, whole_status, Shape, Script, Ends, Says, Asks, Stores, MayStarve, Fails, RunsScript, StoresLast, IsStored, NotStored, IsStoreFault, unless_refused, shape_at, by_track, with_report, insert_stops}
 use Rattle.flop_base.specs.declared.answers.Status.TheVariants as status
-use Rattle.raw_image.specs.Disk.{Disk}
-use Rattle.floppy_jobs.specs.declared.request.Request.{Request}
 use Rattle.floppy_jobs.specs.declared.request.Request.TheVariants as request
-use Rattle.sector_model.specs.declared.reply.Reply.{Reply}
 use Rattle.sector_model.specs.declared.reply.Reply.TheVariants as reply
-use Rattle.sector_model.specs.declared.reply.Stop.{Stop}
 use Rattle.sector_model.specs.declared.reply.Stop.TheVariants as stop
-use Rattle.sector_model.specs.States.{State}
-use Rattle.sector_model.specs.Steps.{Step, StopsAt, StopCause, IsImageOf}
-use Rattle.sector_model.specs.Texts.{stop_status, is_refusal}
-use Rattle.sector_model.specs.Runs.{Taken, has_refusal, IsEndStop}
-use Rattle.sector_model.specs.Plays.{World, Prints, Whole, Part as InPart, IsPutFault, whole_status}
-use Rattle.floppy_session.specs.declared.shape.Shape.{Shape}
-use Rattle.commands.specs.Scripts.{Script, Ends, Says, Asks, Stores, MayStarve, Fails, RunsScript, StoresLast, IsStored, NotStored, IsStoreFault, unless_refused}
-use Rattle.commands.specs.Parts.{Part, needs, carries, shape_at, opens, sets_rate, acknowledges, through, each, by_track}
-use Rattle.commands.specs.Leading.{with_report}
-use Rattle.laws_commands.proofs.Bays.{insert_stops}
+use Rattle.commands.specs.Parts.{Part, needs, carries, opens, sets_rate, acknowledges, through, each}
 
 -- the status says whether some reply was a refusal, or the outside gave it
 abbrev pub EndsBy : Bool → Status → Type 0
@@ -60,24 +43,12 @@ whole_by false = refl
 pub put_by : (refused : Bool) (ended : Status) → IsPutFault ended → EndsBy refused ended
 put_by refused status.NoMemory fault = tt
 put_by refused status.SinkFault fault = tt
-put_by refused status.AllOk fault = absurd fault
-put_by refused status.SomeRefused fault = absurd fault
-put_by refused status.BadImage fault = absurd fault
-put_by refused status.Absent fault = absurd fault
-put_by refused status.FileFault fault = absurd fault
-put_by refused status.BadJob fault = absurd fault
-put_by refused status.BadWords fault = absurd fault
+put_by refused _ fault = absurd fault
 
 store_by : (refused : Bool) (ended : Status) → IsStoreFault ended → EndsBy refused ended
 store_by refused status.NoMemory fault = tt
 store_by refused status.FileFault fault = tt
-store_by refused status.AllOk fault = absurd fault
-store_by refused status.SomeRefused fault = absurd fault
-store_by refused status.BadImage fault = absurd fault
-store_by refused status.Absent fault = absurd fault
-store_by refused status.SinkFault fault = absurd fault
-store_by refused status.BadJob fault = absurd fault
-store_by refused status.BadWords fault = absurd fault
+store_by refused _ fault = absurd fault
 
 pub prints_by : (refused : Bool) (line : List (List ℕ)) (wanted : Status) (old new : Option (List (List ℕ))) (ended : Status) → Prints line wanted old new ended
     → EndsBy refused wanted → EndsBy refused ended
@@ -100,8 +71,7 @@ stop_by : (refused : Bool) (told : Option Files) (asked : Request) (cause : Stop
 stop_by refused told asked (stop.BadImage name error) cause never = absurd (never cause.0.0 name cause.0.1)
 stop_by refused told asked (stop.TooLong name most) cause never = absurd (never cause.0.0 name cause.0.1)
 stop_by refused told asked (stop.Absent name) cause never = absurd (never cause.0.0 name cause.0.1)
-stop_by refused told asked stop.FileFault cause never = tt
-stop_by refused told asked stop.NoMemory cause never = tt
+stop_by refused told asked _ cause never = tt
 
 pub or_none : (a : Bool) → a ≡ (a || false)
 or_none true = refl
@@ -117,7 +87,6 @@ at_end refused ended by = subst (λ (b : Bool). EndsBy b ended) (or_none refused
 pub script_tells : (refused : Bool) (script : Script) (old new : World) (course : List Taken) (ended : Status) → IsFaithful refused script
     → RunsScript script old course new ended → EndsBy (refused || has_refusal course) ended
 script_tells refused (Ends line wanted) old new [] ended is runs = at_end refused ended (told_by refused line wanted _ _ ended runs.report is)
-script_tells refused (Ends line wanted) old new (taken ∷ later) ended is runs = absurd runs
 script_tells refused (Says line rest) old new course ended is (inl runs) =
     script_tells refused rest (record old { report = grown old.report (line ∷ []) }) new course ended is runs
 script_tells refused (Says line rest) old new course ended is (inr cut) = put_by (refused || has_refusal course) ended cut.1.1
@@ -129,19 +98,16 @@ script_tells refused (Asks asked rest) old new (taken ∷ later) ended is runs =
     (is.1 taken.answer taken.after (old.state, old.files, runs.1, runs.2)) runs.3)
 script_tells refused (Stores name bytes line wanted) old new [] ended is runs =
     at_end refused ended (stored_by refused name bytes line wanted old new ended runs is)
-script_tells refused (Stores name bytes line wanted) old new (taken ∷ later) ended is runs = absurd runs
 script_tells refused (MayStarve rest) old new course ended is (inl runs) = script_tells refused rest old new course ended is runs
 script_tells refused (MayStarve rest) old new course ended is (inr none) = subst (λ (s : Status). EndsBy (refused || has_refusal course) s) (sym none.2) tt
 script_tells refused (Fails cause) old new [] ended is runs = at_end refused ended (subst (λ (s : Status). EndsBy refused s) (sym runs.1) is)
-script_tells refused (Fails cause) old new (taken ∷ later) ended is runs = absurd runs
+script_tells refused _ old new (taken ∷ later) ended is runs = absurd runs
 
 -- ---- Parts.
 
 pub unrefused : (asked : Request) (answer : Reply) (later : Script) → IsFaithful false later → IsFaithful (false || is_refusal answer) (unless_refused asked answer later)
 unrefused asked (reply.Refused cause) later is = refl
-unrefused asked reply.Done later is = is
-unrefused asked reply.DoneDeleted later is = is
-unrefused asked (reply.Bytes address content) later is = is
+unrefused asked _ later is = is
 
 pub needs_tells : (asked : Request) (rest : Reply → State → Script) → NeverInserts asked
     → ((answer : Reply) (after : State) → IsFaithful false (rest answer after)) → IsFaithful false (needs asked rest)
@@ -155,9 +121,7 @@ some_whole false = refl
 unrefused_at : (refused : Bool) (asked : Request) (answer : Reply) (later : Script) → IsFaithful refused later
     → IsFaithful (refused || is_refusal answer) (unless_refused asked answer later)
 unrefused_at refused asked (reply.Refused cause) later is = some_whole refused
-unrefused_at refused asked reply.Done later is = subst (λ (b : Bool). IsFaithful b later) (or_none refused) is
-unrefused_at refused asked reply.DoneDeleted later is = subst (λ (b : Bool). IsFaithful b later) (or_none refused) is
-unrefused_at refused asked (reply.Bytes address content) later is = subst (λ (b : Bool). IsFaithful b later) (or_none refused) is
+unrefused_at refused asked _ later is = subst (λ (b : Bool). IsFaithful b later) (or_none refused) is
 
 pub carries_tells_at : (refused : Bool) (asked : Request) → NeverInserts asked → (rest : Unit {0} → Script) → IsFaithful refused (rest tt)
     → IsFaithful refused (carries asked rest)
@@ -203,9 +167,7 @@ tracks_tell flag part is cylinders heads found =
 pub end_by : (refused : Bool) (cause : Stop) → IsEndStop cause → EndsBy refused (stop_status cause)
 end_by refused stop.FileFault only = tt
 end_by refused stop.NoMemory only = tt
-end_by refused (stop.BadImage named error) only = absurd only
-end_by refused (stop.TooLong named most) only = absurd only
-end_by refused (stop.Absent named) only = absurd only
+end_by refused _ only = absurd only
 
 pub opens_tells : (name : List ℕ) (rest : Shape → Script) (files : Files) (disk : Disk) (old new : World) (course : List Taken) (ended : Status)
     → old.files ≡ Some files → IsImageOf (Some files) name disk → ((shape : Shape) → IsFaithful false (rest shape))

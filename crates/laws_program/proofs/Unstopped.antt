@@ -1,39 +1,14 @@
 -- A rescue whose report doesn't say that a refusal stopped it: its last request wasn't refused.
 use Rattle.std.proofs.Common.{◌≡◌, ◌∙◌, ℕ, ◌+◌, zero, suc, Bool, true, false, List, [], ◌∷◌, ◌++◌, length, Option, refl, ap, subst, inl, inr}
-use Rattle.flop_base.specs.Sink.{grown}
-use Rattle.flop_base.specs.declared.answers.Code.{Code}
+use Rattle.laws_program.proofs.Common.{grown, Code, Rate, R500, R250, Status, Chrn, Request, Reply, Reason, State, is_refusal, stop_status, Taken, World, Prints, Whole, InPart, blank_request, Shape, Script, Ends, Asks, Stores, MayStarve, Fails, RunsScript, unless_refused, shape_at, by_track, formats, with_report, last_run, last_stored, last_failed, log_text, read_of, write_of, outcome_status, LogLine, asked_keys, outcome_of, last_text, rescue_rest, Rescues, by_rest, IsEndStatus, IsNotStopped, not_put, not_stop, IsNotToldStopped}
 use Rattle.flop_base.specs.declared.answers.Code.TheVariants as code
-use Rattle.flop_base.specs.declared.answers.Rate.{Rate}
-use Rattle.flop_base.specs.declared.answers.Rate.TheVariants.{R500, R250}
-use Rattle.flop_base.specs.declared.answers.Status.{Status}
 use Rattle.flop_base.specs.declared.answers.Status.TheVariants as status
-use Rattle.flop_base.specs.declared.key.Chrn.{Chrn}
-use Rattle.floppy_jobs.specs.declared.request.Request.{Request}
 use Rattle.floppy_jobs.specs.declared.request.Request.TheVariants as request
-use Rattle.sector_model.specs.declared.reply.Reply.{Reply}
 use Rattle.sector_model.specs.declared.reply.Reply.TheVariants as reply
-use Rattle.sector_model.specs.declared.reply.Reason.{Reason}
 use Rattle.sector_model.specs.declared.reply.Reason.TheVariants as reason
-use Rattle.sector_model.specs.States.{State}
-use Rattle.sector_model.specs.Texts.{is_refusal, stop_status}
-use Rattle.sector_model.specs.Runs.{Taken}
-use Rattle.sector_model.specs.Plays.{World, Prints, Whole, Part as InPart}
 use Rattle.commands.specs.LastLines.{stopped_text}
-use Rattle.floppy_session.specs.Blanks.{blank_request}
-use Rattle.floppy_session.specs.declared.shape.Shape.{Shape}
-use Rattle.commands.specs.Scripts.{Script, Ends, Asks, Stores, MayStarve, Fails, RunsScript, unless_refused}
-use Rattle.commands.specs.Parts.{Part, asks, needs, carries, may_starve, shape_at, opens, sets_rate, acknowledges, through, each, by_track, formats}
-use Rattle.commands.specs.Leading.{with_report}
-use Rattle.commands.proofs.Reading.{last_run, last_stored, last_failed}
-use Rattle.rescue.specs.Log.{log_text}
-use Rattle.rescue.specs.Course.{read_of, write_of, outcome_status}
-use Rattle.rescue.specs.declared.line.LogLine.{LogLine}
-use Rattle.disk_commands.specs.Rescue.{does_next, follows, rescues, acknowledges_both, prepares_new, prepares_old, prepares, asked_keys, outcome_of, last_text, rescues_all, stores_log, rescue_found, rescue_rest, Rescues}
-use Rattle.disk_commands.proofs.RescueRests.{by_rest}
-use Rattle.laws_commands.specs.VerifyRuns.{IsEndStatus}
-use Rattle.laws_commands.specs.Rescued.{IsNotStopped}
-use Rattle.laws_commands.proofs.VerifyRun.{not_put, not_stop}
-use Rattle.laws_program.specs.Told.{IsNotToldStopped}
+use Rattle.commands.specs.Parts.{Part, asks, needs, carries, may_starve, opens, sets_rate, acknowledges, through, each}
+use Rattle.disk_commands.specs.Rescue.{does_next, follows, rescues, acknowledges_both, prepares_new, prepares_old, prepares, rescues_all, stores_log, rescue_found}
 
 none_stopped : (course : List Taken) → course ≡ [] → IsNotStopped course
 none_stopped course nothing [] last is = absurd (cc (nothing, is))
@@ -94,9 +69,7 @@ unless_goes : (asked : Request) (answer : Reply) (later : Script) → Strict lat
     → (is_refusal answer ≡ false) × IsNotStopped course
 unless_goes asked (reply.Refused cause) later goes old new course ended whole fine runs =
     absurd (tells_stop asked cause status.SomeRefused old new course ended whole fine runs)
-unless_goes asked reply.Done later goes old new course ended whole fine runs = (refl, goes old new course ended whole fine runs)
-unless_goes asked reply.DoneDeleted later goes old new course ended whole fine runs = (refl, goes old new course ended whole fine runs)
-unless_goes asked (reply.Bytes address content) later goes old new course ended whole fine runs = (refl, goes old new course ended whole fine runs)
+unless_goes asked _ later goes old new course ended whole fine runs = (refl, goes old new course ended whole fine runs)
 
 needs_going : (asked : Request) (rest : Reply → State → Script) → ((answer : Reply) (after : State) → Strict (rest answer after)) → Going (needs asked rest)
 unfolding needs
@@ -163,13 +136,12 @@ module _ (key : Chrn) (lines : List LogLine) (rest : List LogLine → Script) (g
 
   follows_going : (answer : Reply) → Going (follows key answer lines rest)
   unfolding follows does_next
-  follows_going reply.Done = carries_going (write_of key false) _ (strictly _ (goes lines))
   follows_going reply.DoneDeleted = carries_going (write_of key true) _ (strictly _ (goes lines))
-  follows_going (reply.Bytes address content) = carries_going (write_of key false) _ (strictly _ (goes lines))
   follows_going (reply.Refused (reason.Driver cause)) = refused_going cause
   follows_going (reply.Refused reason.Busy) = stop_going reason.Busy
   follows_going (reply.Refused reason.Empty) = stop_going reason.Empty
   follows_going (reply.Refused reason.NoSpare) = stop_going reason.NoSpare
+  follows_going _ = carries_going (write_of key false) _ (strictly _ (goes lines))
 
 rescues_going : (keys : List Chrn) (lines : List LogLine) (rest : List LogLine → Script) → ((now : List LogLine) → Going (rest now)) → Going (through rescues keys lines rest)
 unfolding through rescues asks

@@ -1,39 +1,20 @@
 -- Machines that were made and then used, and lines of port accesses: a seek on them ends.
 use Rattle.std.proofs.Common.{◌≡◌, ◌∙◌, inl, inr, ℕ, zero, suc, ◌≤◌, not, true, false, Option, Some, None, IsSomeAnd, List, [], ◌∷◌, ◌++◌, Result, Ok, Err, refl, ap, sym, subst, arith}
 use Rattle.std.specs.Prelude.{MatchOption}
-use Rattle.std.proofs.lemmas.Bool.{false≢true}
-use Rattle.flop_base.specs.Counters.{DriveCounts}
-use Rattle.flop_base.specs.declared.answers.Status.{Status}
-use Rattle.floppy_jobs.specs.Texts.{ports_of}
-use Rattle.floppy_jobs.specs.declared.ports.PortLine.{PortLine}
+use Rattle.laws_program.proofs.Common.{false≢true, DriveCounts, Status, ports_of, PortLine, Seeking, has_ended, is_seeking, Seek, is_executing, Board, IsInRange, controller_of, Bus, RunsNoSeek, Meets, Recalibrates, pulses_left, seeks, Acts, Goes, input_goes, meets_within, output_goes, wait_goes, waits_goes, IsFreshBoard, Reason, ports_file_of, Stand, Performed, ports_world, LineAnswer, Bench, no_names, PortRun, DoesLine, LoadsMedium, StoresMedium, insert_refusal, eject_refusal, PlaysLines, IsUsed, NotBoth, SeeksEnd}
 use Rattle.floppy_jobs.specs.declared.ports.PortLine.TheVariants as port
-use Rattle.fdc_commands.specs.Seeking.{Seeking, has_ended, is_seeking}
 use Rattle.fdc_commands.specs.declared.motion.Motion.{Motion}
 use Rattle.fdc_commands.specs.declared.motion.Motion.TheVariants.{Outward}
-use Rattle.fdc_commands.specs.declared.motion.Seek.{Seek}
-use Rattle.fdc_core.specs.Listening.{is_executing}
-use Rattle.pc_bus.specs.Boards.{Board, IsInRange, controller_of}
 use Rattle.pc_bus.specs.Calls.{AreCalled, IsCalled, ByEject, ByExchange, ByInb, ByInsert, ByOutb, ByRamSet, ByRefusal, ByTakeIrq, ByWait, ByWaitIrq}
 use Rattle.pc_bus.specs.Handling.{Touches}
-use Rattle.pc_bus.specs.declared.bus.Bus.{Bus}
-use Rattle.laws_machine.specs.OnSteps.Ends.{RunsNoSeek, Meets, Recalibrates, pulses_left, seeks}
-use Rattle.laws_machine.specs.OnSteps.Moves.{Acts, Goes}
-use Rattle.laws_machine.proofs.OnSteps.Moves.{input_goes, meets_within, output_goes, wait_goes, waits_goes}
 use Rattle.laws_machine.proofs.OnSteps.SeekEnds.{recalibrate_left, seek_ends, seek_ends_in_time}
 use Rattle.machine_commands.specs.Ready.{IsIdle}
 use Rattle.machine_commands.specs.declared.motors.Motors.{Motors}
-use Rattle.machine_commands.specs.Started.{IsFreshBoard}
-use Rattle.sector_model.specs.declared.reply.Reason.{Reason}
-use Rattle.floppy_words.specs.Forms.{ports_file_of}
-use Rattle.floppy_tools.specs.Performed.{Stand, Performed, ports_world}
-use Rattle.text_commands.specs.declared.ports.answer.LineAnswer.{LineAnswer}
 use Rattle.text_commands.specs.declared.ports.answer.LineAnswer.TheVariants as answer
-use Rattle.text_commands.specs.Benches.{Bench, no_names}
-use Rattle.text_commands.specs.PortCourses.{Taken, PortRun}
+use Rattle.text_commands.specs.PortCourses.{Taken}
 use Rattle.text_commands.specs.PortFinishes.{EndInTime}
-use Rattle.text_commands.specs.PortLines.{DoesLine, LoadsMedium, StoresMedium, IsRefused, insert_refusal, eject_refusal}
-use Rattle.text_commands.specs.PortPlays.{World, PlaysLines, Played, Stopped, BrokenOff, EndStopped, PlaysParsed, Plays, There, Missing, TooLong, Faulty, Starved}
-use Rattle.laws_program.specs.Seeks.{IsUsed, NotBoth, SeeksEnd}
+use Rattle.text_commands.specs.PortLines.{IsRefused}
+use Rattle.text_commands.specs.PortPlays.{World, Played, Stopped, BrokenOff, EndStopped, PlaysParsed, Plays, There, Missing, TooLong, Faulty, Starved}
 use Rattle.laws_program.proofs.SeekOrData.{goes_apart}
 
 -- ---- every call of a machine

@@ -1,34 +1,11 @@
 -- What a verify prints.
 use Rattle.std.proofs.Common.{◌≡◌, ◌∙◌, ℕ, Bool, true, false, List, [], ◌∷◌, length, Some, refl, ap, sym, subst, inl, inr, arith}
 use Rattle.std.specs.Prelude.{nat_le}
-use Rattle.std.proofs.lemmas.Bool.{leb-false}
+use Rattle.laws_program.proofs.Common.{leb-false, length-append, Files, Code, Status, Chrn, Disk, Two, in_bay, DriveCounts, Look, Found, NoMark, NoSector, NoData, BadCrc, standard_keys, Bay, IsImageOf, whole_status, Board, Outside, world, RunsOver, IsUnmistaken, told_of, all_told_of, IsEndStatus, verify_tells, HadNoFault, HadNoStall, ListsFailing}
 use Rattle.std.proofs.lemmas.Grind.{flat_map-append}
-use Rattle.std.proofs.lemmas.List.{length-append}
-use Rattle.flop_base.specs.Shelf.{Files}
-use Rattle.flop_base.specs.declared.answers.Code.{Code}
-use Rattle.flop_base.specs.declared.answers.Status.{Status}
 use Rattle.flop_base.specs.declared.answers.Status.TheVariants as status
-use Rattle.flop_base.specs.declared.key.Chrn.{Chrn}
-use Rattle.raw_image.specs.Disk.{Disk}
-use Rattle.flop_base.specs.Bays.{Two, in_bay}
-use Rattle.flop_base.specs.Counters.{DriveCounts}
-use Rattle.track_model.specs.declared.Look.{Look}
-use Rattle.track_model.specs.declared.Look.TheVariants.{Found, NoMark, NoSector, NoData, BadCrc}
 use Rattle.sector_map.specs.Failing.{AreFailing, unless_found}
-use Rattle.sector_map.specs.Standard.{standard_keys}
-use Rattle.sector_model.specs.Stations.{Bay}
-use Rattle.sector_model.specs.Steps.{IsImageOf}
-use Rattle.sector_model.specs.Plays.{whole_status}
-use Rattle.pc_bus.specs.Boards.{Board}
-use Rattle.archive_commands.specs.Files.{Outside}
 use Rattle.floppy_words.specs.declared.form.Form.TheVariants as form
-use Rattle.text_commands.specs.JobRounds.{world}
-use Rattle.floppy_tools.specs.Machines.{RunsOver}
-use Rattle.laws_commands.specs.Verified.{IsUnmistaken, told_of, all_told_of}
-use Rattle.laws_commands.specs.VerifyRuns.{IsEndStatus}
-use Rattle.laws_commands.proofs.VerifyRun.{verify_tells}
-use Rattle.laws_program.specs.Disturbed.{HadNoFault, HadNoStall}
-use Rattle.laws_program.specs.Told.{ListsFailing}
 use Rattle.laws_program.proofs.OnBoards.{undisturbed_first}
 use Rattle.laws_program.proofs.OfForms.{form_done}
 

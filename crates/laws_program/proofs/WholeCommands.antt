@@ -1,38 +1,11 @@
 -- How long whole commands over a machine last at most, and how many port accesses they make.
 use Rattle.std.proofs.Common.{arith, ◌≡◌, ℕ, ◌+◌, ◌-◌, ◌≤◌, List, length, ap, Some, None}
-use Rattle.flop_base.proofs.Costs.{used_within}
-use Rattle.flop_base.specs.Bays.{Two, in_bay}
-use Rattle.flop_base.specs.Counters.{DriveCounts}
-use Rattle.flop_base.specs.Shelf.{Files, file_at}
-use Rattle.flop_base.specs.Standard.{sectors_at, words_at}
-use Rattle.flop_base.specs.declared.answers.Rate.{Rate}
-use Rattle.flop_base.specs.declared.answers.Rate.TheVariants.{R500, R250}
-use Rattle.flop_base.specs.declared.answers.Status.{Status}
-use Rattle.raw_image.specs.Disk.{Disk}
-use Rattle.floppy_jobs.specs.declared.request.Request.{Request}
-use Rattle.pc_bus.specs.Boards.{Board}
-use Rattle.sector_model.specs.Lasting.{turn_of}
-use Rattle.sector_model.specs.Stations.{StationState, Bay, IsFresh}
-use Rattle.sector_model.specs.Steps.{IsImageOf}
-use Rattle.sector_model.specs.Times.{course_port_accesses, course_time, port_accesses_of, time_of}
-use Rattle.sector_model.specs.Runs.{Taken}
-use Rattle.sector_model.specs.Plays.{World}
-use Rattle.rescue.specs.declared.line.LogLine.{LogLine}
-use Rattle.disk_commands.specs.Logs.{IsLogFound}
-use Rattle.disk_commands.specs.FlatFiles.{IsFlatFile}
-use Rattle.text_commands.specs.JobRounds.{world}
-use Rattle.archive_commands.specs.Files.{Outside}
-use Rattle.floppy_words.specs.declared.form.Form.{Form}
+use Rattle.laws_program.proofs.Common.{used_within, Two, in_bay, DriveCounts, Files, file_at, sectors_at, words_at, Rate, R500, R250, Status, Disk, Request, Board, turn_of, StationState, Bay, IsFresh, IsImageOf, course_port_accesses, course_time, port_accesses_of, time_of, Taken, World, LogLine, IsLogFound, IsFlatFile, world, Outside, Form, DoesForm, DoesOrStarves, AsAsked, StarvesWords, RunsOver, RequestCosts, copy_cost, copy_time, copy_port_accesses, export_cost, export_time, export_port_accesses, format_cost, further_rescue_cost, further_rescue_port_accesses, further_rescue_time, whole_format_time, whole_format_port_accesses, import_cost, import_time, import_port_accesses, port_accesses_at, rescue_cost, rescue_time, rescue_port_accesses, times_at, verify_cost, verify_time, verify_port_accesses, HasTurns, CostsRun}
 use Rattle.floppy_words.specs.declared.form.Form.TheVariants as form
-use Rattle.floppy_tools.specs.Programs.{DoesForm, DoesOrStarves, AsAsked, StarvesWords}
-use Rattle.floppy_tools.specs.Machines.{RunsOver}
-use Rattle.laws_commands.specs.Times.{RequestCosts, copy_cost, copy_time, copy_port_accesses, export_cost, export_time, export_port_accesses, format_cost, further_rescue_cost, further_rescue_port_accesses, further_rescue_time, whole_format_time, whole_format_port_accesses, import_cost, import_time, import_port_accesses, port_accesses_at, rescue_cost, rescue_time, rescue_port_accesses, times_at, verify_cost, verify_time, verify_port_accesses}
 use Rattle.laws_commands.proofs.CommandTimes.{copy_most, export_most, format_most, imports_most, verify_most}
 use Rattle.laws_commands.proofs.RequestTimes.{AreCharged, port_accesses_charged, port_access_sum, time_sum, times_charged}
 use Rattle.laws_commands.proofs.RescueTimes.{further_most, rescue_most}
 use Rattle.laws_commands.proofs.ScriptTimes.{IsSum, idle_cost}
-use Rattle.laws_commands.proofs.Turns.{HasTurns}
-use Rattle.laws_program.specs.Lasting.{CostsRun}
 use Rattle.laws_program.proofs.FormTimes.{machine_lasts, machine_uses}
 
 -- at first both bays are empty, and three attempts are set

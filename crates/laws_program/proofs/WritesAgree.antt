@@ -1,19 +1,8 @@
 -- Two writes to one sector ID in alike bays, with one mark: they are answered alike, and leave alike bays.
 use Rattle.std.proofs.Common.{arith, ◌≡◌, ◌∙◌, ℕ, Bool, List, length, refl, sym, ap, subst, inl, Result, Ok, Err, IsOk, true≢false}
-use Rattle.flop_base.specs.declared.key.Chrn.{Chrn}
-use Rattle.flop_base.specs.declared.answers.Code.{Code}
-use Rattle.raw_image.specs.Disk.{track_of}
-use Rattle.flop_base.specs.Counters.{GoesOn, IsUndisturbed}
-use Rattle.track_model.specs.Fields.{IsAddressAt, content_size}
-use Rattle.sector_map.specs.Changes.{Written}
+use Rattle.laws_program.proofs.Common.{Chrn, Code, track_of, GoesOn, IsUndisturbed, IsAddressAt, content_size, Written, has_after, with_track_keeps, met_track, StationState, bay_of, met, WritesDrive, reply_of, IsRegularIn}
 use Rattle.sector_map.specs.ChangedDisks.{written_under}
-use Rattle.sector_map.proofs.KeptTracks.{has_after, with_track_keeps}
-use Rattle.sector_map.proofs.MetTracks.{met_track}
 use Rattle.sector_model.specs.declared.reply.Reply.TheVariants as reply
-use Rattle.sector_model.specs.Stations.{StationState, bay_of, met}
-use Rattle.sector_model.specs.Writes.{WritesDrive}
-use Rattle.sector_model.specs.Steps.{reply_of}
-use Rattle.laws_program.specs.Determined.{IsRegularIn}
 use Rattle.laws_program.proofs.Shown.{ShowSame}
 use Rattle.laws_program.proofs.CutTracks.{IsWrittenOver, KeepsShown, written_keeps}
 use Rattle.laws_program.proofs.AlikeDisks.{AlikeMedia, AlikeBays, met_bays, regular_met, regular_in_too}

@@ -1,18 +1,7 @@
 -- What the subcommands (forms) that run a text of requests print.
 use Rattle.std.specs.Prelude.{◌≡◌, ℕ, List, [], ◌∷◌, ◌++◌, length, map, Option, Ok}
 use Rattle.std.specs.List.{list_any}
-use Rattle.flop_base.specs.Shelf.{Files}
-use Rattle.flop_base.specs.Sink.{grown}
-use Rattle.flop_base.specs.declared.answers.Status.{Status}
-use Rattle.floppy_jobs.specs.declared.request.Request.{Request}
-use Rattle.sector_model.specs.declared.reply.Reply.{Reply}
-use Rattle.sector_model.specs.Texts.{reply_lines, is_refusal}
-use Rattle.sector_model.specs.States.{State}
-use Rattle.sector_model.specs.Runs.{Taken, Run, requests_of, Ends}
-use Rattle.sector_model.specs.Plays.{World, IsText, whole_status}
-use Rattle.sector_model.specs.Ties.{IsJob}
-use Rattle.floppy_jobs.specs.Texts.{calls_of}
-use Rattle.floppy_jobs.specs.declared.calls.CallLine.{CallLine}
+use Rattle.laws_program.specs.Common.{Files, grown, Status, Request, Reply, reply_lines, is_refusal, State, Taken, Run, requests_of, Ends, World, IsText, whole_status, IsJob, calls_of, CallLine}
 use Rattle.text_commands.specs.CallRounds.{Round, AreRounds, lines_of, course_of, rounds_lines, has_refused}
 
 -- the lines of the replies to requests, one after the other

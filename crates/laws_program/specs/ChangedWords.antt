@@ -1,8 +1,7 @@
 -- How many words of the media device steps may change.
 use Rattle.std.specs.Prelude.{ℕ, zero, suc}
-use Rattle.pc_bus.specs.Boards.{Board}
+use Rattle.laws_program.specs.Common.{Board, SameMedia}
 use Rattle.laws_machine.specs.OnWrites.Guards.{GuardsMedia}
-use Rattle.text_commands.specs.PortGuards.{SameMedia}
 
 -- in so many device steps each medium changed by at most one word in each step, and not at all while it is protected
 unfoldable pub ChangesWords : ℕ → Board → Board → Type 0

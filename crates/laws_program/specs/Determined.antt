@@ -1,18 +1,8 @@
 -- Two plays of one job side by side: when they begin alike, answer alike and end alike.
 use Rattle.std.specs.Prelude.{◌≡◌, ◌<◌, ◌^◌, ◌⊎◌, ℕ, List, [], ◌∷◌, length, slice_index, Option, Some}
-use Rattle.flop_base.specs.Shelf.{Files, file_at}
-use Rattle.flop_base.specs.Sink.{grown}
-use Rattle.flop_base.specs.declared.answers.Status.{Status}
+use Rattle.laws_program.specs.Common.{Files, file_at, grown, Status, Disk, IsRegularDisk, Reply, IsFresh, StationState, State, Taken, course_lines, World, HasNothingLeft}
 use Rattle.flop_base.specs.declared.answers.Status.TheVariants as status
-use Rattle.raw_image.specs.Disk.{Disk}
-use Rattle.sector_map.specs.Disks.{IsRegularDisk}
-use Rattle.sector_model.specs.declared.reply.Reply.{Reply}
 use Rattle.sector_model.specs.declared.reply.Reply.TheVariants as reply
-use Rattle.sector_model.specs.Stations.{IsFresh, StationState}
-use Rattle.sector_model.specs.States.{State}
-use Rattle.sector_model.specs.Runs.{Taken, course_lines}
-use Rattle.sector_model.specs.Plays.{World}
-use Rattle.sector_model.specs.Ties.{HasNothingLeft}
 
 -- ---- the beginning
 

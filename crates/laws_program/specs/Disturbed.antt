@@ -1,8 +1,6 @@
 -- What the boards before and after a run say of what disturbed it.
 use Rattle.std.specs.Prelude.{◌≡◌, ◌≤◌, ℕ, All, List, Some}
-use Rattle.flop_base.specs.Counts.{RoseLess}
-use Rattle.flop_base.specs.Counters.{DriveCounts}
-use Rattle.pc_bus.specs.Boards.{Board, drive_in, holds_of}
+use Rattle.laws_program.specs.Common.{RoseLess, DriveCounts, Board, drive_in, holds_of}
 
 -- the drive in a bay had no fault between two boards: its count didn't rise, and is below its last value
 abbrev pub HadNoFault : ℕ → Board → Board → Type 0

@@ -1,10 +1,8 @@
 -- How the program ends where nothing can go wrong with it: well, or because the outside failed. The outside fails if
 -- memory runs out, or if the file store (shelf) or the output (sink) fails.
 use Rattle.std.specs.Prelude.{◌≡◌, Bool, true, false}
-use Rattle.flop_base.specs.Counts.{RoseOnce}
-use Rattle.flop_base.specs.declared.answers.Status.{Status}
+use Rattle.laws_program.specs.Common.{RoseOnce, Status, Stand}
 use Rattle.flop_base.specs.declared.answers.Status.TheVariants as status
-use Rattle.floppy_tools.specs.Performed.{Stand}
 
 -- the program ended with status 0, and this holds; or memory ran out; or the file store or the output failed, and that
 -- fault was counted once

@@ -1,6 +1,6 @@
 -- Which requests put a blank medium in, and under which name.
 use Rattle.std.specs.Prelude.{◌≡◌, ℕ, List, [], ◌∷◌}
-use Rattle.floppy_jobs.specs.declared.request.Request.{Request}
+use Rattle.laws_program.specs.Common.{Request}
 use Rattle.floppy_jobs.specs.declared.request.Request.TheVariants as request
 
 -- the request puts in a blank medium under this name

@@ -1,26 +1,9 @@
 -- Rescues one after the other: several diskettes are rescued onto one, by one log.
 use Rattle.std.specs.Prelude.{◌≡◌, ◌⊎◌, ℕ, Bool, List, [], ◌∷◌, Contains, Option, Some, IfSome}
-use Rattle.flop_base.specs.Shelf.{Files, file_at}
-use Rattle.flop_base.specs.Counters.{DriveCounts}
-use Rattle.flop_base.specs.declared.answers.Status.{Status}
+use Rattle.laws_program.specs.Common.{Files, file_at, DriveCounts, Status, Chrn, Disk, IsDisk, IsOnMap, IsRegularDisk, LookOn, IsImageOf, Board, Outside, logged_keys, IsLog, log_text, LogLine, RunsOver, IsFieldOf, HasLaidFields, entry_at, IsStandardKey, IsUnmistaken, IsEndStatus}
 use Rattle.flop_base.specs.declared.answers.Status.TheVariants as status
-use Rattle.flop_base.specs.declared.key.Chrn.{Chrn}
-use Rattle.raw_image.specs.Disk.{Disk, IsDisk}
 use Rattle.track_model.specs.declared.Look.TheVariants.{Found}
-use Rattle.sector_map.specs.Disks.{IsOnMap, IsRegularDisk, LookOn}
-use Rattle.sector_model.specs.Steps.{IsImageOf}
-use Rattle.pc_bus.specs.Boards.{Board}
-use Rattle.archive_commands.specs.Files.{Outside}
-use Rattle.rescue.specs.Course.{logged_keys}
-use Rattle.rescue.specs.Log.{IsLog, log_text}
-use Rattle.rescue.specs.declared.line.LogLine.{LogLine}
 use Rattle.floppy_words.specs.declared.form.Form.TheVariants as form
-use Rattle.floppy_tools.specs.Machines.{RunsOver}
-use Rattle.laws_commands.specs.Copied.{IsFieldOf}
-use Rattle.laws_commands.specs.LaidFields.{HasLaidFields}
-use Rattle.laws_commands.specs.Rescued.{entry_at}
-use Rattle.laws_commands.specs.Verified.{IsStandardKey, IsUnmistaken}
-use Rattle.laws_commands.specs.VerifyRuns.{IsEndStatus}
 use Rattle.laws_program.specs.Disturbed.{HadNoFault, HadNoStall}
 use Rattle.laws_program.specs.Told.{IsNotToldStopped}
 

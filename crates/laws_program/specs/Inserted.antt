@@ -1,17 +1,9 @@
 -- Files that requests put into a bay: which names hold the file of a disk, by the files at first and by what is stored.
 use Rattle.std.specs.Prelude.{◌≡◌, ◌≤◌, ◌⊎◌, ◌&&◌, ℕ, Bool, true, not, is_some, List, [], ◌∷◌, length, Option, Some, None, IfSome, IsSomeAnd, if◌then◌else◌}
-use Rattle.flop_base.specs.Shelf.{Files, file_at}
-use Rattle.raw_image.specs.Disk.{Disk}
-use Rattle.raw_image.specs.Image.{Spells}
-use Rattle.flop_base.specs.Bays.{Two, in_bay, with_bay}
-use Rattle.floppy_jobs.specs.declared.request.Request.{Request}
+use Rattle.laws_program.specs.Common.{Files, file_at, Disk, Spells, Two, in_bay, with_bay, Request, CallLine, PortLine, is_bay, is_blank_request, most_image_bytes}
 use Rattle.floppy_jobs.specs.declared.request.Request.TheVariants as request
-use Rattle.floppy_jobs.specs.declared.calls.CallLine.{CallLine}
 use Rattle.floppy_jobs.specs.declared.calls.CallLine.TheVariants as call
-use Rattle.floppy_jobs.specs.declared.ports.PortLine.{PortLine}
 use Rattle.floppy_jobs.specs.declared.ports.PortLine.TheVariants as port
-use Rattle.sector_model.specs.Orders.{is_bay}
-use Rattle.sector_model.specs.Steps.{is_blank_request, most_image_bytes}
 
 -- the bytes are the file of a disk
 abbrev pub IsDiskText : List ℕ → Disk → Type 0

@@ -1,8 +1,6 @@
 -- What a run over a machine costs at most.
 use Rattle.std.specs.Prelude.{ℕ, ◌+◌, ◌≤◌}
-use Rattle.pc_bus.specs.Boards.{Board}
-use Rattle.laws_machine.specs.OnSteps.Lasts.{clock_of}
-use Rattle.laws_machine.specs.OnSteps.Uses.{Uses}
+use Rattle.laws_program.specs.Common.{Board, clock_of, Uses}
 
 -- a run lasts at most so many device steps, besides those of gaps, and makes at most so many port accesses, besides one
 -- for each interrupt

@@ -1,3 +1,4 @@
+pub mod Common
 pub mod Disturbed
 pub mod Stored
 pub mod Told

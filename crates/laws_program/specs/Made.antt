@@ -1,11 +1,8 @@
 -- What the subcommands (forms) on files alone store and print.
 use Rattle.std.specs.Prelude.{◌≡◌, ℕ, List, [], ◌∷◌, Option, Result, Ok}
-use Rattle.flop_base.specs.Shelf.{Files}
-use Rattle.flop_base.specs.Sink.{grown}
+use Rattle.laws_program.specs.Common.{Files, grown, Outside, made_text}
 use Rattle.remaster.specs.declared.lines.SurveyLine.{SurveyLine}
 use Rattle.archive_commands.specs.declared.halt.Halt.{Halt}
-use Rattle.archive_commands.specs.Files.{Outside}
-use Rattle.archive_commands.specs.Making.{made_text}
 use Rattle.archive_commands.specs.Surveys.{SurveysFile, survey_lines}
 
 -- a file was made of another, and the report says so, with a number

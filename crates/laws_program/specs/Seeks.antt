@@ -3,12 +3,9 @@ use Rattle.std.specs.Prelude.{◌≡◌, ◌≤◌, ◌⊎◌, ℕ, false, List,
 use Rattle.fdc_core.specs.Listening.{is_executing}
 use Rattle.fdc_core.specs.declared.controller.Fdc.{Fdc}
 use Rattle.fdc_commands.specs.Seeking.{is_seeking}
-use Rattle.laws_machine.specs.OnSteps.Ends.{RunsNoSeek, seeks}
-use Rattle.machine_commands.specs.Started.{IsFreshBoard}
-use Rattle.pc_bus.specs.Boards.{Board}
+use Rattle.laws_program.specs.Common.{RunsNoSeek, seeks, IsFreshBoard, Board, Comes}
 use Rattle.pc_bus.specs.Calls.{AreCalled}
 use Rattle.text_commands.specs.PortCourses.{Taken, waits_of}
-use Rattle.text_commands.specs.PortFinishes.{Comes}
 
 -- a machine was made, and then used by whatever calls
 pub record IsUsed (board : Board) : Type 0 where

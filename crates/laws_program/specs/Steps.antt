@@ -1,33 +1,18 @@
 -- What each step of a run may do to the media in the bays; what reads, writes and formats did if they were done; why a
 -- request was refused; and how many data commands each request sends.
 use Rattle.std.specs.Prelude.{◌≡◌, ◌+◌, ◌-◌, ◌*◌, ◌≤◌, ◌⊎◌, ◌&&◌, ℕ, ◌==◌, Bool, true, false, not, All, List, [], ◌∷◌, length, Option, Some, None, Result, option_map, MatchOption, if◌then◌else◌}
-use Rattle.flop_base.specs.Counts.{RoseBy}
-use Rattle.flop_base.specs.Standard.{gap_at, standard_fill, sectors_at}
-use Rattle.flop_base.specs.declared.answers.Code.{Code}
+use Rattle.laws_program.specs.Common.{RoseBy, gap_at, standard_fill, sectors_at, Code, Chrn, Request, Counters, IsDriven, IsFaultless, Disk, IsRegularDisk, Reply, Reason, StationState, bay_of, met, State, IsSame, is_bay, is_acknowledged, is_protected, read_refusal, write_refusal, format_refusal, rate_refusal, refusal_of, reply_of, is_refusal, Taken}
 use Rattle.flop_base.specs.declared.answers.Code.TheVariants.{BadRequest}
-use Rattle.flop_base.specs.declared.key.Chrn.{Chrn}
-use Rattle.floppy_jobs.specs.declared.request.Request.{Request}
 use Rattle.floppy_jobs.specs.declared.request.Request.TheVariants as request
-use Rattle.flop_base.specs.Counters.{Counters, IsDriven, IsFaultless}
-use Rattle.raw_image.specs.Disk.{Disk}
 use Rattle.sector_map.specs.Changes.{Change}
 use Rattle.sector_map.specs.Layings.{Format, Laying, IsFormattable}
 use Rattle.sector_map.specs.LaidDisks.{format_at}
-use Rattle.sector_map.specs.Disks.{IsRegularDisk}
-use Rattle.sector_model.specs.declared.reply.Reply.{Reply}
 use Rattle.sector_model.specs.declared.reply.Reply.TheVariants as reply
-use Rattle.sector_model.specs.declared.reply.Reason.{Reason}
 use Rattle.sector_model.specs.declared.reply.Reason.TheVariants as reason
-use Rattle.sector_model.specs.Stations.{StationState, bay_of, met}
-use Rattle.sector_model.specs.States.{State, IsSame}
-use Rattle.sector_model.specs.Orders.{is_bay, is_acknowledged, is_protected, read_refusal, write_refusal, format_refusal, rate_refusal}
 use Rattle.sector_model.specs.Calls.{IsUnready}
 use Rattle.sector_model.specs.Reads.{IsRead, IsReadRefused}
 use Rattle.sector_model.specs.Writes.{IsWritten, IsWriteCause, Reaches, KeepsRegular, written_from}
 use Rattle.sector_model.specs.Formats.{Lays, IsFormatted, IsFormatCause}
-use Rattle.sector_model.specs.Steps.{refusal_of, reply_of}
-use Rattle.sector_model.specs.Texts.{is_refusal}
-use Rattle.sector_model.specs.Runs.{Taken}
 
 -- this holds of each step of a course, and of the state before it
 abbrev pub EachStep : (State → Taken → Type 0) → State → List Taken → Type 0

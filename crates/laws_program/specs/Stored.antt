@@ -1,30 +1,10 @@
 -- What the subcommands (forms) of the program store, by the files before and after.
 use Rattle.std.specs.Prelude.{◌≡◌, ◌⊎◌, ℕ, Bool, false, List, length, Option, Some, IfSome}
-use Rattle.flop_base.specs.Shelf.{Files, file_at, stored}
-use Rattle.flop_base.specs.Standard.{words_at, sectors_at}
-use Rattle.flop_base.specs.declared.key.Chrn.{Chrn}
-use Rattle.raw_image.specs.Disk.{Disk, IsDisk, HasTrack, track_of}
-use Rattle.raw_image.specs.Image.{file_of}
+use Rattle.laws_program.specs.Common.{Files, file_at, stored, words_at, sectors_at, Chrn, Disk, IsDisk, HasTrack, track_of, file_of, IsRegularDisk, key_of, Board, Look, AreFailing, shape_of, log_text, LogLine, IsLogFound, HasLaidFields, failing_lines, IsStandardKey, AllLone, IsFieldOf, HaveSameSector, sector_bytes, HasContent}
 use Rattle.track_model.specs.Laid.{IsLaid}
 use Rattle.track_model.specs.Sectors.{IsSector as IsSectorOf}
-use Rattle.sector_map.specs.Disks.{IsRegularDisk}
-use Rattle.sector_map.specs.Standard.{key_of}
 use Rattle.sector_map.specs.Flat.{IsSector, flat_length}
-use Rattle.pc_bus.specs.Boards.{Board}
-use Rattle.track_model.specs.declared.Look.{Look}
-use Rattle.sector_map.specs.Failing.{AreFailing}
-use Rattle.floppy_session.specs.Shapes.{shape_of}
-use Rattle.rescue.specs.Log.{log_text}
-use Rattle.rescue.specs.declared.line.LogLine.{LogLine}
-use Rattle.disk_commands.specs.Logs.{IsLogFound}
 use Rattle.disk_commands.specs.Rescue.{asked_keys}
-use Rattle.laws_commands.specs.LaidFields.{HasLaidFields}
-use Rattle.laws_commands.specs.Rescued.{failing_lines}
-use Rattle.laws_commands.specs.Verified.{IsStandardKey}
-use Rattle.laws_commands.specs.Copied.{AllLone, IsFieldOf}
-use Rattle.laws_commands.specs.EndsComplete.{HaveSameSector}
-use Rattle.laws_commands.specs.Imported.{sector_bytes}
-use Rattle.laws_commands.specs.Exported.{HasContent}
 use Rattle.laws_program.specs.Disturbed.{HadNoFault}
 
 -- what is read of a disk in bay 0 is its sectors: the disk is regular, and the drive had no fault or no field has two

@@ -1,14 +1,7 @@
 -- Jobs that only read, and what they store: the disks that their files have already.
-use Rattle.std.specs.Prelude.{◌≡◌, ℕ, Bool, true, false, List, [], ◌∷◌, Option}
-use Rattle.flop_base.specs.Shelf.{Files, Store}
-use Rattle.raw_image.specs.Disk.{Disk}
-use Rattle.raw_image.specs.Image.{file_of}
-use Rattle.floppy_jobs.specs.declared.request.Request.{Request}
+use Rattle.std.specs.Prelude.{◌≡◌, Bool, true, false, List, [], ◌∷◌, Option}
+use Rattle.laws_program.specs.Common.{Files, Store, Disk, file_of, Request, State, IsImageOf, Taken, StoresFirst, stores_of, end_stores, state_after}
 use Rattle.floppy_jobs.specs.declared.request.Request.TheVariants as request
-use Rattle.sector_model.specs.States.{State}
-use Rattle.sector_model.specs.Steps.{IsImageOf}
-use Rattle.sector_model.specs.Runs.{Taken}
-use Rattle.laws_commands.specs.Stores.{StoresFirst, stores_of, end_stores, state_after}
 
 -- the request neither writes to a medium, nor makes one, nor takes one out
 abbrev pub only_reads : Request → Bool

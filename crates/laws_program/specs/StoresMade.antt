@@ -1,12 +1,7 @@
 -- Which stores each subcommand (form) makes, however it ends.
 use Rattle.std.specs.Prelude.{◌≡◌, List, Option, Some, None}
-use Rattle.flop_base.specs.Shelf.{Files}
-use Rattle.floppy_words.specs.declared.form.Form.{Form}
+use Rattle.laws_program.specs.Common.{Files, Form, State, Taken, log_of, StoresRun, StoresDiskAlone, StoresFileAlone, StoresDiskThenLog}
 use Rattle.floppy_words.specs.declared.form.Form.TheVariants as form
-use Rattle.sector_model.specs.States.{State}
-use Rattle.sector_model.specs.Runs.{Taken}
-use Rattle.laws_commands.specs.Rescued.{log_of}
-use Rattle.laws_commands.specs.Stores.{StoresRun, StoresDiskAlone, StoresFileAlone, StoresDiskThenLog}
 
 -- the stores of a subcommand whose requests were this course:
 -- - A text of requests stores what is taken out, and what is left in at its end.

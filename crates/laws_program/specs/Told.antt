@@ -1,18 +1,8 @@
 -- What the subcommands (forms) of the program print, by the report before and after.
 use Rattle.std.specs.Prelude.{◌≡◌, ℕ, List, [], ◌∷◌, length, nat_le, Option}
-use Rattle.flop_base.specs.Sink.{grown}
-use Rattle.flop_base.specs.declared.answers.Code.{Code}
-use Rattle.flop_base.specs.declared.answers.Status.{Status}
-use Rattle.flop_base.specs.declared.key.Chrn.{Chrn}
-use Rattle.raw_image.specs.Disk.{Disk}
-use Rattle.floppy_jobs.specs.declared.request.Request.{Request}
-use Rattle.sector_model.specs.declared.reply.Reason.{Reason}
-use Rattle.sector_model.specs.Plays.{whole_status}
+use Rattle.laws_program.specs.Common.{grown, Code, Status, Chrn, Disk, Request, Reason, whole_status, shape_of, Outside, verify_report}
 use Rattle.commands.specs.LastLines.{stopped_text}
-use Rattle.floppy_session.specs.Shapes.{shape_of}
 use Rattle.disk_commands.specs.Disks.{sectors_of}
-use Rattle.archive_commands.specs.Files.{Outside}
-use Rattle.laws_commands.specs.VerifyRuns.{verify_report}
 
 -- the report lists these failing sector IDs of a disk and no others, and the status says whether there are any
 pub record ListsFailing (disk : Disk) (failed : List (Chrn × Code)) (before after : Outside) (ended : Status) : Type 0 where

@@ -1,14 +1,11 @@
 // What holds of all port accesses, whatever the machine is doing. The bodies are empty.
 ghost use Rattle.std.specs.Prelude.{◌≤◌, ℕ, Bool, List};
-ghost use Rattle.flop_base.specs.Counts.{RoseBy};
+ghost use Rattle.laws_program.specs.Common.{RoseBy, Board, IsInRange, EndInTime, GuardsCourse};
 ghost use Rattle.irq_events.specs.Entries.{next_entry};
-ghost use Rattle.pc_bus.specs.Boards.{Board, IsInRange};
 ghost use Rattle.pc_bus.specs.Ports.{Inputs, Outputs};
 ghost use Rattle.pc_bus.specs.Steps.{Runs, Waits, stirred};
 ghost use Rattle.text_commands.specs.Benches.{Bench};
 ghost use Rattle.text_commands.specs.PortCourses.{Taken, PortRun, waits_of};
-ghost use Rattle.text_commands.specs.PortFinishes.{EndInTime};
-ghost use Rattle.text_commands.specs.PortGuards.{GuardsCourse};
 ghost use Rattle.laws_program.specs.ChangedWords.{ChangesWords};
 
 /// A port access changes at most one word of an unprotected medium for each device step of the gap after it. A wait

@@ -1,11 +1,7 @@
 // The subcommands (forms) on files alone: they use neither the machine's media nor its driver.
 ghost use Rattle.std.specs.Prelude.{List, Some, codes};
-ghost use Rattle.flop_base.specs.Counters.{DriveCounts};
-ghost use Rattle.pc_bus.specs.Boards.{Board};
-ghost use Rattle.archive_commands.specs.Files.{Outside};
-ghost use Rattle.archive_commands.specs.Making.{MakesFromImd, MakesToImd, MakesRemaster};
+ghost use Rattle.laws_program.specs.Common.{DriveCounts, Board, Outside, MakesFromImd, MakesToImd, MakesRemaster, RunsOver};
 ghost use Rattle.floppy_words.specs.declared.form.Form.TheVariants as form;
-ghost use Rattle.floppy_tools.specs.Machines.{RunsOver};
 ghost use Rattle.laws_program.specs.Made.{MakesFile, TellsSurveyOf};
 
 use flop_base::Status;

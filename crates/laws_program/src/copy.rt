@@ -1,13 +1,7 @@
 // The subcommand that copies a disk.
 ghost use Rattle.std.specs.Prelude.{◌≡◌, List, Option, Some};
-ghost use Rattle.flop_base.specs.Shelf.{Files};
-ghost use Rattle.raw_image.specs.Disk.{Disk};
-ghost use Rattle.flop_base.specs.Counters.{DriveCounts};
-ghost use Rattle.sector_model.specs.Steps.{IsImageOf};
-ghost use Rattle.pc_bus.specs.Boards.{Board};
-ghost use Rattle.archive_commands.specs.Files.{Outside};
+ghost use Rattle.laws_program.specs.Common.{Files, Disk, DriveCounts, IsImageOf, Board, Outside, RunsOver};
 ghost use Rattle.floppy_words.specs.declared.form.Form.TheVariants as form;
-ghost use Rattle.floppy_tools.specs.Machines.{RunsOver};
 ghost use Rattle.laws_commands.specs.Targets.{HoldsTarget};
 ghost use Rattle.laws_program.specs.Disturbed.{HadNoFault};
 ghost use Rattle.laws_program.specs.Stored.{IsReadSure, StoresCopyAsRead};

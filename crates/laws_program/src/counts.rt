@@ -1,17 +1,7 @@
 // What a run counts.
 ghost use Rattle.std.specs.Prelude.{◌≤◌, ◌+◌, List, Option, Some};
-ghost use Rattle.flop_base.specs.declared.answers.Status.{Status};
-ghost use Rattle.floppy_jobs.specs.declared.request.Request.{Request};
-ghost use Rattle.flop_base.specs.Counters.{DriveCounts};
-ghost use Rattle.pc_bus.specs.Boards.{Board};
-ghost use Rattle.laws_machine.specs.OnSteps.Lasts.{clock_of};
-ghost use Rattle.laws_machine.specs.OnSteps.Uses.{Uses};
-ghost use Rattle.sector_model.specs.Ties.{TiesCounts, IsJob, accesses_of_job};
-ghost use Rattle.sector_model.specs.Times.{course_port_accesses, course_time};
-ghost use Rattle.archive_commands.specs.Files.{Outside};
-ghost use Rattle.floppy_words.specs.declared.form.Form.{Form};
+ghost use Rattle.laws_program.specs.Common.{Status, Request, DriveCounts, Board, clock_of, Uses, TiesCounts, IsJob, accesses_of_job, course_port_accesses, course_time, Outside, Form, RunsOver};
 ghost use Rattle.floppy_words.specs.declared.form.Form.TheVariants as form;
-ghost use Rattle.floppy_tools.specs.Machines.{RunsOver};
 ghost use Rattle.laws_program.specs.Steps.{course_commands};
 
 /// A law: the counts of a run over a machine are tied to its course, whatever the arguments (words) ask for:

@@ -1,8 +1,6 @@
 // What the answers to a job depend on.
 ghost use Rattle.std.specs.Prelude.{List};
-ghost use Rattle.flop_base.specs.declared.answers.Status.{Status};
-ghost use Rattle.sector_model.specs.Runs.{Taken};
-ghost use Rattle.sector_model.specs.Plays.{World, Plays};
+ghost use Rattle.laws_program.specs.Common.{Status, Taken, World, Plays};
 ghost use Rattle.laws_program.specs.Determined.{BeginAlike, AreRegularBefore, AnswersAgree, EndAlikeUnlessFree};
 
 /// A law on two plays of one job. Each begins on a fresh station whose drives can have no fault any more, and on which

@@ -1,25 +1,8 @@
 // The subcommands (forms) on whole disks, on a machine where nothing can go wrong.
 ghost use Rattle.std.specs.Prelude.{◌≡◌, ◌≢◌, ◌≤◌, ℕ, All, List, [], Some, None};
-ghost use Rattle.flop_base.specs.Shelf.{Files, file_at};
-ghost use Rattle.flop_base.specs.Standard.{sectors_at};
-ghost use Rattle.flop_base.specs.declared.answers.Rate.{Rate};
-ghost use Rattle.flop_base.specs.declared.answers.Rate.TheVariants.{R250, R500};
-ghost use Rattle.flop_base.specs.declared.answers.Status.{Status};
-ghost use Rattle.raw_image.specs.Disk.{Disk};
-ghost use Rattle.flop_base.specs.Counters.{DriveCounts};
-ghost use Rattle.sector_map.specs.Disks.{IsRegularDisk};
-ghost use Rattle.sector_model.specs.Steps.{IsImageOf};
-ghost use Rattle.rescue.specs.Course.{logged_keys};
-ghost use Rattle.rescue.specs.declared.line.LogLine.{LogLine};
-ghost use Rattle.disk_commands.specs.Logs.{IsLogFound};
-ghost use Rattle.disk_commands.specs.FlatFiles.{IsFlatFile};
+ghost use Rattle.laws_program.specs.Common.{Files, file_at, sectors_at, Rate, R250, R500, Status, Disk, DriveCounts, IsRegularDisk, IsImageOf, logged_keys, LogLine, IsLogFound, IsFlatFile, Stand, RanOver, StoresFormatted, StoresDisk, StoresFlatOf, HasKey, IsReadable, StoresSameSectors, StoresSameAndLog, StoresRestAndLog, TakesKeys};
 ghost use Rattle.floppy_words.specs.declared.form.Form.TheVariants as form;
-ghost use Rattle.floppy_tools.specs.Performed.{Stand, RanOver};
-ghost use Rattle.laws_commands.specs.Formatted.{StoresFormatted};
-ghost use Rattle.laws_commands.specs.Imported.{StoresDisk};
-ghost use Rattle.laws_commands.specs.Exported.{StoresFlatOf};
 ghost use Rattle.laws_commands.specs.FlatComplete.{IsWholeDisk};
-ghost use Rattle.laws_commands.specs.EndsComplete.{HasKey, IsReadable, StoresSameSectors, StoresSameAndLog, StoresRestAndLog, TakesKeys};
 ghost use Rattle.laws_program.specs.Disturbed.{IsSound};
 ghost use Rattle.laws_program.specs.Ends.{EndsWell};
 ghost use Rattle.laws_program.specs.Told.{ListsFailing};

@@ -1,16 +1,9 @@
 // How the subcommands (forms) on files alone end, where the file that they read is there and in its grammar.
 ghost use Rattle.std.specs.Prelude.{◌≡◌, List, Some, Ok, codes};
-ghost use Rattle.flop_base.specs.Shelf.{Files};
-ghost use Rattle.flop_base.specs.declared.answers.Status.{Status};
-ghost use Rattle.raw_image.specs.Disk.{Disk};
-ghost use Rattle.raw_image.specs.Image.{image_of};
-ghost use Rattle.flop_base.specs.Counters.{DriveCounts};
+ghost use Rattle.laws_program.specs.Common.{Files, Status, Disk, image_of, DriveCounts, ReadsAs, MakesFromImd, MakesToImd, MakesRemaster, HasNoDisk, HasNoImd, HasNoRemaster, Stand, RanOver};
 ghost use Rattle.imagedisk.specs.declared.image.ImdImage.{ImdImage};
 ghost use Rattle.imagedisk.specs.Reading.{image_of as imd_of};
-ghost use Rattle.archive_commands.specs.Files.{ReadsAs};
-ghost use Rattle.archive_commands.specs.Making.{MakesFromImd, MakesToImd, MakesRemaster, HasNoDisk, HasNoImd, HasNoRemaster};
 ghost use Rattle.floppy_words.specs.declared.form.Form.TheVariants as form;
-ghost use Rattle.floppy_tools.specs.Performed.{Stand, RanOver};
 ghost use Rattle.laws_program.specs.Ends.{EndsByFit, EndsWell};
 ghost use Rattle.laws_program.specs.Made.{MakesFile, TellsSurveyOf, HasUnfit};
 

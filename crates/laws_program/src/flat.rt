@@ -1,14 +1,7 @@
 // The subcommands between a flat file and a disk.
 ghost use Rattle.std.specs.Prelude.{◌≡◌, List, Some};
-ghost use Rattle.flop_base.specs.Shelf.{Files};
-ghost use Rattle.raw_image.specs.Disk.{Disk};
-ghost use Rattle.flop_base.specs.Counters.{DriveCounts};
-ghost use Rattle.sector_model.specs.Steps.{IsImageOf};
-ghost use Rattle.pc_bus.specs.Boards.{Board};
-ghost use Rattle.archive_commands.specs.Files.{Outside};
+ghost use Rattle.laws_program.specs.Common.{Files, Disk, DriveCounts, IsImageOf, Board, Outside, RunsOver, StoresImported};
 ghost use Rattle.floppy_words.specs.declared.form.Form.TheVariants as form;
-ghost use Rattle.floppy_tools.specs.Machines.{RunsOver};
-ghost use Rattle.laws_commands.specs.Imported.{StoresImported};
 ghost use Rattle.laws_program.specs.Disturbed.{HadNoFault};
 ghost use Rattle.laws_program.specs.Stored.{IsReadSure, StoresFlatAsRead};
 

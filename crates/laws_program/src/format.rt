@@ -1,12 +1,7 @@
 // The subcommands that format a disk.
 ghost use Rattle.std.specs.Prelude.{◌≤◌, ℕ, List, Some};
-ghost use Rattle.flop_base.specs.declared.answers.Rate.TheVariants.{R250, R500};
-ghost use Rattle.flop_base.specs.Counters.{DriveCounts};
-ghost use Rattle.pc_bus.specs.Boards.{Board};
-ghost use Rattle.archive_commands.specs.Files.{Outside};
+ghost use Rattle.laws_program.specs.Common.{R250, R500, DriveCounts, Board, Outside, RunsOver, StoresFormatted};
 ghost use Rattle.floppy_words.specs.declared.form.Form.TheVariants as form;
-ghost use Rattle.floppy_tools.specs.Machines.{RunsOver};
-ghost use Rattle.laws_commands.specs.Formatted.{StoresFormatted};
 ghost use Rattle.laws_program.specs.Disturbed.{HadNoFault};
 
 use flop_base::Status;

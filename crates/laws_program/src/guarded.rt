@@ -1,17 +1,7 @@
 // What a run leaves of a protected disk.
 ghost use Rattle.std.specs.Prelude.{◌≡◌, true, List, Some};
-ghost use Rattle.flop_base.specs.Shelf.{Files};
-ghost use Rattle.flop_base.specs.declared.answers.Status.{Status};
-ghost use Rattle.raw_image.specs.Disk.{Disk, IsDisk};
-ghost use Rattle.flop_base.specs.Counters.{DriveCounts};
-ghost use Rattle.pc_bus.specs.Boards.{Board};
-ghost use Rattle.floppy_jobs.specs.declared.request.Request.{Request};
-ghost use Rattle.sector_model.specs.Ties.{IsJob};
-ghost use Rattle.sector_model.specs.Steps.{IsImageOf};
-ghost use Rattle.sector_model.specs.Runs.{requests_of};
-ghost use Rattle.archive_commands.specs.Files.{Outside};
+ghost use Rattle.laws_program.specs.Common.{Files, Status, Disk, IsDisk, DriveCounts, Board, Request, IsJob, IsImageOf, requests_of, Outside, RunsOver};
 ghost use Rattle.floppy_words.specs.declared.form.Form.TheVariants as form;
-ghost use Rattle.floppy_tools.specs.Machines.{RunsOver};
 ghost use Rattle.laws_program.specs.Guarded.{BlanksNone};
 
 /// A law: if NAME has the image of a protected disk, NAME has the image of the same disk after `play JOB`, however that

@@ -1,6 +1,6 @@
 // Rescues one after the other, until the log is empty.
 ghost use Rattle.std.specs.Prelude.{◌≢◌, List, ◌∷◌};
-ghost use Rattle.sector_model.specs.Steps.{IsAbsent};
+ghost use Rattle.laws_program.specs.Common.{IsAbsent};
 ghost use Rattle.laws_program.specs.InTurn.{RescueRun, IsRescueRun, AreInTurn, last_run, LeavesRescued};
 
 /// A law on runs of `rescue FROM TO LOG` one after the other. Each is from a disk and on a machine of its own. All are

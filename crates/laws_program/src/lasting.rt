@@ -1,23 +1,7 @@
 // How long whole commands last at most, and how many port accesses they make.
 ghost use Rattle.std.specs.Prelude.{◌≡◌, ◌+◌, length, List, ℕ, None, Some};
-ghost use Rattle.flop_base.specs.Counters.{DriveCounts};
-ghost use Rattle.flop_base.specs.Shelf.{Files, file_at};
-ghost use Rattle.flop_base.specs.Standard.{sectors_at};
-ghost use Rattle.flop_base.specs.declared.answers.Rate.{Rate};
-ghost use Rattle.flop_base.specs.declared.answers.Rate.TheVariants.{R250, R500};
-ghost use Rattle.flop_base.specs.declared.answers.Status.{Status};
-ghost use Rattle.floppy_jobs.specs.declared.request.Request.{Request};
-ghost use Rattle.raw_image.specs.Disk.{Disk};
-ghost use Rattle.sector_model.specs.Steps.{IsImageOf};
-ghost use Rattle.sector_model.specs.Ties.{IsJob};
-ghost use Rattle.sector_model.specs.Times.{job_port_accesses, job_time};
-ghost use Rattle.pc_bus.specs.Boards.{Board};
-ghost use Rattle.archive_commands.specs.Files.{Outside};
-ghost use Rattle.rescue.specs.declared.line.LogLine.{LogLine};
-ghost use Rattle.disk_commands.specs.Logs.{IsLogFound};
-ghost use Rattle.disk_commands.specs.FlatFiles.{IsFlatFile};
+ghost use Rattle.laws_program.specs.Common.{DriveCounts, Files, file_at, sectors_at, Rate, R250, R500, Status, Request, Disk, IsImageOf, IsJob, job_port_accesses, job_time, Board, Outside, LogLine, IsLogFound, IsFlatFile, RunsOver};
 ghost use Rattle.floppy_words.specs.declared.form.Form.TheVariants as form;
-ghost use Rattle.floppy_tools.specs.Machines.{RunsOver};
 ghost use Rattle.laws_commands.specs.Times.{copy_port_accesses, copy_time, export_port_accesses, export_time, further_rescue_port_accesses, further_rescue_time, import_port_accesses, import_time, rescue_port_accesses, rescue_time, verify_port_accesses, verify_time, whole_format_port_accesses, whole_format_time};
 ghost use Rattle.laws_program.specs.Lasting.{CostsRun};
 

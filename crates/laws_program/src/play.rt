@@ -1,14 +1,7 @@
 // The subcommands that run a text: a batch job, or calls of INT 13h.
 ghost use Rattle.std.specs.Prelude.{◌≡◌, List, Some};
-ghost use Rattle.flop_base.specs.Shelf.{Files};
-ghost use Rattle.flop_base.specs.declared.answers.Status.{Status};
-ghost use Rattle.flop_base.specs.Counters.{DriveCounts};
-ghost use Rattle.pc_bus.specs.Boards.{Board};
-ghost use Rattle.archive_commands.specs.Files.{Outside};
+ghost use Rattle.laws_program.specs.Common.{Files, Status, DriveCounts, Board, Outside, world, RunsOver, IsEndStatus};
 ghost use Rattle.floppy_words.specs.declared.form.Form.TheVariants as form;
-ghost use Rattle.text_commands.specs.JobRounds.{world};
-ghost use Rattle.floppy_tools.specs.Machines.{RunsOver};
-ghost use Rattle.laws_commands.specs.VerifyRuns.{IsEndStatus};
 ghost use Rattle.laws_program.specs.Answered.{AnswersCalls, AnswersJob};
 
 /// A law on a `play JOB` that ends with status 0 or 1. JOB is then a job, and its requests are those of the run, from

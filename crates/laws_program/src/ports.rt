@@ -1,14 +1,6 @@
 // The status of port accesses, with no driver.
 ghost use Rattle.std.specs.Prelude.{◌≡◌, ℕ, List, Some, None, Ok};
-ghost use Rattle.flop_base.specs.Shelf.{Files};
-ghost use Rattle.flop_base.specs.Bays.{both};
-ghost use Rattle.flop_base.specs.Counters.{DriveCounts};
-ghost use Rattle.flop_base.specs.declared.answers.Status.{Status};
-ghost use Rattle.floppy_jobs.specs.Texts.{ports_of};
-ghost use Rattle.floppy_jobs.specs.declared.ports.PortLine.{PortLine};
-ghost use Rattle.sector_model.specs.Plays.{IsText};
-ghost use Rattle.floppy_words.specs.Forms.{ports_file_of};
-ghost use Rattle.floppy_tools.specs.Performed.{Stand, Performed};
+ghost use Rattle.laws_program.specs.Common.{Files, both, DriveCounts, Status, ports_of, PortLine, IsText, ports_file_of, Stand, Performed};
 ghost use Rattle.text_commands.specs.PortCourses.{has_refusal};
 ghost use Rattle.laws_program.specs.Ends.{EndsByReplies};
 ghost use Rattle.laws_program.specs.Inserted.{IsDiskFile, InsertsDisks, media_among};

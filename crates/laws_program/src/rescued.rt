@@ -1,24 +1,10 @@
 // The subcommand that rescues what it can of a disk.
 ghost use Rattle.std.specs.Prelude.{◌≡◌, ◌≢◌, List, Some, None};
-ghost use Rattle.flop_base.specs.Shelf.{Files, file_at};
-ghost use Rattle.raw_image.specs.Disk.{Disk};
-ghost use Rattle.sector_model.specs.Steps.{IsImageOf};
-ghost use Rattle.laws_commands.specs.Verified.{IsUnmistaken};
-ghost use Rattle.laws_commands.specs.VerifyRuns.{IsEndStatus};
+ghost use Rattle.laws_program.specs.Common.{Files, file_at, Disk, IsImageOf, IsUnmistaken, IsEndStatus, Status, DriveCounts, Board, Outside, world, RunsOver, LogLine, BringsUpNoMark, IsRescue, StoresDiskThenLog, IsRegularDisk};
 ghost use Rattle.laws_program.specs.Disturbed.{HadNoFault, HadNoStall};
 ghost use Rattle.laws_program.specs.Stored.{StoresLogOf};
 ghost use Rattle.laws_program.specs.Told.{IsNotToldStopped};
-ghost use Rattle.flop_base.specs.declared.answers.Status.{Status};
-ghost use Rattle.flop_base.specs.Counters.{DriveCounts};
-ghost use Rattle.pc_bus.specs.Boards.{Board};
-ghost use Rattle.archive_commands.specs.Files.{Outside};
 ghost use Rattle.floppy_words.specs.declared.form.Form.TheVariants as form;
-ghost use Rattle.text_commands.specs.JobRounds.{world};
-ghost use Rattle.floppy_tools.specs.Machines.{RunsOver};
-ghost use Rattle.rescue.specs.declared.line.LogLine.{LogLine};
-ghost use Rattle.laws_commands.specs.Rescued.{BringsUpNoMark, IsRescue};
-ghost use Rattle.laws_commands.specs.Stores.{StoresDiskThenLog};
-ghost use Rattle.sector_map.specs.Disks.{IsRegularDisk};
 
 /// A law: however `rescue FROM TO LOG` ends, the stores that it made are a first part of two. The first is of a disk
 /// under TO, and the second is of a log under LOG.

@@ -1,15 +1,9 @@
 // Seeks and data commands on a machine that was made and then used. The bodies are empty.
 ghost use Rattle.std.specs.Prelude.{◌≡◌, ◌≤◌, ℕ, List, Some};
-ghost use Rattle.flop_base.specs.Counters.{DriveCounts};
-ghost use Rattle.flop_base.specs.declared.answers.Status.{Status};
-ghost use Rattle.floppy_words.specs.Forms.{ports_file_of};
-ghost use Rattle.floppy_tools.specs.Performed.{Stand, Performed};
+ghost use Rattle.laws_program.specs.Common.{DriveCounts, Status, ports_file_of, Stand, Performed, RunsNoSeek, Meets, Recalibrates, pulses_left, seeks, IsFreshBoard, Board, IsInRange, controller_of};
 ghost use Rattle.machine_commands.specs.Ready.{IsIdle};
 ghost use Rattle.machine_commands.specs.declared.motors.Motors.{Motors};
-ghost use Rattle.laws_machine.specs.OnSteps.Ends.{RunsNoSeek, Meets, Recalibrates, pulses_left, seeks};
 ghost use Rattle.laws_machine.specs.OnSteps.Moves.{Goes};
-ghost use Rattle.machine_commands.specs.Started.{IsFreshBoard};
-ghost use Rattle.pc_bus.specs.Boards.{Board, IsInRange, controller_of};
 ghost use Rattle.laws_program.specs.Seeks.{IsUsed, NotBoth, SeeksEnd};
 
 /// A law: no seek runs while a data command is in execution. This holds on a machine that was made and then used by

@@ -1,12 +1,8 @@
 // What the answers to a job depend on, where nothing can go wrong.
 ghost use Rattle.std.specs.Prelude.{◌≡◌, ◌⊎◌, List, Some, length};
-ghost use Rattle.flop_base.specs.Shelf.{Files};
-ghost use Rattle.flop_base.specs.Counters.{DriveCounts};
-ghost use Rattle.flop_base.specs.declared.answers.Status.{Status};
+ghost use Rattle.laws_program.specs.Common.{Files, DriveCounts, Status, world, Stand, RanOver};
 ghost use Rattle.laws_program.specs.Determined.{AreBytes, AreRegularBefore, AnswersAgree, EndAlike};
 ghost use Rattle.floppy_words.specs.declared.form.Form.TheVariants as form;
-ghost use Rattle.text_commands.specs.JobRounds.{world};
-ghost use Rattle.floppy_tools.specs.Performed.{Stand, RanOver};
 ghost use Rattle.laws_program.specs.Disturbed.{IsSound};
 ghost use Rattle.laws_program.specs.Ends.{EndsOutside};
 

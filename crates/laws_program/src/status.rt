@@ -1,28 +1,10 @@
 // What the status of a subcommand (form) says, where its files are there and in their grammar.
 ghost use Rattle.std.specs.Prelude.{◌≡◌, ℕ, List, Some, None, Ok};
-ghost use Rattle.flop_base.specs.Shelf.{Files, file_at};
-ghost use Rattle.flop_base.specs.declared.answers.Rate.{Rate};
-ghost use Rattle.flop_base.specs.declared.answers.Status.{Status};
-ghost use Rattle.raw_image.specs.Disk.{Disk};
-ghost use Rattle.flop_base.specs.Counters.{DriveCounts};
-ghost use Rattle.sector_model.specs.Runs.{has_refusal};
-ghost use Rattle.sector_model.specs.Steps.{IsImageOf};
-ghost use Rattle.disk_commands.specs.FlatFiles.{IsFlatFile};
+ghost use Rattle.laws_program.specs.Common.{Files, file_at, Rate, Status, Disk, DriveCounts, has_refusal, IsImageOf, IsFlatFile, world, Stand, RanOver, both, sectors_at, LogLine, IsLogFound, job_of, Request, IsText, calls_of, CallLine};
 ghost use Rattle.floppy_words.specs.declared.form.Form.TheVariants as form;
-ghost use Rattle.text_commands.specs.JobRounds.{world};
-ghost use Rattle.floppy_tools.specs.Performed.{Stand, RanOver};
-ghost use Rattle.flop_base.specs.Bays.{both};
-ghost use Rattle.flop_base.specs.Standard.{sectors_at};
-ghost use Rattle.rescue.specs.declared.line.LogLine.{LogLine};
-ghost use Rattle.disk_commands.specs.Logs.{IsLogFound};
-ghost use Rattle.floppy_jobs.specs.Texts.{job_of};
-ghost use Rattle.floppy_jobs.specs.declared.request.Request.{Request};
-ghost use Rattle.sector_model.specs.Plays.{IsText};
 ghost use Rattle.laws_program.specs.Ends.{EndsByReplies, EndsAnswered};
 ghost use Rattle.laws_program.specs.Inserted.{IsDiskFile, InsertsDisks, requests_among};
 ghost use Rattle.laws_program.specs.Answered.{AnswersCalls};
-ghost use Rattle.floppy_jobs.specs.Texts.{calls_of};
-ghost use Rattle.floppy_jobs.specs.declared.calls.CallLine.{CallLine};
 
 /// A law: `format NAME CYLS` ends with status 1 if some request of its run was refused, and else with 0. This is so
 /// unless memory ran out, or the file store or the output failed, and counted the fault.

@@ -1,14 +1,6 @@
 // What each step of a run may do.
 ghost use Rattle.std.specs.Prelude.{List, Option, Some};
-ghost use Rattle.flop_base.specs.Shelf.{Files};
-ghost use Rattle.flop_base.specs.declared.answers.Status.{Status};
-ghost use Rattle.flop_base.specs.Counters.{DriveCounts};
-ghost use Rattle.pc_bus.specs.Boards.{Board};
-ghost use Rattle.sector_model.specs.States.{State};
-ghost use Rattle.sector_model.specs.Runs.{Taken, Run};
-ghost use Rattle.archive_commands.specs.Files.{Outside};
-ghost use Rattle.floppy_words.specs.declared.form.Form.{Form};
-ghost use Rattle.floppy_tools.specs.Machines.{RunsOver};
+ghost use Rattle.laws_program.specs.Common.{Files, Status, DriveCounts, Board, State, Taken, Run, Outside, Form, RunsOver};
 ghost use Rattle.laws_program.specs.Steps.{EachStep, KeepsGuarded, ReadsField, WritesField, KeepsOtherFields, FormatsTrack, TellsCause, SendsFew};
 
 /// A law on each step of a run: the medium of a bay stays as it is if the bay isn't acknowledged, or if its medium is

@@ -1,14 +1,7 @@
 // Which stores the program makes.
 ghost use Rattle.std.specs.Prelude.{List, Option, Some};
-ghost use Rattle.flop_base.specs.declared.answers.Status.{Status};
-ghost use Rattle.flop_base.specs.Counters.{DriveCounts};
-ghost use Rattle.pc_bus.specs.Boards.{Board};
-ghost use Rattle.archive_commands.specs.Files.{Outside};
-ghost use Rattle.floppy_words.specs.declared.form.Form.{Form};
+ghost use Rattle.laws_program.specs.Common.{Status, DriveCounts, Board, Outside, Form, Request, IsJob, RunsOver};
 ghost use Rattle.floppy_words.specs.declared.form.Form.TheVariants as form;
-ghost use Rattle.floppy_jobs.specs.declared.request.Request.{Request};
-ghost use Rattle.sector_model.specs.Ties.{IsJob};
-ghost use Rattle.floppy_tools.specs.Machines.{RunsOver};
 ghost use Rattle.laws_program.specs.StoresMade.{StoresAsked};
 ghost use Rattle.laws_program.specs.StoredAgain.{AllRead, StoresAgainAtEnd};
 

@@ -1,19 +1,7 @@
 // The subcommand that reads all of a disk.
 ghost use Rattle.std.specs.Prelude.{◌≡◌, List, [], Some};
-ghost use Rattle.flop_base.specs.Shelf.{Files};
-ghost use Rattle.flop_base.specs.declared.key.Chrn.{Chrn};
-ghost use Rattle.raw_image.specs.Disk.{Disk};
-ghost use Rattle.flop_base.specs.Counters.{DriveCounts};
-ghost use Rattle.track_model.specs.declared.Look.{Look};
-ghost use Rattle.sector_map.specs.Failing.{AreFailing};
-ghost use Rattle.sector_map.specs.Standard.{standard_keys};
-ghost use Rattle.sector_model.specs.Steps.{IsImageOf};
-ghost use Rattle.pc_bus.specs.Boards.{Board};
-ghost use Rattle.archive_commands.specs.Files.{Outside};
+ghost use Rattle.laws_program.specs.Common.{Files, Chrn, Disk, DriveCounts, Look, AreFailing, standard_keys, IsImageOf, Board, Outside, RunsOver, IsUnmistaken, all_told_of, IsEndStatus};
 ghost use Rattle.floppy_words.specs.declared.form.Form.TheVariants as form;
-ghost use Rattle.floppy_tools.specs.Machines.{RunsOver};
-ghost use Rattle.laws_commands.specs.Verified.{IsUnmistaken, all_told_of};
-ghost use Rattle.laws_commands.specs.VerifyRuns.{IsEndStatus};
 ghost use Rattle.laws_program.specs.Disturbed.{HadNoFault, HadNoStall};
 ghost use Rattle.laws_program.specs.Told.{ListsFailing};
 

@@ -1,10 +1,6 @@
 // Arguments (words) that are a subcommand (form).
 ghost use Rattle.std.specs.Prelude.{◌≡◌, ℕ, List, Some};
-ghost use Rattle.flop_base.specs.declared.answers.Status.{Status};
-ghost use Rattle.flop_base.specs.Counters.{DriveCounts};
-ghost use Rattle.floppy_words.specs.declared.form.Form.{Form};
-ghost use Rattle.floppy_words.specs.Forms.{form_of};
-ghost use Rattle.floppy_tools.specs.Performed.{Stand, RanOver, Performed};
+ghost use Rattle.laws_program.specs.Common.{Status, DriveCounts, Form, form_of, Stand, RanOver, Performed};
 
 /// A law: if the arguments are a subcommand, what the program ensures of its arguments is a run of that subcommand over
 /// the machine. The other laws are on such runs.

@@ -1,8 +1,6 @@
 -- Port accesses after which the controller rests.
 use Rattle.std.proofs.Common.{◌≡◌, ℕ, ◌==◌, Bool, true, false, if◌then◌else◌, refl, sym, ◌∙◌, ap, subst, arith}
-use Rattle.machine_commands.proofs.Common.{DriveState, Writes, given, interrupt_after, asks, Fdc, Phase, Command, Execute, Result, gap, Holds, shown, Board, controller_of, lines_of, is_controllers, Inputs, Outputs, RunsGap, sets_lines, shown_again, Bus, drive_stays}
-use Rattle.fdc_phases.specs.Answers.{is_fresh}
-use Rattle.fdc_core.specs.Ports.{after_read as controller_after}
+use Rattle.machine_commands.proofs.Common.{DriveState, Writes, given, interrupt_after, asks, Fdc, Phase, Result, gap, Holds, shown, Board, controller_of, lines_of, is_controllers, Inputs, Outputs, RunsGap, sets_lines, shown_again, Bus, drive_stays, is_fresh, controller_after}
 use Rattle.pc_bus.specs.Ports.{port_read}
 use Rattle.machine_commands.proofs.Idling.{IsResting, KeepsDrive, KeepsSpeed, KeepsAll, Idles}
 use Rattle.machine_commands.proofs.Steps.{drive_none, speed_none, idles_none, idles_then, idling}
@@ -78,9 +76,8 @@ quiet_answer true interrupt low = refl
 quiet_answer false interrupt low = low
 
 quiet_after : (phase : Phase) (interrupt : Bool) → interrupt ≡ false → interrupt_after phase interrupt ≡ false
-quiet_after Command interrupt low = low
-quiet_after (Execute execution) interrupt low = low
 quiet_after (Result answer) interrupt low = quiet_answer (is_fresh answer) interrupt low
+quiet_after _ interrupt low = low
 
 quiet_read : (data_port : Bool) (fdc : Fdc) → Quiets fdc (if data_port then given fdc else fdc)
 quiet_read true fdc low = quiet_after fdc.phase fdc.interrupt low

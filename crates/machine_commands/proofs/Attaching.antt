@@ -1,16 +1,8 @@
 -- What driver and machine owe each other after something was done past the driver.
 use Rattle.std.proofs.Common.{◌≡◌, ℕ, zero, suc, ◌-◌, ◌≤◌, Bool, true, false, refl, sym, ap, ◌∙◌, arith}
 use Rattle.std.specs.Prelude.{◌&&◌, Option, Some, None, Result, Ok, Err}
-use Rattle.raw_image.specs.Disk.{Disk}
-use Rattle.flop_base.specs.Bays.{Two, in_bay, with_bay}
-use Rattle.flop_base.specs.Counters.{DriveCounts, GoesOn, faults_of}
-use Rattle.flop_base.proofs.Counted.{faults_go_on}
-use Rattle.floppy_driver.specs.Rigs.{Rig}
-use Rattle.machine_commands.specs.Handled.{Untouched, Exchanged, PutsIn, TakesOut, PutsMemory, ExchangesDrive}
-use Rattle.floppy_driver.specs.declared.driver.Notes.{Notes}
-use Rattle.floppy_driver.specs.declared.driver.Driver.{Driver}
+use Rattle.machine_commands.proofs.Common.{Disk, Two, in_bay, with_bay, DriveCounts, GoesOn, faults_of, faults_go_on, Rig, Untouched, Exchanged, PutsIn, TakesOut, PutsMemory, ExchangesDrive, Notes, Driver, IsNoted, IsAttached}
 use Rattle.floppy_driver.specs.Shown.{is_held}
-use Rattle.floppy_driver.specs.Attached.{IsNoted, IsAttached}
 
 -- the notes on a drive stay true where nothing of the drive changed but its count of faults
 noted_later : (notes : Notes) (medium medium' : Option Disk) (line line' spun spun' : Bool) (pcn pcn' cylinder cylinder' faults faults' : ℕ) → medium' ≡ medium → line' ≡ line → spun' ≡ spun → pcn' ≡ pcn → cylinder' ≡ cylinder → faults ≤ faults' → IsNoted notes medium line spun pcn cylinder faults → IsNoted notes medium' line' spun' pcn' cylinder' faults'

@@ -1,5 +1,5 @@
 -- What a data command does at the ports.
-use Rattle.std.proofs.Common.{◌≡◌, inl, inr, ℕ, suc, ◌+◌, ◌*◌, Bool, true, false, List, subst, arith}
+use Rattle.std.proofs.Common.{◌≡◌, inl, inr, ℕ, suc, ◌+◌, Bool, true, false, List, subst, arith}
 use Rattle.machine_commands.proofs.Common.{Board, Outputs, SetsChannel, Watch, Watches, AwaitsResults, Sends}
 
 pub output_as : (port a b : ℕ) (old new : Board) → a ≡ b → Outputs port a old new → Outputs port b old new

@@ -1,7 +1,6 @@
 -- What holds of both drives holds of the drive in a bay; and what a rig shows of that drive.
 use Rattle.std.proofs.Common.{◌≡◌, ℕ, zero, suc, ◌-◌, ◌≤◌, ◌==◌, Bool, true, false, if◌then◌else◌, refl, arith}
-use Rattle.machine_commands.proofs.Common.{Two, in_bay, faults_of, DriveState, Board, drive_in, counters_of, is_spun, number_of, rig_of}
-use Rattle.flop_base.specs.Bays.{with_bay}
+use Rattle.machine_commands.proofs.Common.{Two, in_bay, faults_of, DriveState, Board, drive_in, counters_of, is_spun, number_of, rig_of, with_bay}
 use Rattle.machine_commands.proofs.Idling.{KeepsAll, KeepsDrive, KeepsSpeed, StaysIdle}
 use Rattle.machine_commands.proofs.Showing.{two_same}
 
@@ -47,9 +46,8 @@ faults_in bay board = by_bay (bay == 0)
     by_bay false = refl
 
 pub number_in : (bay : ℕ) (board : Board) → bay ≤ 1 → number_of board bay ≡ in_bay (rig_of board).numbers bay
-number_in zero board small = refl
-number_in (suc zero) board small = refl
 number_in (suc (suc bay)) board small = absurd (omega arith)
+number_in _ board small = refl
 
 -- ---- both drives, by the one in a bay and the other
 

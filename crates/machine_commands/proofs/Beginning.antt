@@ -1,26 +1,15 @@
 -- A data command begins on an idle machine, once all is set up and its bytes are sent.
-use Rattle.std.proofs.Common.{◌≡◌, inl, inr, ℕ, zero, suc, ◌+◌, ◌*◌, ◌/◌, ◌%◌, ◌<◌, ◌≤◌, ◌==◌, not, Bool, true, false, List, [], ◌∷◌, ◌++◌, length, Result as result, refl, sym, ◌∙◌, ap, subst, arith}
+use Rattle.std.proofs.Common.{◌≡◌, inl, inr, ℕ, suc, ◌+◌, ◌*◌, ◌/◌, ◌%◌, ◌<◌, ◌≤◌, ◌==◌, not, Bool, true, false, List, [], ◌∷◌, ◌++◌, length, Result as result, refl, sym, ◌∙◌, ap, subst, arith}
 use Rattle.std.specs.Prelude.{bit_and}
-use Rattle.std.specs.List.{All}
-use Rattle.machine_commands.proofs.Common.{Channel, set_up, kept, More, seek_bits, TakesAs, Sent, takes_in, is_taking, asks, data_commands_of, dor_of, is_held, Fdc, Code, Rate, R500, R250, Holds, shown, Low, Order, scene_of, Scene, data_rate, Steady, gap, Board, controller_of, drive_in, holds_of, lines_of, memory_of, Outputs, shown_again, in_bay, Disk, Finishes, Prepares, rate_byte, AreSeeksOver, IsIdle, Sends, rig_of, Motors, Done}
-use Rattle.dma_8237.specs.Channel.{after_write, has_bit, reads_memory}
+use Rattle.machine_commands.proofs.Common.{Channel, set_up, kept, More, seek_bits, TakesAs, Sent, takes_in, is_taking, asks, data_commands_of, dor_of, is_held, Fdc, Code, Rate, R500, R250, Holds, shown, Low, Order, scene_of, Scene, data_rate, Steady, gap, Board, controller_of, drive_in, holds_of, lines_of, memory_of, Outputs, shown_again, in_bay, Disk, Finishes, Prepares, rate_byte, AreSeeksOver, IsIdle, Sends, rig_of, Motors, Done, All, has_bit, reads_memory, answer, AreShort, IsShort, StandsReady, CanBegin, IsLast, IsSetFor, most_steps_of, IsScene, Lasts, Uses, goes_begins, AreCounts}
+use Rattle.dma_8237.specs.Channel.{after_write}
 use Rattle.dma_8237.proofs.SettingUp.{is_set_up}
-use Rattle.fdc_commands.specs.Table.{answer}
 use Rattle.fdc_commands.specs.declared.bytes.Accepted.{Accepted}
 use Rattle.fdc_phases.specs.Rates.{rate_chosen}
-use Rattle.irq_events.specs.Holds.{AreShort, IsShort}
-use Rattle.laws_machine.specs.OnAwaits.Goes.{StandsReady}
-use Rattle.laws_machine.specs.OnOrders.Orders.{CanBegin, IsLast, IsSetFor}
 use Rattle.laws_machine.specs.OnReads.Begins.{IsDriveOf}
-use Rattle.laws_machine.specs.OnReads.Ends.{most_steps_of}
-use Rattle.laws_machine.specs.OnReads.Scenes.{IsScene}
 use Rattle.laws_machine.specs.OnReads.Underway.{IsSet}
-use Rattle.laws_machine.specs.OnSteps.Lasts.{Lasts}
-use Rattle.laws_machine.specs.OnSteps.Uses.{Uses}
 use Rattle.laws_machine.specs.OnWrites.Underway.{IsReadSet}
-use Rattle.laws_machine.proofs.OnAwaits.Courses.{goes_begins}
 use Rattle.laws_machine.proofs.OnReads.Beginnings.{is_set}
-use Rattle.machine_commands.specs.Awaited.{AreCounts}
 use Rattle.machine_commands.proofs.Idling.{IsResting, StaysIdle, Idles}
 use Rattle.machine_commands.proofs.Bytes.{AreMore, IsListening, byte_more, first_bytes, listens_with, sends_parts, with_bytes}
 use Rattle.machine_commands.proofs.Endings.{HasFinished, IsSending, has_finished}
@@ -280,12 +269,9 @@ is_run order s bay address size motors rate setting accesses channel first next 
 -- ---- the head and the drive that are sent
 
 pub head_of_sent : (head bay : ℕ) → head ≤ 1 → bay ≤ 1 → (head * 4 + bay) / 4 % 2 ≡ head
-head_of_sent zero zero low small = refl
-head_of_sent zero (suc zero) low small = refl
-head_of_sent (suc zero) zero low small = refl
-head_of_sent (suc zero) (suc zero) low small = refl
 head_of_sent (suc (suc head)) bay low small = absurd (omega arith)
 head_of_sent head (suc (suc bay)) low small = absurd (omega arith)
+head_of_sent _ _ low small = refl
 
 pub small_drive : (head bay : ℕ) → head ≤ 1 → bay ≤ 1 → head * 4 + bay ≤ 7
 small_drive head bay low small = omega arith

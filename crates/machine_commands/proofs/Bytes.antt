@@ -1,8 +1,6 @@
 -- Bytes of commands, while the controller rests.
 use Rattle.std.proofs.Common.{◌≡◌, ℕ, not, true, false, List, [], ◌∷◌, ◌++◌, refl, sym, ◌∙◌, ap, subst, append_assoc}
-use Rattle.std.proofs.lemmas.List.{append-nil}
-use Rattle.machine_commands.proofs.Common.{DriveState, kept, More, Ready, TakesAs, Obeys, Writes, takes_in, is_taking, is_held, dor_of, Fdc, Lines, Board, controller_of, lines_of, lines_of_drive, Outputs, Sends}
-use Rattle.fdc_commands.specs.Table.{answer}
+use Rattle.machine_commands.proofs.Common.{DriveState, kept, More, Ready, TakesAs, Obeys, Writes, takes_in, is_taking, is_held, dor_of, Fdc, Lines, Board, controller_of, lines_of, lines_of_drive, Outputs, Sends, append-nil, answer}
 use Rattle.fdc_commands.specs.declared.command.Command.{Command}
 use Rattle.fdc_phases.specs.declared.phases.Phase.TheVariants as phase
 use Rattle.machine_commands.proofs.Idling.{IsResting, KeepsDrive, KeepsAll, Idles}

@@ -1,26 +1,10 @@
 -- A data command, from its last byte until its end is reported.
 use Rattle.std.proofs.Common.{◌≡◌, inl, inr, ℕ, zero, suc, ◌+◌, ◌-◌, ◌≤◌, ◌==◌, ◌&&◌, not, Bool, true, false, None, if◌then◌else◌, refl, sym, ◌∙◌, ap, subst, arith}
-use Rattle.std.specs.Int.RustNames.{bit_or}
-use Rattle.std.specs.Option.{option_map_or}
-use Rattle.std.proofs.lemmas.Bool.{false_from_ne_true, true_from_ne_false, false≢true}
-use Rattle.machine_commands.proofs.Common.{Seeking, seek_bits, has_ended, is_executing, is_held, Fdc, Phase, Command, Execute, Result, is_unread, with_one, Order, Scene, Steady, controller, Board, controller_of, holds_of, Inputs, Step, stirred, Watch, Watches, AwaitsResults, latch_taken}
+use Rattle.machine_commands.proofs.Common.{Seeking, seek_bits, has_ended, is_executing, is_held, Fdc, Phase, Command, Execute, Result, is_unread, with_one, Order, Scene, Steady, controller, Board, controller_of, holds_of, Inputs, Step, stirred, Watch, Watches, AwaitsResults, latch_taken, bit_or, option_map_or, false_from_ne_true, true_from_ne_false, false≢true, is_begun, main_status, phase_bits, steps_left, EndsIn, AreShort, IsAwaited, most_steps_of, steps_taken, Lasts, Uses, going, goes_status, goes_stray, goes_wait, goes_waits, lasts_input, lasts_none, lasts_taken, lasts_twice, lasts_unset, lasts_wait, lasts_within, inputs, unset, wait, waits, uses_input, uses_look, uses_none, uses_taken, uses_twice, uses_wait, uses_waits, latch_of}
 use Rattle.fdc_registers.specs.declared.drive_lines.Dor.{Dor}
-use Rattle.fdc_commands.specs.Table.{is_begun}
-use Rattle.fdc_core.specs.Ports.{main_status, phase_bits}
-use Rattle.fdc_core.specs.Steps.{steps_left, EndsIn}
-use Rattle.irq_events.specs.Holds.{AreShort}
-use Rattle.laws_machine.specs.OnAwaits.Awaits.{IsAwaited}
 use Rattle.laws_machine.specs.OnAwaits.Goes.{GoesOn}
-use Rattle.laws_machine.specs.OnReads.Ends.{most_steps_of, steps_taken}
-use Rattle.laws_machine.specs.OnSteps.Lasts.{Lasts}
-use Rattle.laws_machine.specs.OnSteps.Uses.{Uses}
-use Rattle.laws_machine.proofs.OnAwaits.Courses.{going, goes_status, goes_stray, goes_wait, goes_waits}
 use Rattle.laws_machine.proofs.OnAwaits.Few.{few}
 use Rattle.laws_machine.proofs.OnSteps.DataEnds.{step_ends}
-use Rattle.laws_machine.proofs.OnSteps.Lasting.{lasts_input, lasts_none, lasts_taken, lasts_twice, lasts_unset, lasts_wait, lasts_within}
-use Rattle.laws_machine.proofs.OnSteps.Runs.{inputs, unset, wait, waits}
-use Rattle.laws_machine.proofs.OnSteps.Using.{uses_input, uses_look, uses_none, uses_taken, uses_twice, uses_wait, uses_waits}
-use Rattle.pc_bus.specs.Boards.{latch_of}
 use Rattle.pc_bus.specs.Steps.{RunsUnset}
 use Rattle.machine_commands.proofs.Idling.{Idles, IsResting}
 use Rattle.machine_commands.proofs.Settling.{runs_one}
@@ -30,17 +14,15 @@ use Rattle.machine_commands.proofs.Steps.{idles_none, idling}
 
 busy_by : (held has_begun : Bool) (phase : Phase) (seeks : Seeking) → seeks.seek ≡ None → is_executing phase ≡ true
     → ((if held then 0 else bit_or (phase_bits has_begun phase) (seek_bits seeks)) == 0xD0) ≡ false
-busy_by held has_begun Command seeks none idle = absurd (false≢true idle)
-busy_by held has_begun (Result answer) seeks none idle = absurd (false≢true idle)
 busy_by true has_begun (Execute execution) seeks none _ = refl
 busy_by false has_begun (Execute execution) seeks none _ = rw none refl
+busy_by held has_begun _ seeks none idle = absurd (false≢true idle)
 
 ready_by : (held has_begun : Bool) (phase : Phase) (seeks : Seeking) → held ≡ false → seeks.seek ≡ None → is_unread phase ≡ true
     → ((if held then 0 else bit_or (phase_bits has_begun phase) (seek_bits seeks)) == 0xD0) ≡ true
 ready_by true has_begun phase seeks free none unread = absurd (false≢true (sym free))
-ready_by false has_begun Command seeks _ none unread = absurd (false≢true unread)
-ready_by false has_begun (Execute execution) seeks _ none unread = absurd (false≢true unread)
 ready_by false has_begun (Result answer) seeks _ none unread = rw none refl
+ready_by false has_begun _ seeks _ none unread = absurd (false≢true unread)
 
 -- ---- device steps that are left
 
@@ -48,9 +30,8 @@ abbrev left_of : Board → ℕ
 left_of board = steps_left (controller_of board).phase
 
 positive_in : (phase new : Phase) → is_executing phase ≡ true → EndsIn phase new → 1 ≤ steps_left phase
-positive_in Command new busy ends = absurd (false≢true busy)
-positive_in (Result answer) new busy ends = absurd (false≢true busy)
 positive_in (Execute execution) new busy ends = let fewer = ends.0 in omega arith
+positive_in _ new busy ends = absurd (false≢true busy)
 
 step_positive : (old new : Board) → Step old new → is_executing (controller_of old).phase ≡ true → 1 ≤ left_of old
 step_positive old new step busy = controller (1 ≤ left_of old) old new step (λ before after works. positive_in (controller_of old).phase step.between.phase busy works.ends)
@@ -58,9 +39,8 @@ step_positive old new step busy = controller (1 ≤ left_of old) old new step (�
 
 -- a command that took at most `most` steps has at least one left of `most + 1`
 positive_by : (most : ℕ) (phase : Phase) → is_executing phase ≡ true → steps_taken phase ≤ most → most ≤ 65535 → 1 ≤ steps_left phase - (65535 - most)
-positive_by most Command busy taken small = absurd (false≢true busy)
-positive_by most (Result answer) busy taken small = absurd (false≢true busy)
 positive_by most (Execute execution) busy taken small = omega arith
+positive_by most _ busy taken small = absurd (false≢true busy)
 
 -- the number of steps that are left never grows
 fewer : (most : ℕ) → Steady (λ board. left_of board ≤ most)

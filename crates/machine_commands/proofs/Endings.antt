@@ -1,12 +1,7 @@
 -- The results of a data command are taken, and the machine is idle again.
 use Rattle.std.proofs.Common.{◌≡◌, ℕ, ◌≤◌, ◌==◌, true, false, Result as result, refl, sym, ◌∙◌, ap, subst, arith}
-use Rattle.std.proofs.lemmas.Bool.{false≢true}
-use Rattle.std.proofs.lemmas.Bool.Decides.{nat_tests}
-use Rattle.machine_commands.proofs.Common.{Chrn, Code, InRange, Results, Ending, is_executing, given, result_byte, interrupt_after, is_held, dor_of, polled, Long, Fdc, Phase, Command, Execute, Result, is_unread, with_one, Order, Scene, Low, Board, controller_of, holds_of, Inputs, Finishes, outcome_of, dor_with, IsReady, AreSeeksOver, IsIdle, is_up, latch_taken, Motors, Done}
-use Rattle.fdc_core.specs.Ports.{phase_after}
-use Rattle.fdc_phases.specs.declared.answers.Answer.TheVariants.{Short}
+use Rattle.machine_commands.proofs.Common.{Chrn, Code, InRange, Results, Ending, is_executing, given, result_byte, interrupt_after, is_held, dor_of, polled, Long, Fdc, Phase, Command, Result, is_unread, with_one, Order, Scene, Low, Board, controller_of, holds_of, Inputs, Finishes, outcome_of, dor_with, IsReady, AreSeeksOver, IsIdle, is_up, latch_taken, Motors, Done, false≢true, nat_tests, phase_after, TakesResults}
 use Rattle.laws_machine.specs.OnAwaits.Goes.{GoesOn}
-use Rattle.machine_commands.specs.Awaited.{TakesResults}
 use Rattle.machine_commands.proofs.Idling.{IsResting, KeepsSpeed, KeepsAll, Idles}
 use Rattle.machine_commands.proofs.Accesses.{input_idles}
 use Rattle.machine_commands.proofs.Courses.{resting, awaits_end}
@@ -22,13 +17,11 @@ pub record HasResults (phase : Phase) : Type 0 where
   pub is : phase ≡ Result (Long ending results 0)
 
 unread_results : (phase : Phase) → is_unread phase ≡ true → HasResults phase
-unread_results Command unread = absurd (false≢true unread)
-unread_results (Execute execution) unread = absurd (false≢true unread)
-unread_results (Result (Short next more)) unread = absurd (false≢true unread)
 unread_results (Result (Long ending results taken)) unread =
     let first : (taken == 0) ≡ true = unread in
     let none : taken ≡ 0 = grind (arith, nat_tests) in
     record { ending = ending; results = results; is = ap (λ n. Result (Long ending results n)) none }
+unread_results _ unread = absurd (false≢true unread)
 
 -- ---- the bytes
 

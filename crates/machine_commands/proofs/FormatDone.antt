@@ -1,17 +1,9 @@
 -- A whole FORMAT TRACK, from an idle machine whose memory has the keys until the machine is idle again.
 use Rattle.std.proofs.Common.{◌≡◌, ℕ, ◌+◌, ◌-◌, ◌*◌, ◌≤◌, true, false, [], ◌∷◌, length, take, drop, Option, Result, refl, sym, ◌∙◌, ap, subst, arith}
-use Rattle.std.specs.List.{flat_map}
-use Rattle.std.specs.Option.{option_map_or}
-use Rattle.machine_commands.proofs.Common.{sectors_at, standard_code, Rate, R500, R250, Code, in_bay, set_up, InRange, Ready, Sent, Long, Numbers, key_bytes, Track, Write, scene_of, only, Board, channel_of, drive_in, memory_of, Format, Laying, format_keys, FormatsTrack, IsIdle, rig_of, SendsFormatBytes, keys_at, told_of, Motors, Done}
-use Rattle.dma_8237.specs.Channel.{after_write}
-use Rattle.fdc_commands.specs.declared.command.Command.TheVariants.{FormatTrack}
-use Rattle.fdc_commands.proofs.WriteSpellings.{spells_format}
+use Rattle.machine_commands.proofs.Common.{sectors_at, standard_code, Rate, R500, R250, Code, in_bay, set_up, InRange, Ready, Sent, Long, Numbers, key_bytes, Track, Write, scene_of, only, Board, channel_of, drive_in, memory_of, Format, Laying, format_keys, FormatsTrack, IsIdle, rig_of, SendsFormatBytes, keys_at, told_of, Motors, Done, flat_map, option_map_or, after_write, FormatTrack, spells_format, AreKeysOf, FormatEndedIn, CostsFor, format_turn}
 use Rattle.fdc_phases.specs.declared.phases.Phase.TheVariants as phase
-use Rattle.laws_machine.specs.OnFormats.Results.{AreKeysOf, FormatEndedIn}
 use Rattle.laws_machine.proofs.OnFormats.Results.{lays_disk}
 use Rattle.laws_machine.proofs.OnOrders.Ends.{ended}
-use Rattle.floppy_driver.specs.Rigs.{CostsFor}
-use Rattle.floppy_driver.proofs.Lasting.{format_turn}
 use Rattle.machine_commands.proofs.Beginning.{IsRun, head_of_sent, is_run, set_from_memory, small_drive}
 use Rattle.machine_commands.proofs.FormatRigs.{IsFormatOn, format_shown}
 use Rattle.machine_commands.proofs.Lasting.{channel_costs}

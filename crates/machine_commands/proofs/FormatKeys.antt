@@ -1,20 +1,11 @@
 -- The keys of a format, put into the driver's page.
 use Rattle.std.proofs.Common.{◌≡◌, ◌≢◌, ◌⊎◌, inl, inr, ℕ, zero, suc, ◌+◌, ◌*◌, ◌<◌, ◌≤◌, true, false, List, [], ◌∷◌, length, take, drop, map, slice_index, nat_lt, Option, Some, None, Result, Ok, Err, if◌then◌else◌, refl, sym, ◌∙◌, ap, subst, arith}
 use Rattle.std.specs.Prelude.{slice_set, MatchOption, IfErr}
-use Rattle.std.specs.List.{flat_map, range_with_len}
-use Rattle.std.proofs.lemmas.Bool.Decides.{nat_tests}
-use Rattle.std.proofs.lemmas.List.{get_or_past, get_or-set_other, get_or-set_same, length-set}
+use Rattle.machine_commands.proofs.Common.{user_bytes, sectors_at, standard_code, counted, Board, controller_of, memory_of, byte_set, Format, key_bytes, keys_at, in_bay, InRange, Code, Disk, Laying, FormatsTrack, HasTrackUnder, IsFormatMiss, LaysMedium, IsIdle, Sends, rig_of, SendsFormatBytes, told_of, Motors, Done, flat_map, range_with_len, nat_tests, get_or_past, get_or-set_other, get_or-set_same, length-set, length-map-range_with_len, IsKeyAt, OnlyMemory, PutsByte, PutsKey, PutsKeys, option_map_or, CostsFor, Rig, page_part, user_part, drop-cons}
 use Rattle.std.proofs.lemmas.List.Concat.{flat_map-cons}
-use Rattle.std.proofs.lemmas.List.FromFn.{length-map-range_with_len}
 use Rattle.sector_map.specs.Standard.{key_of, track_keys}
-use Rattle.machine_commands.specs.WriteSent.{IsKeyAt, OnlyMemory, PutsByte, PutsKey, PutsKeys}
-use Rattle.std.specs.Option.{option_map_or}
-use Rattle.floppy_driver.specs.Rigs.{CostsFor, Rig}
-use Rattle.machine_commands.specs.Shown.{page_part, user_part}
 use Rattle.machine_commands.proofs.Landing.{user_same}
 use Rattle.machine_commands.proofs.PastDriver.{still_idle}
-use Rattle.std.proofs.Math.Seq.{drop-cons}
-use Rattle.machine_commands.proofs.Common.{user_bytes, sectors_at, standard_code, counted, Board, controller_of, memory_of, byte_set, Format, key_bytes, keys_at, in_bay, InRange, Code, Disk, Laying, FormatsTrack, HasTrackUnder, IsFormatMiss, LaysMedium, IsIdle, Sends, rig_of, SendsFormatBytes, told_of, Motors, Done}
 use Rattle.machine_commands.proofs.FormatDone.{HasKeys, IsFormatted, format_done}
 
 -- ---- one byte

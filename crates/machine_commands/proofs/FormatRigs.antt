@@ -1,14 +1,10 @@
 -- A FORMAT TRACK as its driver sees it.
 use Rattle.std.proofs.Common.{◌≡◌, ◌⊎◌, inl, inr, ℕ, ◌<◌, ◌≤◌, true, false, List, Option, Some, None, Result, Ok, Err, refl, sym, ◌∙◌, ap, subst, arith}
 use Rattle.std.specs.Prelude.{IsOk, IfErr, MatchOption}
-use Rattle.std.proofs.lemmas.Bool.{false≢true, cases_lt}
-use Rattle.machine_commands.proofs.Common.{RoseBy, standard_code, Code, Chrn, in_bay, IsFaultless, IsUndisturbed, Disk, HasTrack, Format, Laying, format_keys, rate_fits, Ending, Numbers, Track, Write, Stalled, Scene, head_sent, IsUnchanged, Board, drive_in, memory_of, FormatsTrack, HasTrackUnder, IsFormatMiss, LaysMedium, counters_of, rig_of, told_of, Motors, Done}
+use Rattle.machine_commands.proofs.Common.{RoseBy, standard_code, Code, Chrn, in_bay, IsFaultless, IsUndisturbed, Disk, HasTrack, Format, Laying, format_keys, rate_fits, Ending, Numbers, Track, Write, Stalled, Scene, head_sent, IsUnchanged, Board, drive_in, memory_of, FormatsTrack, HasTrackUnder, IsFormatMiss, LaysMedium, counters_of, rig_of, told_of, Motors, Done, false≢true, cases_lt, IsLaying, same_rates, FormatEndsAs, FitsOn, HasLaying, LaysTo, LaysTurn}
 use Rattle.flop_base.specs.declared.answers.Code.TheVariants as code
-use Rattle.sector_map.specs.Layings.{IsLaying}
-use Rattle.sector_map.proofs.MetTracks.{same_rates}
 use Rattle.track_model.specs.Layouts.{Fits}
 use Rattle.fdc_stages.specs.declared.ending.Ending.TheVariants as ending
-use Rattle.laws_machine.specs.OnFormats.Results.{FormatEndsAs, FitsOn, HasLaying, LaysTo, LaysTurn}
 use Rattle.laws_machine.specs.OnWrites.Drives.{IsThere}
 use Rattle.machine_commands.proofs.Beginning.{HasRun}
 use Rattle.machine_commands.proofs.Outcomes.{told_as}
@@ -178,10 +174,7 @@ module _ {numbers : Numbers} {scene : Scene} {motors : Motors} {format : Format}
       by_way (inl is) = refuses None code.Overrun (unchanged is) (λ none disk under. unstalled run none stalled) missed
       by_way (inr has) = refuses (Some has.laying) code.Overrun (laid has) (λ none disk under. unstalled run none stalled) missed
   shows_as key ending.Protected (is, protected) stalls = absurd (false≢true (sym on.unprotected ∙ protected))
-  shows_as key ending.NoSector none stalls = absurd none
-  shows_as key ending.BadCheck none stalls = absurd none
-  shows_as key ending.NoCount none stalls = absurd none
-  shows_as key ending.Late none stalls = absurd none
+  shows_as key _ none stalls = absurd none
 
   -- what the driver is answered, and what was recorded
   pub format_shown : (key : Chrn) (over : Ending) → FormatEndsAs scene numbers keys (drive_in now scene.bay) over → (over ≡ ending.Overrun → Stalled start now)

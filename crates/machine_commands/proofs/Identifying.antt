@@ -1,18 +1,8 @@
 -- READ ID.
 use Rattle.std.proofs.Common.{◌≡◌, ℕ, ◌*◌, ◌+◌, ◌≤◌, true, List, [], Result as result, Ok, Err, IfOk, IfErr, sym, ◌∙◌, ap, subst, arith}
-use Rattle.machine_commands.proofs.Common.{Chrn, Code, Rate, in_bay, IsFaultless, IsAddressAt, HasClearAddress, InRange, Ready, Ending, NoMark, NoSector, NoField, BadCheck, Overrun, NoCount, Protected, Late, scene_of, Scene, track_met, IsCalm, Board, channel_of, drive_in, memory_of, track_under, IsIdle, rig_of, Motors, Done}
-use Rattle.fdc_commands.specs.declared.command.Command.TheVariants.{ReadId}
-use Rattle.fdc_commands.proofs.ReadSpellings.{spells_id}
-use Rattle.fdc_stages.specs.declared.ending.Ending.TheVariants.{Done as Finished}
+use Rattle.machine_commands.proofs.Common.{Chrn, Code, Rate, in_bay, IsFaultless, IsAddressAt, HasClearAddress, InRange, Ready, Ending, NoMark, NoSector, scene_of, Scene, track_met, IsCalm, Board, channel_of, drive_in, memory_of, track_under, IsIdle, rig_of, Motors, Done, ReadId, spells_id, Finished, Identify, id_ended, id_memory, ReadsId, CostsFor, turn_same, SendsReadId, key_told, user_part, page_part}
 use Rattle.fdc_phases.specs.Heard.{key_met}
-use Rattle.laws_machine.specs.OnOrders.Orders.{Identify}
 use Rattle.laws_machine.specs.OnReads.Ids.{IdEndedIn, IdEndsAs, sent_id}
-use Rattle.laws_machine.proofs.OnOrders.Ends.{id_ended, id_memory}
-use Rattle.floppy_driver.specs.Reading.{ReadsId}
-use Rattle.floppy_driver.specs.Rigs.{CostsFor}
-use Rattle.floppy_driver.proofs.Lasting.{turn_same}
-use Rattle.machine_commands.specs.Awaited.{SendsReadId, key_told}
-use Rattle.machine_commands.specs.Shown.{user_part, page_part}
 use Rattle.machine_commands.proofs.Beginning.{IsRun, head_of_sent, is_run, small_drive}
 use Rattle.machine_commands.proofs.Lasting.{costs_none}
 use Rattle.machine_commands.proofs.Outcomes.{outcome_is, told_as}
@@ -28,12 +18,7 @@ told_by : (scene : Scene) (faults : ℕ) (ending : Ending) (key : Chrn) → IdEn
 told_by scene faults (Finished deleted) key says = says
 told_by scene faults NoMark key says = λ calm other (p, clear). says calm (p, clear.address.mark)
 told_by scene faults NoSector key says = λ calm other (p, clear). says.1 calm p other tt clear.address clear.clear.inner
-told_by scene faults NoField key says = absurd says
-told_by scene faults BadCheck key says = absurd says
-told_by scene faults Overrun key says = absurd says
-told_by scene faults NoCount key says = absurd says
-told_by scene faults Protected key says = absurd says
-told_by scene faults Late key says = absurd says
+told_by scene faults _ key says = absurd says
 
 found_by : (scene : Scene) (faults : ℕ) (track : List ℕ) (told : result Chrn Code) → track_met scene ≡ track → SaysOf scene faults told → IfOk told (λ key. (p : ℕ) × IsAddressAt track p key)
 found_by scene faults track (Ok key) same says = subst (λ t. (p : ℕ) × IsAddressAt t p key) same says

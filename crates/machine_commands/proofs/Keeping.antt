@@ -1,18 +1,10 @@
 -- Calls of the driver that leave the flags of both bays.
 use Rattle.std.proofs.Common.{◌≡◌, ℕ, Bool, List, refl, ap, ◌∙◌}
 use Rattle.std.specs.Prelude.{is_some, Option, Some, None, Result, Ok, Err, MatchOption}
-use Rattle.flop_base.specs.declared.key.Chrn.{Chrn}
-use Rattle.flop_base.specs.declared.answers.Code.{Code}
-use Rattle.raw_image.specs.Disk.{Disk}
-use Rattle.sector_map.specs.Changes.{Change, Written}
-use Rattle.sector_map.specs.Layings.{Format, Laying}
-use Rattle.sector_model.specs.Stations.{StationState, bay_of}
-use Rattle.sector_model.specs.Orders.{IsRefusedAtOnce, read_refusal, write_refusal, format_refusal}
-use Rattle.sector_model.specs.Calls.{TellsChange}
+use Rattle.machine_commands.proofs.Common.{Chrn, Code, Disk, Change, Written, Format, Laying, StationState, bay_of, IsRefusedAtOnce, read_refusal, write_refusal, format_refusal, TellsChange, flags_shown}
 use Rattle.sector_model.specs.Reads.{Reads, ReadsDrive}
 use Rattle.sector_model.specs.Writes.{WritesTo, WritesDrive, Reaches, written_from}
 use Rattle.sector_model.specs.Formats.{FormatsTo, FormatsDrive, Lays}
-use Rattle.machine_commands.specs.Flagged.{flags_shown}
 use Rattle.machine_commands.proofs.StationBays.{flags_medium}
 
 -- a request that is refused at once

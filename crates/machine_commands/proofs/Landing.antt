@@ -1,11 +1,7 @@
 -- Bytes that a read puts into memory, as a driver sees them.
 use Rattle.std.proofs.Common.{◌≡◌, ◌⊎◌, inl, inr, ℕ, ◌+◌, ◌-◌, ◌^◌, ◌<◌, ◌≤◌, List, length, get_or, slice_index, sym, ◌∙◌, ap, subst, arith}
-use Rattle.std.proofs.lemmas.Bool.{cases_lt}
-use Rattle.std.proofs.lemmas.List.{ext_get_or, get_or_past, get_or-take, get_or-drop, length-take, length-drop}
-use Rattle.machine_commands.proofs.Common.{with_items, user_bytes, HasBytes, InRange, Board, memory_of, rig_of}
-use Rattle.flop_base.specs.Memory.{SameOutside}
+use Rattle.machine_commands.proofs.Common.{with_items, user_bytes, HasBytes, InRange, Board, memory_of, rig_of, cases_lt, ext_get_or, get_or_past, get_or-take, get_or-drop, length-take, length-drop, SameOutside, IsSound}
 use Rattle.track_model.proofs.Splices.{length-with_items, with_items_before, with_items_at, with_items_behind}
-use Rattle.floppy_driver.specs.Rigs.{IsSound}
 use Rattle.machine_commands.specs.Shown.{user_part, page_part}
 
 -- ---- both parts

@@ -1,20 +1,8 @@
 -- What commands cost: how long they last, apart from the gaps after their port accesses, and how many port accesses they
 -- make.
 use Rattle.std.proofs.Common.{◌≡◌, ℕ, ◌+◌, ◌*◌, ◌≤◌, ◌==◌, Bool, true, false, List, [], ◌∷◌, length, Result as result, sym, subst, arith}
-use Rattle.machine_commands.proofs.Common.{Code, Rate, is_held, Order, Scene, Board, controller_of, holds_of, Inputs, Outputs, stirred, Finishes, Prepares, SetsChannel, Sends, Settles, dor_with, latch_taken, rate_byte, rig_of, Motors, Done}
-use Rattle.irq_events.specs.Holds.{AreShort}
+use Rattle.machine_commands.proofs.Common.{Code, Rate, is_held, Order, Scene, Board, controller_of, holds_of, Inputs, Outputs, stirred, Finishes, Prepares, SetsChannel, Sends, Settles, dor_with, latch_taken, rate_byte, rig_of, Motors, Done, AreShort, most_steps_of, Lasts, Uses, Runs, lasts_clock, lasts_input, lasts_none, lasts_output, lasts_taken, lasts_twice, lasts_wait, lasts_within, uses_input, uses_none, uses_output, uses_taken, uses_twice, uses_wait, uses_within, CostsFor, turn_in, EndsSeek, ReadsLine, Resets, SendsRecalibrate, SendsSeek, SensesDrive, StartsMotor, TakesPolls, none_on, SetsAddress, SetsCount, TakesResults, with_motor_of, Senses, TakesNumber}
 use Rattle.laws_machine.specs.OnAwaits.Goes.{GoesOn}
-use Rattle.laws_machine.specs.OnReads.Ends.{most_steps_of}
-use Rattle.laws_machine.specs.OnSteps.Lasts.{Lasts}
-use Rattle.laws_machine.specs.OnSteps.Uses.{Uses}
-use Rattle.pc_bus.specs.Steps.{Runs}
-use Rattle.laws_machine.proofs.OnSteps.Lasting.{lasts_clock, lasts_input, lasts_none, lasts_output, lasts_taken, lasts_twice, lasts_wait, lasts_within}
-use Rattle.laws_machine.proofs.OnSteps.Using.{uses_input, uses_none, uses_output, uses_taken, uses_twice, uses_wait, uses_within}
-use Rattle.floppy_driver.specs.Rigs.{CostsFor, turn_in}
-use Rattle.machine_commands.specs.Asked.{EndsSeek, ReadsLine, Resets, SendsRecalibrate, SendsSeek, SensesDrive, StartsMotor, TakesPolls, none_on}
-use Rattle.machine_commands.specs.Awaited.{SetsAddress, SetsCount, TakesResults}
-use Rattle.machine_commands.specs.Motored.{with_motor_of}
-use Rattle.machine_commands.specs.Sending.{Senses, TakesNumber}
 use Rattle.machine_commands.proofs.Courses.{awaits_last, awaits_use}
 
 -- at most so many device steps, and at most so many port accesses

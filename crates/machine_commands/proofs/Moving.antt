@@ -1,11 +1,7 @@
 -- What the pulses of RECALIBRATE and SEEK make of a drive.
 use Rattle.std.proofs.Common.{◌≡◌, ◌≢◌, ◌⊎◌, inl, inr, ℕ, zero, suc, ◌+◌, ◌-◌, ◌<◌, ◌≤◌, ◌==◌, ◌||◌, Bool, true, false, Some, None, min, nat_lt, if◌then◌else◌, is_some, refl, sym, ◌∙◌, ap, subst, arith}
-use Rattle.std.proofs.lemmas.Bool.{or_parts}
-use Rattle.std.proofs.lemmas.Bool.Decides.{nat_tests}
-use Rattle.machine_commands.proofs.Common.{RoseBy, Spends, spends_twice, DriveState, Becomes, ended, with_motion, has_ended, sought, recalibrated, Motion, Outward, Toward, Ended, Moves}
+use Rattle.machine_commands.proofs.Common.{RoseBy, Spends, spends_twice, DriveState, Becomes, ended, with_motion, has_ended, sought, recalibrated, Motion, Outward, Toward, Ended, Moves, or_parts, nat_tests, moved, neighbour}
 use Rattle.flop_base.specs.Counts.{RoseLess, Rose}
-use Rattle.drive_model.specs.Drive.{moved}
-use Rattle.fdc_commands.specs.Seeking.{neighbour}
 use Rattle.machine_commands.proofs.Idling.{KeepsDrive, KeepsSpeed}
 use Rattle.machine_commands.proofs.Seeking.{EndsNow, GivesPulse, IsRule}
 use Rattle.machine_commands.proofs.Steps.{gate_turns}

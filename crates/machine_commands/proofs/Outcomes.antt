@@ -1,10 +1,7 @@
 -- What the driver is answered for each ending of a data command.
-use Rattle.std.proofs.Common.{◌≡◌, ℕ, zero, suc, ◌≤◌, Bool, true, false, Result, Ok, Err, if◌then◌else◌, refl, ◌∙◌, ap, arith}
+use Rattle.std.proofs.Common.{◌≡◌, ℕ, suc, ◌≤◌, Bool, true, false, Result, Ok, Err, if◌then◌else◌, refl, ◌∙◌, ap, arith}
 use Rattle.std.specs.Prelude.{bit_and}
-use Rattle.std.specs.Int.RustNames.{bit_or}
-use Rattle.machine_commands.proofs.Common.{Code, Chrn, Results, Ending, NoMark, NoSector, NoField, BadCheck, Overrun, NoCount, Protected, Late, has_set, refusal_of, Done}
-use Rattle.fdc_phases.specs.Answers.{results_of, st1_of, st2_of}
-use Rattle.fdc_stages.specs.declared.ending.Ending.TheVariants.{Done as Finished}
+use Rattle.machine_commands.proofs.Common.{Code, Chrn, Results, Ending, NoMark, NoSector, NoField, BadCheck, Overrun, NoCount, Protected, Late, has_set, refusal_of, Done, bit_or, results_of, st1_of, st2_of, Finished}
 use Rattle.machine_commands.proofs.Endings.{outcome_in}
 
 abbrev pub told_as : Ending → Chrn → Result Done Code
@@ -13,15 +10,8 @@ told_as over key = Err (refusal_of (st1_of over).0)
 
 -- the head and the drive leave the interrupt code as it is
 low_bits : (head_drive : ℕ) → head_drive ≤ 7 → (has_set (bit_and head_drive 7) 0xC0 ≡ false) × (has_set (bit_or (bit_and head_drive 7) 0x40) 0xC0 ≡ true)
-low_bits zero small = (refl, refl)
-low_bits (suc zero) small = (refl, refl)
-low_bits (suc (suc zero)) small = (refl, refl)
-low_bits (suc (suc (suc zero))) small = (refl, refl)
-low_bits (suc (suc (suc (suc zero)))) small = (refl, refl)
-low_bits (suc (suc (suc (suc (suc zero))))) small = (refl, refl)
-low_bits (suc (suc (suc (suc (suc (suc zero)))))) small = (refl, refl)
-low_bits (suc (suc (suc (suc (suc (suc (suc zero))))))) small = (refl, refl)
 low_bits (suc (suc (suc (suc (suc (suc (suc (suc more)))))))) small = absurd (omega arith)
+low_bits _ small = (refl, refl)
 
 by_bits : (failed : Bool) (over : Ending) (key : Chrn) → Result Done Code
 by_bits failed over key = if failed then Err (refusal_of (st1_of over).0) else Ok (record { deleted = has_set (st2_of over).0 0x40; key = key })

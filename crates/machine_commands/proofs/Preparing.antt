@@ -1,10 +1,6 @@
 -- What is set up before a data command on an idle machine; all else stays.
 use Rattle.std.proofs.Common.{◌≡◌, ℕ, ◌-◌, ◌/◌, ◌%◌, ◌<◌, ◌≤◌, nat_le, true, false, Option, Some, None, is_some, IfSome, refl, sym, ◌∙◌, ap, subst, arith}
-use Rattle.std.proofs.lemmas.Bool.{false≢true, and_parts}
-use Rattle.std.proofs.lemmas.Bool.Decides.{nat_tests}
-use Rattle.machine_commands.proofs.Common.{Channel, set_up, Rate, in_bay, Disk, DriveState, InRange, turns, track_words, ccr_written, Fdc, Board, channel_of, controller_of, drive_in, Outputs, is_controllers, sets_lines, Bus, drive_stays, Prepares, SetsChannel, rate_byte, dor_with, IsIdle, IsReady, is_spun, rig_of, Motors}
-use Rattle.dma_8237.specs.Channel.{after_write}
-use Rattle.raw_image.specs.Disk.{IsDisk}
+use Rattle.machine_commands.proofs.Common.{Channel, set_up, Rate, in_bay, Disk, DriveState, InRange, turns, track_words, ccr_written, Fdc, Board, channel_of, controller_of, drive_in, Outputs, is_controllers, sets_lines, Bus, drive_stays, Prepares, SetsChannel, rate_byte, dor_with, IsIdle, IsReady, is_spun, rig_of, Motors, false≢true, and_parts, nat_tests, after_write, IsDisk}
 use Rattle.machine_commands.proofs.Idling.{IsResting, StaysIdle}
 use Rattle.machine_commands.proofs.Accesses.{gap_idles, output_idles, same_drive, same_speed}
 use Rattle.machine_commands.proofs.Questions.{ready_set, ready_rests, ready_with}

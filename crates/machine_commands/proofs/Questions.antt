@@ -1,11 +1,8 @@
 -- Questions to a machine that is idle.
-use Rattle.std.proofs.Common.{◌≡◌, ℕ, zero, suc, ◌%◌, ◌≤◌, ◌==◌, ◌&&◌, not, Bool, true, false, if◌then◌else◌, refl, sym, ◌∙◌, ap, subst, arith}
+use Rattle.std.proofs.Common.{◌≡◌, ℕ, suc, ◌%◌, ◌≤◌, ◌==◌, ◌&&◌, not, Bool, true, false, if◌then◌else◌, refl, sym, ◌∙◌, ap, subst, arith}
 use Rattle.std.specs.Prelude.{bit_and}
-use Rattle.std.specs.Option.{option_map_or}
-use Rattle.machine_commands.proofs.Common.{in_bay, InRange, has_ended, is_executing, is_held, dor_of, data_commands_of, Fdc, Board, controller_of, drive_in, lines_of, lines_of_drive, OnlyAsks, dor_with, IsReady, IsIdle, rig_of, Motors}
-use Rattle.fdc_core.specs.Ports.{line_bits}
+use Rattle.machine_commands.proofs.Common.{in_bay, InRange, has_ended, is_executing, is_held, dor_of, data_commands_of, Fdc, Board, controller_of, drive_in, lines_of, lines_of_drive, OnlyAsks, dor_with, IsReady, IsIdle, rig_of, Motors, option_map_or, line_bits, ReadsLine}
 use Rattle.fdc_core.specs.Drives.Lines.{absent_lines}
-use Rattle.machine_commands.specs.Asked.{ReadsLine}
 use Rattle.machine_commands.proofs.Idling.{IsResting, Idles}
 use Rattle.machine_commands.proofs.Accesses.{input_idles}
 use Rattle.machine_commands.proofs.Bytes.{IsListening}
@@ -75,9 +72,8 @@ idle_asks old new fdc idles numbers sent =
 -- ---- the selected drive
 
 lines_at : (board : Board) (bay : ℕ) → bay ≤ 1 → (if bay == 0 then lines_of_drive board.first else (if bay == 1 then lines_of_drive board.second else absent_lines)) ≡ lines_of_drive (drive_in board bay)
-lines_at board zero small = refl
-lines_at board (suc zero) small = refl
 lines_at board (suc (suc bay)) small = absurd (omega arith)
+lines_at board _ small = refl
 
 pub selected_lines : (motors : Motors) (bay : ℕ) (board : Board) → bay ≤ 1 → dor_of (controller_of board) ≡ dor_with motors bay → lines_of board ≡ lines_of_drive (drive_in board bay)
 selected_lines motors bay board small dor =

@@ -1,19 +1,9 @@
 -- Calls of the driver that change the rate of a bay.
 use Rattle.std.proofs.Common.{◌≡◌, ℕ, ◌<◌, ◌≤◌, ◌==◌, Bool, true, false, if◌then◌else◌, List, refl, sym, ap, ◌∙◌, subst}
 use Rattle.std.specs.Prelude.{is_some, is_ok, is_err, Option, Some, None, Result, Ok, Err, MatchOption, MatchBool}
-use Rattle.std.proofs.lemmas.Bool.{false≢true, le-leb, lt-leb}
-use Rattle.flop_base.specs.declared.answers.Rate.{Rate}
-use Rattle.flop_base.specs.declared.answers.Rate.TheVariants.{R500}
-use Rattle.flop_base.specs.declared.answers.Code.{Code}
+use Rattle.machine_commands.proofs.Common.{false≢true, le-leb, lt-leb, Rate, R500, Code, DriveCounts, faults_of, Rig, StationState, Bay, bay_of, fresh_bay, IsRefusedAtOnce, rate_refusal, Acks, AcksDrive, RatesTo, SetsRate, Driver, notes_of, flags_shown, with_rate}
 use Rattle.flop_base.specs.declared.answers.Code.TheVariants.{BadRequest}
-use Rattle.flop_base.specs.Counters.{DriveCounts, faults_of}
-use Rattle.floppy_driver.specs.Rigs.{Rig}
-use Rattle.sector_model.specs.Stations.{StationState, Bay, bay_of, fresh_bay}
-use Rattle.sector_model.specs.Orders.{IsRefusedAtOnce, rate_refusal}
-use Rattle.sector_model.specs.Calls.{Acks, AcksDrive, RatesTo, SetsRate}
-use Rattle.floppy_driver.specs.declared.driver.Driver.{Driver}
-use Rattle.floppy_driver.specs.Shown.{notes_of, is_held, shown}
-use Rattle.machine_commands.specs.Flagged.{flags_shown, with_rate}
+use Rattle.floppy_driver.specs.Shown.{is_held, shown}
 use Rattle.machine_commands.proofs.StationBays.{flags_rate, in_put}
 use Rattle.machine_commands.proofs.Keeping.{flags_refused}
 

@@ -1,28 +1,13 @@
 -- READ DATA.
 use Rattle.std.proofs.Common.{◌≡◌, ◌⊎◌, inl, inr, ℕ, zero, suc, ◌+◌, ◌-◌, ◌*◌, ◌/◌, ◌%◌, ◌<◌, ◌≤◌, Bool, true, false, List, [], ◌∷◌, length, get_or, Result as result, Ok, Err, IfOk, IfErr, refl, sym, ◌∙◌, ap, subst, arith}
-use Rattle.std.proofs.lemmas.Bool.{false≢true}
-use Rattle.std.proofs.lemmas.List.FromFn.{length-map-range_with_len}
-use Rattle.machine_commands.proofs.Common.{read_gap_at, Chrn, Code, Rate, in_bay, IsFaultless, with_items, user_bytes, set_up, IsAddressAt, IsSizeCode, content_size, HasTrack, track_of, InRange, Ready, Ending, NoMark, NoSector, NoField, BadCheck, Overrun, NoCount, Protected, Late, key_after, Sent, is_overrun, Long, Result, scene_of, Scene, track_met, IsCalm, HasBytes, Stalled, Board, channel_of, drive_in, memory_of, track_under, IsIdle, rig_of, Motors, Done}
+use Rattle.machine_commands.proofs.Common.{read_gap_at, Chrn, Code, Rate, in_bay, IsFaultless, with_items, user_bytes, set_up, IsAddressAt, IsSizeCode, content_size, HasTrack, track_of, InRange, Ready, Ending, NoMark, NoSector, NoField, BadCheck, Overrun, Late, key_after, Sent, is_overrun, Long, Result, scene_of, Scene, track_met, IsCalm, HasBytes, Stalled, Board, channel_of, drive_in, memory_of, track_under, IsIdle, rig_of, Motors, Done, false≢true, length-map-range_with_len, after_write, IsDataMark, IsWhole, ReadData, spells_read, Finished, Read, ends_late, is_late, IsRecorded, read_ended, read_outside, FindsField, IsReadReason, IsReadCode, IsReadMiss, ReadsData, ReadsBack, CostsFor, turn_same, mark_told, user_part, page_part}
 use Rattle.flop_base.specs.declared.answers.Code.TheVariants as code
-use Rattle.dma_8237.specs.Channel.{after_write}
 use Rattle.track_model.specs.Bytes.{byte_at}
-use Rattle.track_model.specs.Fields.{IsDataMark, IsWhole}
 use Rattle.track_model.specs.Sectors.{IsSector, IsLone}
-use Rattle.fdc_commands.specs.declared.command.Command.TheVariants.{ReadData}
 use Rattle.fdc_commands.specs.Reads.{SpellsRead}
-use Rattle.fdc_commands.proofs.ReadSpellings.{spells_read}
-use Rattle.fdc_stages.specs.declared.ending.Ending.TheVariants.{Done as Finished}
-use Rattle.laws_machine.specs.OnOrders.Orders.{Read}
-use Rattle.laws_machine.specs.OnReads.Ends.{ends_late, is_late}
 use Rattle.laws_machine.specs.OnReads.Results as heard
-use Rattle.laws_machine.specs.OnReads.Scenes.{IsRecorded}
-use Rattle.laws_machine.proofs.OnOrders.Ends.{read_ended, read_outside}
 use Rattle.laws_machine.proofs.OnReads.TrackMet.{rate_is, recorded}
-use Rattle.floppy_driver.specs.Reading.{FindsField, IsReadReason, IsReadCode, IsReadMiss, ReadsData, ReadsBack}
-use Rattle.floppy_driver.specs.Rigs.{CostsFor}
-use Rattle.floppy_driver.proofs.Lasting.{turn_same}
-use Rattle.machine_commands.specs.Awaited.{SendsRead, mark_told}
-use Rattle.machine_commands.specs.Shown.{user_part, page_part}
+use Rattle.machine_commands.specs.Awaited.{SendsRead}
 use Rattle.machine_commands.proofs.Beginning.{IsRun, head_of_sent, is_run, set_to_memory, small_drive}
 use Rattle.machine_commands.proofs.Landing.{SameBut, user_same, page_same, user_outside, user_with, page_with}
 use Rattle.machine_commands.proofs.Lasting.{channel_costs}
@@ -56,21 +41,15 @@ tells_by scene faults memory Stall NoSector says never overran key = record {
 tells_by scene faults memory Stall NoField says never overran key = record { coded = tt; cause = λ calm. inl (inr (says calm)); overrun = λ wrong. absurd cc }
 tells_by scene faults memory Stall BadCheck says never overran key = record { coded = tt; cause = λ calm. inl (says calm); overrun = λ wrong. absurd cc }
 tells_by scene faults memory Stall Overrun says never overran key = record { coded = tt; cause = λ calm. inr refl; overrun = λ _. overran refl }
-tells_by scene faults memory Stall NoCount says never overran key = absurd says
-tells_by scene faults memory Stall Protected says never overran key = absurd says
 tells_by scene faults memory Stall Late says never overran key = absurd (false≢true (sym never))
+tells_by scene faults memory Stall _ says never overran key = absurd says
 
 -- ---- sizes
 
 pub size_range : (n : ℕ) → IsSizeCode n → (1 ≤ content_size n) × (content_size n ≤ 8192)
 size_range zero coded = absurd (omega (arith, coded.0))
-size_range (suc zero) coded = (omega arith, omega arith)
-size_range (suc (suc zero)) coded = (omega arith, omega arith)
-size_range (suc (suc (suc zero))) coded = (omega arith, omega arith)
-size_range (suc (suc (suc (suc zero)))) coded = (omega arith, omega arith)
-size_range (suc (suc (suc (suc (suc zero))))) coded = (omega arith, omega arith)
-size_range (suc (suc (suc (suc (suc (suc zero)))))) coded = (omega arith, omega arith)
 size_range (suc (suc (suc (suc (suc (suc (suc n))))))) coded = absurd (omega (arith, coded.1))
+size_range _ coded = (omega arith, omega arith)
 
 pub in_page : (address size : ℕ) → 1 ≤ size → address / 65536 ≡ (address + size - 1) / 65536 → address % 65536 + (size - 1) < 65536
 in_page address size some same = omega arith

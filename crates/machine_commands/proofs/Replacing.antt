@@ -1,17 +1,8 @@
 -- A spare drive takes the place of one in a bay.
 use Rattle.std.proofs.Common.{◌≡◌, ℕ, ◌-◌, ◌∷◌, List, length, ap, ◌∙◌, arith}
 use Rattle.std.specs.Prelude.{None}
-use Rattle.flop_base.specs.Bays.{with_bay}
-use Rattle.drive_model.specs.Drive.{DriveState}
-use Rattle.floppy_driver.specs.Rigs.{Rig}
-use Rattle.sector_model.specs.Stations.{StationState, fresh_bay}
-use Rattle.sector_model.specs.Calls.{IsExchanged}
-use Rattle.pc_bus.specs.Counts.{counts_of}
-use Rattle.machine_commands.specs.Handled.{ExchangesDrive}
-use Rattle.floppy_driver.specs.declared.driver.Driver.{Driver}
+use Rattle.machine_commands.proofs.Common.{with_bay, DriveState, Rig, StationState, fresh_bay, IsExchanged, counts_of, ExchangesDrive, Driver, flags_shown, flags_of, all_counts}
 use Rattle.floppy_driver.specs.Shown.{shown}
-use Rattle.machine_commands.specs.Flagged.{flags_shown, flags_of}
-use Rattle.machine_commands.specs.StationShown.{all_counts}
 use Rattle.machine_commands.proofs.StationBays.{flags_put}
 use Rattle.machine_commands.proofs.StationHandling.{becomes_exchanged, past_driver}
 

@@ -1,12 +1,7 @@
 -- A reset and set-up, from any state of the machine.
 use Rattle.std.proofs.Common.{◌≡◌, ◌⊎◌, true, false, [], ◌∷◌, ◌++◌, refl, sym, ◌∙◌, ap, subst, arith}
-use Rattle.machine_commands.proofs.Common.{InRange, Ready, dor_written, ccr_written, Writes, dor_of, data_commands_of, polled, Fdc, Board, controller_of, lines_of, IsReset, IsReady, IsIdle, is_up, rig_of}
+use Rattle.machine_commands.proofs.Common.{InRange, Ready, dor_written, ccr_written, Writes, dor_of, data_commands_of, polled, Fdc, Board, controller_of, lines_of, IsReset, IsReady, IsIdle, is_up, rig_of, Specify, Configure, at_rest, with_polls, specified, configured, reset, Resets, none_on}
 use Rattle.fdc_commands.specs.Table.{answer}
-use Rattle.fdc_commands.specs.declared.command.Command.TheVariants.{Specify, Configure}
-use Rattle.fdc_commands.specs.Seeking.{at_rest, with_polls}
-use Rattle.fdc_core.specs.Commands.{specified, configured}
-use Rattle.fdc_core.specs.State.{reset}
-use Rattle.machine_commands.specs.Asked.{Resets, none_on}
 use Rattle.machine_commands.proofs.Idling.{IsResting, KeepsSpeed, KeepsAll, Idles}
 use Rattle.machine_commands.proofs.Accesses.{accessed_keeps, gap_idles, output_idles}
 use Rattle.machine_commands.proofs.Bytes.{IsListening, AreMore, with_bytes, whole_at}

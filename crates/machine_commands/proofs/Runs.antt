@@ -1,9 +1,6 @@
 -- Bytes that are sent one by one.
 use Rattle.std.proofs.Common.{◌≡◌, ℕ, ◌+◌, ◌<◌, ◌≤◌, List, [], ◌∷◌, ◌++◌, length, take, get_or, if◌then◌else◌, refl, sym, ◌∙◌, ap, subst, arith}
-use Rattle.std.proofs.lemmas.List.{take_more}
-use Rattle.machine_commands.proofs.Common.{Board, Outputs, stirred, last_count, counted, Sends, Settles, latch_taken}
-use Rattle.laws_machine.proofs.OnSteps.Using.{runs_taken}
-use Rattle.pc_bus.specs.Steps.{Runs}
+use Rattle.machine_commands.proofs.Common.{Board, Outputs, stirred, last_count, counted, Sends, Settles, latch_taken, take_more, runs_taken, Runs}
 use Rattle.machine_commands.proofs.PastDriver.{counted_if}
 
 -- one byte more

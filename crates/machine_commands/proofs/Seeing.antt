@@ -1,17 +1,8 @@
 -- What a driver sees of a data command, from an idle machine until the machine is idle again.
 use Rattle.std.proofs.Common.{◌≡◌, ℕ, zero, suc, ◌+◌, ◌-◌, ◌≤◌, ◌==◌, true, List, [], ◌∷◌, Some, is_some, min, nat_lt, if◌then◌else◌, slice_index, Result as result, refl, sym, ◌∙◌, ap, arith}
-use Rattle.std.proofs.lemmas.List.Sums.{sum_by-cons}
-use Rattle.machine_commands.proofs.Common.{last_count, RoseBy, Spends, Code, Rate, Two, in_bay, GoesOn, IsDriven, IsFaultless, IsUndisturbed, faults_of, spends_twice, DriveState, InRange, data_commands_of, Order, Scene, head_sent, track_met, IsCalm, Stalled, met_is, counted, Board, controller_of, drive_in, holds_of, memory_of, met_in, track_under, IsIdle, latch_taken, counters_of, is_spun, rig_of, stalls_left, Motors, Done}
-use Rattle.laws_machine.specs.OnAwaits.Awaits.{TurnsOn}
-use Rattle.pc_bus.specs.Counts.{long_holds}
+use Rattle.machine_commands.proofs.Common.{last_count, RoseBy, Spends, Code, Rate, Two, in_bay, GoesOn, IsDriven, IsFaultless, IsUndisturbed, faults_of, spends_twice, DriveState, InRange, data_commands_of, Order, Scene, head_sent, track_met, IsCalm, Stalled, met_is, counted, Board, controller_of, drive_in, holds_of, memory_of, met_in, track_under, IsIdle, latch_taken, counters_of, is_spun, rig_of, stalls_left, Motors, Done, sum_by-cons, TurnsOn, long_holds, most_steps_of, Uses, SendsRead, CostsFor, HeadsStay, turn_in, SendsWrite, page_part, user_part}
 use Rattle.laws_machine.specs.OnQuiet.Quiet.{HaveTurned}
-use Rattle.laws_machine.specs.OnReads.Ends.{most_steps_of}
-use Rattle.laws_machine.specs.OnSteps.Uses.{Uses}
-use Rattle.floppy_driver.specs.Reading.{SendsRead}
-use Rattle.floppy_driver.specs.Rigs.{CostsFor, HeadsStay, turn_in}
-use Rattle.floppy_driver.specs.Writing.{SendsWrite}
 use Rattle.sector_model.specs.Lasting.{turn_of}
-use Rattle.machine_commands.specs.Shown.{page_part, user_part}
 use Rattle.machine_commands.proofs.Beginning.{HasRun}
 use Rattle.machine_commands.proofs.Endings.{finished_idle}
 use Rattle.machine_commands.proofs.Idling.{KeepsDrive, KeepsSpeed}

@@ -1,11 +1,8 @@
 -- A seek from its first byte to the end of its result.
 use Rattle.std.proofs.Common.{◌≡◌, inl, inr, ℕ, zero, suc, ◌+◌, ◌≤◌, ◌==◌, false, List, [], ◌∷◌, ◌++◌, Some, None, slice_index, slice_set, refl, sym, ◌∙◌, ap, subst, arith}
-use Rattle.machine_commands.proofs.Common.{DriveState, Ready, Seeking, ended, sensed, after_sense, is_seeking, has_ended, Motion, Ended, Obeys, polled, Fdc, Lines, next_entry, Board, controller_of, drive_in, lines_of, Outputs, RunsGap, Bus, drive_stays, dor_with, IsIdle, is_up, Sends, Motors}
-use Rattle.fdc_commands.specs.Table.{answer}
+use Rattle.machine_commands.proofs.Common.{DriveState, Ready, Seeking, ended, sensed, after_sense, is_seeking, has_ended, Motion, Ended, Obeys, polled, Fdc, Lines, next_entry, Board, controller_of, drive_in, lines_of, Outputs, RunsGap, Bus, drive_stays, dor_with, IsIdle, is_up, Sends, Motors, answer, EndsSeek, none_pending}
 use Rattle.fdc_commands.specs.declared.command.Command.{Command}
-use Rattle.machine_commands.specs.Asked.{EndsSeek}
 use Rattle.machine_commands.proofs.Idling.{IsResting, KeepsDrive, KeepsSpeed, Idles}
-use Rattle.machine_commands.specs.Ready.{none_pending}
 use Rattle.machine_commands.proofs.Accesses.{accessed, accessed_keeps, same_drive, same_speed}
 use Rattle.machine_commands.proofs.Bytes.{IsListening, AreMore, with_bytes, listens_with, first_bytes, sends_parts, last_written}
 use Rattle.machine_commands.proofs.Questions.{ready_rests, ready_with, not_held}

@@ -2,17 +2,11 @@
 use Rattle.std.proofs.Common.{◌≡◌, ◌⊎◌, inl, inr, ℕ, zero, suc, ◌+◌, ◌-◌, ◌%◌, ◌<◌, ◌≤◌, ◌==◌, Bool, true, false, List, [], ◌∷◌, ◌++◌, Option, None, is_some, length, slice_index, slice_set, nat_lt, refl, sym, ◌∙◌, ap, subst, arith}
 use Rattle.std.specs.Prelude.{bit_and}
 use Rattle.std.proofs.Math.ListN.{length-set}
-use Rattle.std.proofs.lemmas.List.{get_or-set_other}
+use Rattle.machine_commands.proofs.Common.{RoseBy, DriveGoesOn, DriveState, InRange, Ready, Seeking, seek_bits, ended, after_sense, sought, recalibrated, Motion, Outward, Toward, Ended, dor_of, data_commands_of, Fdc, Board, controller_of, drive_in, dor_with, IsReady, IsIdle, AreSeeksOver, is_spun, number_of, rig_of, Motors, counts_of, get_or-set_other, false≢true, eqb_tells, nat_tests, Recalibrate, Seek, SendsRecalibrate, SendsSeek, user_part, page_part}
 use Rattle.std.proofs.lemmas.Grind.{get_or-set_at}
-use Rattle.std.proofs.lemmas.Bool.{false≢true}
-use Rattle.std.proofs.lemmas.Bool.Decides.{eqb_tells, nat_tests}
-use Rattle.machine_commands.proofs.Common.{RoseBy, DriveGoesOn, DriveState, InRange, Ready, Seeking, seek_bits, ended, after_sense, sought, recalibrated, Motion, Outward, Toward, Ended, dor_of, data_commands_of, Fdc, Board, controller_of, drive_in, dor_with, IsReady, IsIdle, AreSeeksOver, is_spun, number_of, rig_of, Motors, counts_of}
 use Rattle.fdc_commands.specs.Table.{answer}
-use Rattle.fdc_commands.specs.declared.command.Command.TheVariants.{Recalibrate, Seek}
 use Rattle.floppy_driver.specs.Heads.{MovesHeads, Recalibrates, Seeks}
-use Rattle.machine_commands.specs.Asked.{SendsRecalibrate, SendsSeek}
 use Rattle.machine_commands.proofs.Idling.{KeepsSpeed}
-use Rattle.machine_commands.specs.Shown.{user_part, page_part}
 use Rattle.machine_commands.proofs.Bytes.{AreMore}
 use Rattle.machine_commands.proofs.Moving.{MovesDrive, OutwardWay, OutwardOver, TowardWay, TowardOver, turns_move, outward_rule, toward_rule}
 use Rattle.machine_commands.proofs.Seeking.{Leaves, on_way, at_end}
@@ -53,9 +47,8 @@ recalibrated_told (suc zero) false small = refl
 recalibrated_told (suc (suc bay)) reached small = absurd (omega arith)
 
 sought_told : (bay : ℕ) → bay ≤ 1 → (sought bay == 0x80) ≡ false
-sought_told zero small = refl
-sought_told (suc zero) small = refl
 sought_told (suc (suc bay)) small = absurd (omega arith)
+sought_told _ small = refl
 
 -- the bit EQUIPMENT CHECK says that track 0 was not reached
 reached_told : (bay : ℕ) (reached : Bool) → bay ≤ 1 → (bit_and (recalibrated bay reached) 0x10 == 0) ≡ reached
@@ -67,8 +60,7 @@ reached_told (suc (suc bay)) reached small = absurd (omega arith)
 
 outward_ends : (drive : DriveState) (n : ℕ) (m : Motion) (now : DriveState) → 80 ≤ n → OutwardWay drive n m now → ⊥
 outward_ends drive n (Outward pulses) now long (left, stepped) = absurd (omega arith)
-outward_ends drive n (Toward cylinder target) now long way = way
-outward_ends drive n Ended now long way = way
+outward_ends drive n _ now long way = way
 
 recalibrate_command : (bay : ℕ) (fdc : Fdc) (drive : DriveState) → bay ≤ 1 → seek_bits fdc.seeks ≡ 0 → SeekCommand bay fdc drive (OutwardWay drive) (OutwardOver bay drive)
 recalibrate_command bay fdc drive small none = record {
@@ -278,9 +270,8 @@ outward_shown bay status number code old new small is over =
 
 recalibrates_rig : (bay : ℕ) (reached : Bool) (old new : Board) → bay ≤ 1 → MovesHeads bay (rig_of old) (rig_of new) → number_of new bay ≡ 0
     → OutwardShown bay reached (drive_in old bay) (drive_in new bay) → Recalibrates bay (rig_of old) reached (rig_of new)
-recalibrates_rig zero reached old new small moves number is = record { moves = moves; number = number; arrives = is.arrives; away = is.away; lost = is.lost }
-recalibrates_rig (suc zero) reached old new small moves number is = record { moves = moves; number = number; arrives = is.arrives; away = is.away; lost = is.lost }
 recalibrates_rig (suc (suc bay)) reached old new small moves number is = absurd (omega arith)
+recalibrates_rig _ reached old new small moves number is = record { moves = moves; number = number; arrives = is.arrives; away = is.away; lost = is.lost }
 
 pub recalibrates : (motors : Motors) (bay status : ℕ) (old new : Board) → IsIdle motors old → bay ≤ 1 → SendsRecalibrate motors bay old status new
     → Recalibrates bay (rig_of old) (bit_and status 0x10 == 0) (rig_of new)
@@ -317,11 +308,9 @@ sought_to motors bay target old new idle small within sends =
 
 seeks_rig : (bay target number code : ℕ) (old new : Board) → bay ≤ 1 → MovesHeads bay (rig_of old) (rig_of new) → number_of new bay ≡ target
     → TowardOver bay (drive_in old bay) (number_of old bay) target number code (drive_in new bay) → Seeks bay target (rig_of old) (rig_of new)
-seeks_rig zero target number code old new small moves now over =
-    record { moves = moves; number = now; arrives = over.follows; clears = λ some apart. over.clears apart some }
-seeks_rig (suc zero) target number code old new small moves now over =
-    record { moves = moves; number = now; arrives = over.follows; clears = λ some apart. over.clears apart some }
 seeks_rig (suc (suc bay)) target number code old new small moves now over = absurd (omega arith)
+seeks_rig _ target number code old new small moves now over =
+    record { moves = moves; number = now; arrives = over.follows; clears = λ some apart. over.clears apart some }
 
 pub seeks : (motors : Motors) (bay target : ℕ) (old new : Board) → IsIdle motors old → bay ≤ 1 → target ≤ 79 → SendsSeek motors bay target old new
     → Seeks bay target (rig_of old) (rig_of new)

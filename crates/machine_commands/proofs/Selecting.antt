@@ -1,15 +1,9 @@
 -- Writes of DOR: a bay is selected, and motors go on.
 use Rattle.std.proofs.Common.{◌≡◌, ◌≢◌, ◌↔◌, ℕ, zero, suc, ◌%◌, ◌^◌, ◌<◌, ◌≤◌, ◌==◌, Bool, true, false, if◌then◌else◌, IsTrue, refl, sym, ◌∙◌, ap, subst, arith}
-use Rattle.std.specs.Int.{IsBitSet}
+use Rattle.machine_commands.proofs.Common.{DriveState, Becomes, track_words, dor_written, dor_of, Fdc, Board, controller_of, Outputs, Bus, dor_with, Motors, IsBitSet, false≢true, with_gate, with_motor, becomes_at, resets, HasMotors}
 use Rattle.std.specs.Prelude.{bit_and}
-use Rattle.std.proofs.lemmas.Bool.{false≢true}
-use Rattle.machine_commands.proofs.Common.{DriveState, Becomes, track_words, dor_written, dor_of, Fdc, Board, controller_of, Outputs, Bus, dor_with, Motors}
-use Rattle.drive_model.specs.Drive.{with_gate, with_motor}
-use Rattle.drive_model.proofs.Passing.{becomes_at}
-use Rattle.fdc_core.specs.Ports.{resets}
 use Rattle.fdc_core.specs.Times.{Closes}
 use Rattle.machine_commands.proofs.Idling.{IsResting, KeepsDrive, KeepsSpeed, Idles}
-use Rattle.machine_commands.specs.Ready.{HasMotors}
 use Rattle.machine_commands.proofs.Accesses.{accessed, accessed_keeps, gap_idles}
 use Rattle.machine_commands.proofs.Steps.{drive_then, idles_then}
 
@@ -56,10 +50,9 @@ dor_is_written fdc byte released = rw released refl
 -- ---- the drives
 
 same_truth : (a b : Bool) (P : Type 0) → (IsTrue a ↔ P) → (IsTrue b ↔ P) → a ≡ b
-same_truth true true P one two = refl
-same_truth false false P one two = refl
 same_truth true false P one two = absurd (false≢true (two.1 (one.0 refl)))
 same_truth false true P one two = absurd (false≢true (one.1 (two.0 refl)))
+same_truth _ _ P one two = refl
 
 -- the motor line is on or off; nothing else of the drive changed, but its speed
 pub record IsSwitched (on : Bool) (old new : DriveState) : Type 0 where

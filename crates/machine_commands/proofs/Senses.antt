@@ -1,11 +1,8 @@
 -- SENSE INTERRUPT where a result is pending.
 use Rattle.std.proofs.Common.{◌≡◌, ℕ, ◌==◌, false, [], ◌∷◌, ◌++◌, Some, refl, sym, ◌∙◌, ap, subst}
-use Rattle.machine_commands.proofs.Common.{Ready, is_seeking, sensed, after_sense, answered, given, result_byte, Fdc, Command, Board, controller_of}
+use Rattle.machine_commands.proofs.Common.{Ready, is_seeking, sensed, after_sense, answered, given, result_byte, Fdc, Command, Board, controller_of, SenseInterrupt, sensing_by, Senses, TakesNumber}
 use Rattle.fdc_commands.specs.Table.{answer}
-use Rattle.fdc_commands.specs.declared.command.Command.TheVariants.{SenseInterrupt}
-use Rattle.fdc_core.specs.Commands.{sensing_by}
 use Rattle.machine_commands.proofs.Idling.{IsResting, Idles}
-use Rattle.machine_commands.specs.Sending.{Senses, TakesNumber}
 use Rattle.machine_commands.proofs.Accesses.{input_idles}
 use Rattle.machine_commands.proofs.Bytes.{IsListening, with_bytes, whole_at}
 use Rattle.machine_commands.proofs.Steps.{idles_then}

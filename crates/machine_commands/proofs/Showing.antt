@@ -1,10 +1,7 @@
 -- What a driver sees of a board that keeps all.
 use Rattle.std.proofs.Common.{◌≡◌, ℕ, ◌≤◌, true, nat_le, slice_index, is_some, refl, ◌∙◌, ap, arith}
-use Rattle.std.proofs.lemmas.Bool.{and_parts}
-use Rattle.std.proofs.lemmas.Bool.Decides.{nat_tests}
-use Rattle.machine_commands.proofs.Common.{Two, DriveGoesOn, GoesOn, IsDriven, DriveState, turns, data_commands_of, Board, controller_of, holds_of, IsReset, OnlyAsks, counts_of, is_spun, stalls_left, counters_of, rig_of}
+use Rattle.machine_commands.proofs.Common.{Two, DriveGoesOn, GoesOn, IsDriven, DriveState, turns, data_commands_of, Board, controller_of, holds_of, IsReset, OnlyAsks, counts_of, is_spun, stalls_left, counters_of, rig_of, and_parts, nat_tests, user_part, page_part}
 use Rattle.machine_commands.proofs.Idling.{KeepsDrive, KeepsSpeed, KeepsAll}
-use Rattle.machine_commands.specs.Shown.{user_part, page_part}
 
 pub two_same : {T : Type 0} (a b c d : T) → a ≡ c → b ≡ d → (let x : Two T = record { first = a; second = b } in x) ≡ (let y : Two T = record { first = c; second = d } in y)
 two_same a b c d one two = ap (λ v. let x : Two _ = record { first = v; second = b } in x) one ∙ ap (λ v. let x : Two _ = record { first = c; second = v } in x) two

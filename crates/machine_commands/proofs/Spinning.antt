@@ -1,11 +1,7 @@
 -- A motor that goes on.
 use Rattle.std.proofs.Common.{◌≡◌, ℕ, zero, suc, ◌+◌, ◌≤◌, ◌==◌, ◌&&◌, ◌||◌, Bool, true, false, min, nat_le, IsSome, is_some, refl, sym, ◌∙◌, ap, subst, arith}
-use Rattle.std.proofs.lemmas.Bool.{or_right}
-use Rattle.std.proofs.lemmas.Bool.Decides.{nat_tests}
-use Rattle.machine_commands.proofs.Common.{in_bay, DriveState, InRange, turns, dor_of, data_commands_of, Fdc, Board, controller_of, OnlyAsks, dor_with, IsReady, IsIdle, is_up, is_spun, rig_of, Motors}
-use Rattle.machine_commands.specs.Asked.{StartsMotor}
+use Rattle.machine_commands.proofs.Common.{in_bay, DriveState, InRange, turns, dor_of, data_commands_of, Fdc, Board, controller_of, OnlyAsks, dor_with, IsReady, IsIdle, is_up, is_spun, rig_of, Motors, or_right, nat_tests, StartsMotor, with_motor_of}
 use Rattle.machine_commands.proofs.Idling.{IsResting, KeepsSpeed, KeepsAll, Idles}
-use Rattle.machine_commands.specs.Motored.{with_motor_of}
 use Rattle.machine_commands.proofs.Accesses.{accessed_keeps, gap_idles}
 use Rattle.machine_commands.proofs.Questions.{ready_rests, ready_with}
 use Rattle.machine_commands.proofs.Selecting.{IsSwitched, IsDorWritten, is_dor, with_dor, dor_access, dor_is_written}

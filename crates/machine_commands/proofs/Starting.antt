@@ -1,27 +1,12 @@
 -- A station before the first request.
 use Rattle.std.proofs.Common.{◌≡◌, ℕ, ◌+◌, ◌<◌, ◌≤◌, ◌^◌, List, length, take, Bool, false, refl, sym, ap, ◌∙◌, subst, arith}
 use Rattle.std.specs.Prelude.{◌&&◌, not, nat_lt, All, Option, Some, None, if◌then◌else◌}
-use Rattle.std.proofs.lemmas.List.{length-take-le, take-replicate}
-use Rattle.std.proofs.lemmas.List.Sums.{count_by-le-length}
-use Rattle.flop_base.specs.declared.answers.Rate.TheVariants.{R500}
-use Rattle.raw_image.specs.Disk.{Disk}
-use Rattle.flop_base.specs.Bays.{Two, both}
-use Rattle.flop_base.specs.Counters.{DriveCounts, DriveTells}
-use Rattle.flop_base.specs.Memory.{user_bytes, zeroes}
-use Rattle.drive_model.specs.Drive.{DriveState}
-use Rattle.irq_events.specs.Holds.{Holds}
-use Rattle.pc_bus.specs.declared.bus.Bus.{Bus}
-use Rattle.pc_bus.specs.Boards.{AreSetIfEmpty, Board, holds_of}
+use Rattle.machine_commands.proofs.Common.{length-take-le, take-replicate, count_by-le-length, R500, Disk, Two, both, DriveCounts, DriveTells, user_bytes, DriveState, Holds, Bus, AreSetIfEmpty, Board, holds_of, CostsFor, Rig, IsReset, Bay, IsFresh, fresh_bay, stalls_left, rig_of, Notes, Driver, bay_shown, IsFreshDriver, CanSetUp, flags_of_both}
+use Rattle.flop_base.specs.Memory.{zeroes}
 use Rattle.pc_bus.specs.Calls.{AreCalled}
-use Rattle.floppy_driver.specs.Rigs.{CostsFor, Rig, IsReset}
-use Rattle.sector_model.specs.Stations.{Bay, IsFresh, fresh_bay}
 use Rattle.laws_machine.proofs.OnLines.Showing.{calls_lines, new_lines}
-use Rattle.machine_commands.specs.Shown.{user_part, stalls_left, rig_of}
-use Rattle.floppy_driver.specs.declared.driver.Notes.{Notes}
-use Rattle.floppy_driver.specs.declared.driver.Driver.{Driver}
-use Rattle.floppy_driver.specs.Shown.{shown, bay_shown, IsFreshDriver}
-use Rattle.floppy_driver.specs.Attached.{CanSetUp}
-use Rattle.machine_commands.specs.Flagged.{flags_of_both}
+use Rattle.machine_commands.specs.Shown.{user_part}
+use Rattle.floppy_driver.specs.Shown.{shown}
 use Rattle.machine_commands.specs.Started.{IsFreshBoard, Starts}
 
 -- ---- memory

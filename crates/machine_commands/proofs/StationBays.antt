@@ -1,12 +1,8 @@
 -- Two of a kind, and the flags of bays.
 use Rattle.std.proofs.Common.{◌≡◌, ℕ, ◌==◌, Bool, true, false, if◌then◌else◌, refl, sym, ap, ◌∙◌}
 use Rattle.std.specs.Prelude.{is_some, Option}
-use Rattle.flop_base.specs.declared.answers.Rate.{Rate}
-use Rattle.raw_image.specs.Disk.{Disk}
-use Rattle.flop_base.specs.Bays.{Two, in_bay, with_bay}
-use Rattle.sector_model.specs.Stations.{Bay}
+use Rattle.machine_commands.proofs.Common.{Rate, Disk, Two, in_bay, with_bay, Bay, flags_of, flags_of_both, with_rate}
 use Rattle.machine_commands.specs.declared.flags.BayFlags.{BayFlags}
-use Rattle.machine_commands.specs.Flagged.{flags_of, flags_of_both, with_rate}
 
 flags_put_at : (b : Bool) (bays : Two Bay) (value : Bay) → flags_of_both (if b then record bays { first = value } else record bays { second = value }) ≡ (if b then record (flags_of_both bays) { first = flags_of value } else record (flags_of_both bays) { second = flags_of value })
 flags_put_at true bays value = refl

@@ -1,20 +1,10 @@
 -- Calls past the driver, on media and memory.
 use Rattle.std.proofs.Common.{◌≡◌, ℕ, ◌==◌, Bool, true, false, if◌then◌else◌, List, refl, sym, ap, ◌∙◌}
 use Rattle.std.specs.Prelude.{◌&&◌, not, is_some, is_err, IsSome, Option, Some, None, Result, Ok, Err}
-use Rattle.std.proofs.lemmas.Bool.{false≢true}
-use Rattle.flop_base.specs.declared.answers.Rate.TheVariants.{R500}
-use Rattle.raw_image.specs.Disk.{Disk}
-use Rattle.flop_base.specs.Bays.{Two, in_bay, with_bay}
-use Rattle.flop_base.specs.Counters.{Counters, DriveCounts, GoesOn, IsPastDriver}
-use Rattle.floppy_driver.specs.Rigs.{Rig}
-use Rattle.sector_model.specs.Stations.{StationState, Bay, Becomes, Stays, bay_of, set_bay, fresh_bay}
-use Rattle.sector_model.specs.Calls.{Inserts, Ejects, Exchanges, IsUnmoved, SetsMemory}
-use Rattle.machine_commands.specs.Handled.{Untouched, Exchanged, PutsIn, TakesOut, PutsMemory}
-use Rattle.floppy_driver.specs.declared.driver.Notes.{Notes}
-use Rattle.floppy_driver.specs.declared.driver.Driver.{Driver}
-use Rattle.floppy_driver.specs.Shown.{shown, bay_shown, with_waiting}
+use Rattle.machine_commands.proofs.Common.{false≢true, R500, Disk, Two, in_bay, with_bay, Counters, DriveCounts, GoesOn, IsPastDriver, Rig, StationState, Bay, Stays, bay_of, set_bay, fresh_bay, Inserts, Ejects, Exchanges, IsUnmoved, SetsMemory, Untouched, Exchanged, PutsIn, TakesOut, PutsMemory, Notes, Driver, bay_shown, with_waiting, flags_shown, flags_of}
+use Rattle.sector_model.specs.Stations.{Becomes}
+use Rattle.floppy_driver.specs.Shown.{shown}
 use Rattle.machine_commands.specs.declared.flags.Flags.{Flags}
-use Rattle.machine_commands.specs.Flagged.{flags_shown, flags_of}
 use Rattle.machine_commands.proofs.StationBays.{flags_put}
 
 -- ---- counts

@@ -1,14 +1,8 @@
 -- SENSE DRIVE STATUS of a machine that is idle.
 use Rattle.std.proofs.Common.{◌≡◌, ℕ, zero, suc, ◌^◌, ◌≤◌, ◌==◌, not, Bool, true, false, [], ◌∷◌, ◌++◌, Option, Some, None, refl, sym, ◌∙◌, ap, subst, arith}
 use Rattle.std.specs.Prelude.{bit_and}
-use Rattle.std.specs.Int.RustNames.{bit_or}
-use Rattle.std.specs.Option.{option_map_or}
-use Rattle.machine_commands.proofs.Common.{in_bay, Disk, InRange, Ready, Seeking, seek_bits, answered, given, result_byte, dor_of, Fdc, Board, controller_of, drive_in, lines_of, lines_of_drive, OnlyAsks, dor_with, IsReady, IsIdle, AreSeeksOver, rig_of, Motors}
-use Rattle.drive_model.specs.Drive.{is_protected}
+use Rattle.machine_commands.proofs.Common.{in_bay, Disk, InRange, Ready, Seeking, seek_bits, answered, given, result_byte, dor_of, Fdc, Board, controller_of, drive_in, lines_of, lines_of_drive, OnlyAsks, dor_with, IsReady, IsIdle, AreSeeksOver, rig_of, Motors, bit_or, option_map_or, is_protected, SenseDrive, bits_if, status_of_lines, SensesDrive}
 use Rattle.fdc_commands.specs.Table.{answer}
-use Rattle.fdc_commands.specs.declared.command.Command.TheVariants.{SenseDrive}
-use Rattle.fdc_core.specs.Commands.{bits_if, status_of_lines}
-use Rattle.machine_commands.specs.Asked.{SensesDrive}
 use Rattle.machine_commands.proofs.Idling.{IsResting, Idles}
 use Rattle.machine_commands.proofs.Accesses.{input_idles}
 use Rattle.machine_commands.proofs.Bytes.{AreMore, with_bytes, whole_command, lines_kept}

@@ -1,16 +1,9 @@
 -- Device steps of a controller that rests.
 use Rattle.std.proofs.Common.{◌≡◌, ℕ, ◌+◌, ◌<◌, ◌≤◌, ◌==◌, ◌&&◌, ◌||◌, not, Bool, true, false, List, Option, Some, None, if◌then◌else◌, nat_lt, is_some, min, refl, sym, ◌∙◌, ap, subst, arith}
-use Rattle.std.proofs.lemmas.Bool.{and_right}
-use Rattle.std.specs.Option.{option_map_or}
-use Rattle.std.proofs.lemmas.Bool.Decides.{nat_tests}
-use Rattle.machine_commands.proofs.Common.{spends_twice, DriveState, Becomes, turns, track_words, Seeking, stepped_seek, is_seeking, has_ended, pulse_due, pulse_of, Motion, Outward, Toward, Ended, is_executing, asks, interrupts, is_held, polled, seek_stepped, RestsIn, MovesIn, Moves, Fdc, Phase, Command, Execute, Result, Low, Board, controller_of, channel_of, holds_of, regapped, Marching, Steady, march_wait, controller, Step, stirred, Chips, is_up}
-use Rattle.flop_base.proofs.Counted.{spends_itself}
+use Rattle.machine_commands.proofs.Common.{spends_twice, DriveState, turns, track_words, Seeking, stepped_seek, is_seeking, has_ended, pulse_due, pulse_of, Motion, Ended, is_executing, asks, interrupts, is_held, polled, seek_stepped, RestsIn, MovesIn, Moves, Fdc, Phase, Execute, Low, Board, controller_of, channel_of, holds_of, regapped, Marching, Steady, march_wait, controller, Step, stirred, Chips, is_up, and_right, option_map_or, nat_tests, spends_itself, is_gated, let_pass, Runs}
 use Rattle.fdc_commands.specs.declared.motion.Seek.{Seek}
-use Rattle.fdc_core.specs.State.{is_gated}
-use Rattle.fdc_core.specs.Steps.{let_pass}
 use Rattle.laws_machine.proofs.OnQuiet.Turning.{turned_calmly}
 use Rattle.laws_machine.proofs.OnSteps.Words.{drives}
-use Rattle.pc_bus.specs.Steps.{Runs}
 use Rattle.pc_bus.specs.Transfers.{dma_stepped}
 use Rattle.machine_commands.proofs.Idling.{IsResting, KeepsDrive, KeepsSpeed, KeepsAll, StaysIdle, Idles}
 
@@ -34,9 +27,8 @@ low_line fdc low = and_right (is_gated fdc) fdc.interrupt low
 -- ---- seeks
 
 still_motion : (seeks : Seeking) (drive : ℕ) (motion : Motion) (track0 : Bool) → not (has_ended motion) ≡ false → stepped_seek seeks drive motion track0 ≡ seeks
-still_motion seeks drive (Outward pulses) track0 runs = absurd cc
-still_motion seeks drive (Toward cylinder target) track0 runs = absurd cc
 still_motion seeks drive Ended track0 over = refl
+still_motion seeks drive _ track0 runs = absurd cc
 
 still_seek : (seeks : Seeking) (seek : Option Seek) (track0 : Bool) → option_map_or (λ s. not (has_ended s.motion)) seek false ≡ false
     → option_map_or (λ s. stepped_seek seeks s.drive s.motion track0) seek seeks ≡ seeks
@@ -44,9 +36,8 @@ still_seek seeks None track0 over = refl
 still_seek seeks (Some seek) track0 over = still_motion seeks seek.drive seek.motion track0 over
 
 no_motion : (motion : Motion) (track0 : Bool) → not (has_ended motion) ≡ false → pulse_of motion track0 ≡ None
-no_motion (Outward pulses) track0 runs = absurd cc
-no_motion (Toward cylinder target) track0 runs = absurd cc
 no_motion Ended track0 over = refl
+no_motion _ track0 runs = absurd cc
 
 no_pulse_of : (seek : Option Seek) (track0 : Bool) → option_map_or (λ s. not (has_ended s.motion)) seek false ≡ false
     → option_map_or (λ s. pulse_of s.motion track0) seek None ≡ None
@@ -65,9 +56,8 @@ pub unpolled : (fdc : Fdc) → (fdc.poll_due && not (is_held fdc)) ≡ false →
 unpolled fdc none = rw none refl
 
 pub rests_in : (phase : Phase) (old : Fdc) (track0 : Bool) (new : Fdc) → is_executing phase ≡ false → RestsIn phase track0 old new → new ≡ seek_stepped track0 old
-rests_in Command old track0 new idle is = is
 rests_in (Execute execution) old track0 new busy is = absurd cc
-rests_in (Result answer) old track0 new idle is = is
+rests_in _ old track0 new idle is = is
 
 -- a controller that rests once the poll has come stays as it is
 stays_same : (old polled_to : Fdc) (track0 : Bool) (new : Fdc) → polled old ≡ polled_to → IsResting polled_to → RestsIn (polled old).phase track0 (polled old) new → new ≡ polled_to
@@ -106,9 +96,8 @@ gate_turns before after is =
 
 pub moves_in : (phase : Phase) (fdc : Fdc) (before after : DriveState) → is_executing phase ≡ false → MovesIn phase fdc before after
     → Moves (pulse_due fdc.seeks (before.cylinder == 0)) before after
-moves_in Command fdc before after idle is = is
 moves_in (Execute execution) fdc before after busy is = absurd cc
-moves_in (Result answer) fdc before after idle is = is
+moves_in _ fdc before after idle is = is
 
 moves_turn : (old polled_to : Fdc) (before after : DriveState) → polled old ≡ polled_to → IsResting polled_to → MovesIn (polled old).phase (polled old) before after → OnlyTurns before after
 moves_turn old polled_to before after poll rest is =

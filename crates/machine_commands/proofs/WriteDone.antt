@@ -1,17 +1,10 @@
 -- A whole WRITE DATA or WRITE DELETED DATA, from an idle machine until the machine is idle again.
 use Rattle.std.proofs.Common.{◌≡◌, ℕ, ◌+◌, ◌-◌, ◌*◌, ◌%◌, ◌<◌, ◌≤◌, Bool, true, false, [], ◌∷◌, Option, Result, refl, sym, ◌∙◌, ap, subst, arith}
-use Rattle.std.specs.Option.{option_map_or}
-use Rattle.machine_commands.proofs.Common.{read_gap_at, Chrn, Rate, Code, in_bay, user_bytes, bytes_from, set_up, InRange, Ready, key_after, Sent, Long, Window, Write, scene_of, only, Board, channel_of, drive_in, memory_of, Change, WritesData, IsSizeCode, content_size, sector_bytes, IsIdle, Sends, rig_of, told_of, Motors, Done}
-use Rattle.dma_8237.specs.Channel.{after_write}
+use Rattle.machine_commands.proofs.Common.{read_gap_at, Chrn, Rate, Code, in_bay, user_bytes, bytes_from, set_up, InRange, Ready, key_after, Sent, Long, Window, Write, scene_of, only, Board, channel_of, drive_in, memory_of, Change, WritesData, IsSizeCode, content_size, sector_bytes, IsIdle, Sends, rig_of, told_of, Motors, Done, option_map_or, after_write, spells_write, WriteEndedIn, CostsFor, write_turn, SendsWriteBytes}
 use Rattle.fdc_commands.specs.Writes.{write_code, write_command}
-use Rattle.fdc_commands.proofs.WriteSpellings.{spells_write}
 use Rattle.fdc_phases.specs.declared.phases.Phase.TheVariants as phase
 use Rattle.laws_machine.specs.OnWrites.Begins.{write_of}
-use Rattle.laws_machine.specs.OnWrites.Results.{WriteEndedIn}
 use Rattle.laws_machine.proofs.OnOrders.Ends.{ended}
-use Rattle.floppy_driver.specs.Rigs.{CostsFor}
-use Rattle.floppy_driver.proofs.Lasting.{write_turn}
-use Rattle.machine_commands.specs.WriteSent.{SendsWriteBytes}
 use Rattle.machine_commands.proofs.Beginning.{IsRun, head_of_sent, is_run, set_from_memory, small_drive}
 use Rattle.machine_commands.proofs.Lasting.{channel_costs}
 use Rattle.machine_commands.proofs.Outcomes.{outcome_is, told_as}

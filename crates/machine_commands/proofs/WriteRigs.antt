@@ -1,23 +1,16 @@
 -- A WRITE DATA or WRITE DELETED DATA as its driver sees it.
 use Rattle.std.proofs.Common.{◌≡◌, ◌⊎◌, inl, inr, ℕ, zero, suc, ◌+◌, ◌-◌, ◌≤◌, Bool, true, false, List, length, take, drop, Option, Some, None, Result, Err, refl, sym, ◌∙◌, ap, subst, arith}
 use Rattle.std.specs.Prelude.{IsOk, IfErr, MatchOption}
-use Rattle.std.proofs.lemmas.Bool.{false≢true}
-use Rattle.std.proofs.lemmas.List.{take-take, drop-take}
-use Rattle.machine_commands.proofs.Common.{RoseBy, Rate, R500, R250, Code, Two, in_bay, IsFaultless, IsUndisturbed, user_bytes, bytes_from, HasTrack, track_of, Change, HasClearAddress, met_in, IsAddressAt, content_size, is_overrun, rate_fits, Long, Ending, Window, Write, Stalled, met_is, Scene, data_rate, head_sent, track_met, IsUnchanged, Board, drive_in, memory_of, track_under, WritesData, counters_of, rig_of, told_of, Motors, Done, Chrn}
+use Rattle.machine_commands.proofs.Common.{RoseBy, Rate, R500, R250, Code, Two, in_bay, IsFaultless, IsUndisturbed, user_bytes, bytes_from, HasTrack, track_of, Change, HasClearAddress, met_in, IsAddressAt, content_size, is_overrun, rate_fits, Long, Ending, Window, Write, Stalled, met_is, Scene, data_rate, head_sent, track_met, IsUnchanged, Board, drive_in, memory_of, track_under, WritesData, counters_of, rig_of, told_of, Motors, Done, Chrn, false≢true, take-take, drop-take, Written, window_of, length-met_track, met_track, nothing_from, rates_same, Laid, WriteEndsAs, HasChanged, IsInsideTrack, IsWholeWindow, written_in, ChangesMedium, HasWindowOut, IsWriteMiss}
 use Rattle.flop_base.specs.declared.answers.Code.TheVariants as code
-use Rattle.sector_map.specs.Changes.{Written, window_of}
 use Rattle.sector_map.specs.Met.{HasNoClearMark, same_rate}
 use Rattle.sector_map.specs.MetTracks.{MeetsTrack}
-use Rattle.sector_map.proofs.MetTracks.{length-met_track, met_track, nothing_from, rates_same}
 use Rattle.track_model.specs.Looks.{HasAddressMark}
 use Rattle.fdc_phases.specs.declared.phases.Phase.TheVariants as phase
 use Rattle.fdc_stages.specs.Searches.{HasNoClear}
 use Rattle.fdc_stages.specs.declared.ending.Ending.TheVariants as ending
-use Rattle.laws_machine.specs.OnOrders.Orders.{Laid}
-use Rattle.laws_machine.specs.OnWrites.Results.{WriteEndsAs, HasChanged, IsInsideTrack, IsWholeWindow, written_in}
 use Rattle.laws_machine.specs.OnWrites.Results as write
 use Rattle.laws_machine.proofs.OnWrites.Results.{changes_disk}
-use Rattle.floppy_driver.specs.Writing.{ChangesMedium, HasWindowOut, IsWriteMiss}
 use Rattle.machine_commands.specs.Shown.{user_part}
 use Rattle.machine_commands.proofs.Showing.{two_same}
 use Rattle.machine_commands.proofs.Beginning.{HasRun}
@@ -216,9 +209,7 @@ module _ {deleted : Bool} {scene : Scene} {motors : Motors} {rate : Rate} {start
       by_way (inl is) = refuses None code.Overrun (unchanged is) missed
       by_way (inr changed) = refuses (Some changed.change) code.Overrun (changes changed (λ none inside. absurd (unstalled run none stalled))) missed
   shows_as key ending.Protected (is, protected) stalls = absurd (false≢true (sym on.unprotected ∙ protected))
-  shows_as key ending.BadCheck none stalls = absurd none
-  shows_as key ending.NoCount none stalls = absurd none
-  shows_as key ending.Late none stalls = absurd none
+  shows_as key _ none stalls = absurd none
 
   -- what the driver is answered, and what the command wrote
   pub write_shown : (key : Chrn) (over : Ending) → WriteEndsAs scene deleted (drive_in now scene.bay) over → (over ≡ ending.Overrun → Stalled start now)

@@ -1,8 +1,6 @@
 -- What a command does at the ports, from its first access on.
 use Rattle.std.specs.Prelude.{◌≡◌, ◌==◌, ℕ, Bool, false, [], ◌∷◌}
-use Rattle.pc_bus.specs.Boards.{Board}
-use Rattle.pc_bus.specs.Ports.{Inputs, Outputs}
-use Rattle.pc_bus.specs.Steps.{Runs, stirred}
+use Rattle.machine_commands.specs.Common.{Board, Inputs, Outputs, Runs, stirred}
 use Rattle.machine_commands.specs.Motored.{with_motor_of}
 use Rattle.machine_commands.specs.Ready.{dor_with}
 use Rattle.machine_commands.specs.Sending.{Sends, Senses, Settles}

@@ -1,17 +1,7 @@
 -- What a data command does at the ports, from its set-up to its results.
 use Rattle.std.specs.Prelude.{◌≡◌, ◌⊎◌, ◌≤◌, ℕ, zero, suc, ◌==◌, ◌+◌, ◌-◌, ◌*◌, ◌/◌, ◌%◌, Bool, true, false, if◌then◌else◌, List, [], ◌∷◌, length, Result, Ok, Err}
 use Rattle.flop_base.specs.Counts.{last_count}
-use Rattle.flop_base.specs.Standard.{read_gap_at}
-use Rattle.flop_base.specs.declared.key.Chrn.{Chrn}
-use Rattle.flop_base.specs.declared.answers.Rate.{Rate}
-use Rattle.flop_base.specs.declared.answers.Code.{Code}
-use Rattle.drive_model.specs.Drive.{InRange}
-use Rattle.track_model.specs.Fields.{content_size}
-use Rattle.fdc_core.specs.State.{data_commands_of}
-use Rattle.pc_bus.specs.Boards.{Board, controller_of, holds_of, memory_of}
-use Rattle.pc_bus.specs.Ports.{Inputs, Outputs}
-use Rattle.pc_bus.specs.Steps.{Runs, Waits, stirred}
-use Rattle.irq_events.specs.Holds.{AreShort}
+use Rattle.machine_commands.specs.Common.{read_gap_at, Chrn, Rate, Code, InRange, content_size, data_commands_of, Board, controller_of, holds_of, memory_of, Inputs, Outputs, Runs, Waits, stirred, AreShort}
 use Rattle.machine_commands.specs.Codes.{has_set, refusal_of, rate_byte}
 use Rattle.machine_commands.specs.Ready.{dor_with}
 use Rattle.machine_commands.specs.Sending.{Sends, Settles, latch_taken}

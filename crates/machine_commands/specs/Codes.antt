@@ -1,8 +1,6 @@
 -- What the results of a data command come to.
 use Rattle.std.specs.Prelude.{ℕ, Bool, not, ◌==◌, if◌then◌else◌, bit_and}
-use Rattle.flop_base.specs.declared.answers.Rate.{Rate}
-use Rattle.flop_base.specs.declared.answers.Rate.TheVariants.{R500, R250}
-use Rattle.flop_base.specs.declared.answers.Code.{Code}
+use Rattle.machine_commands.specs.Common.{Rate, R500, R250, Code}
 use Rattle.flop_base.specs.declared.answers.Code.TheVariants.{Protected, Overrun, NoMark, NotFound, BadCrc}
 use Rattle.fdc_registers.specs.St1.{not_writable, overrun, missing_mark, no_data}
 

@@ -1,8 +1,6 @@
 -- The flags that a station keeps of its bays.
 use Rattle.std.specs.Prelude.{ℕ, is_some}
-use Rattle.flop_base.specs.declared.answers.Rate.{Rate}
-use Rattle.flop_base.specs.Bays.{Two, in_bay, with_bay}
-use Rattle.sector_model.specs.Stations.{Bay, StationState}
+use Rattle.machine_commands.specs.Common.{Rate, Two, in_bay, with_bay, Bay, StationState}
 use Rattle.machine_commands.specs.declared.flags.BayFlags.{BayFlags}
 
 -- the flags of two bays, with another rate for one

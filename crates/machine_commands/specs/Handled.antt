@@ -2,9 +2,7 @@
 -- user memory is set.
 use Rattle.std.specs.Prelude.{◌≡◌, ◌≤◌, ◌-◌, ℕ, true, slice_set, Option, Some, None, IsSome, Result, Ok, Err}
 use Rattle.raw_image.specs.Disk.{Disk}
-use Rattle.flop_base.specs.Bays.{in_bay, with_bay}
-use Rattle.flop_base.specs.Counters.{Counters, DriveCounts, DriveGoesOn, GoesOn, IsPastDriver}
-use Rattle.floppy_driver.specs.Rigs.{Rig}
+use Rattle.machine_commands.specs.Common.{in_bay, with_bay, Counters, DriveCounts, DriveGoesOn, GoesOn, IsPastDriver, Rig}
 
 -- nothing but counts was changed
 pub record Untouched (old new : Rig) : Type 0 where

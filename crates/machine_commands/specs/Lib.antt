@@ -1,3 +1,4 @@
+pub mod Common
 pub mod Sending
 pub mod Ready
 pub mod Shown

@@ -1,11 +1,9 @@
 -- A machine that is set up, between two commands.
 use Rattle.std.specs.Prelude.{◌≡◌, ◌≤◌, ◌+◌, ℕ, Bool, true, false, List, [], ◌∷◌, Option, None, length, slice_index, if◌then◌else◌}
-use Rattle.drive_model.specs.Drive.{InRange}
+use Rattle.machine_commands.specs.Common.{InRange, dor_of, Board, controller_of, latch_of}
 use Rattle.fdc_commands.specs.Seeking.{Seeking}
-use Rattle.fdc_core.specs.State.{dor_of}
 use Rattle.fdc_core.specs.declared.controller.Fdc.{Fdc}
 use Rattle.fdc_phases.specs.declared.phases.Phase.TheVariants.{Command}
-use Rattle.pc_bus.specs.Boards.{Board, controller_of, latch_of}
 use Rattle.machine_commands.specs.declared.motors.Motors.{Motors}
 
 -- the level of the line that the latch saw last

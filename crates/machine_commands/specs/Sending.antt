@@ -1,9 +1,7 @@
 -- Bytes to and from the controller.
 use Rattle.std.specs.Prelude.{◌≡◌, ◌≤◌, ◌==◌, ℕ, Bool, true, false, List, [], ◌∷◌}
-use Rattle.pc_bus.specs.Boards.{Board}
+use Rattle.machine_commands.specs.Common.{Board, Inputs, Outputs, Runs, stirred}
 use Rattle.pc_bus.specs.Handling.{irq_taken}
-use Rattle.pc_bus.specs.Ports.{Inputs, Outputs}
-use Rattle.pc_bus.specs.Steps.{Runs, stirred}
 
 -- the bytes of a command go to the data port, one by one
 abbrev pub Sends : List ℕ → Board → Board → Type 0

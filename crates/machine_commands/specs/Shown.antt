@@ -1,13 +1,6 @@
 -- The machine as its driver sees it.
 use Rattle.std.specs.Prelude.{ℕ, Bool, List, [], length, take, drop, slice_index, nat_lt, count_by}
-use Rattle.flop_base.specs.Counters.{Counters}
-use Rattle.flop_base.specs.Memory.{user_bytes}
-use Rattle.drive_model.specs.Drive.{DriveState, at_speed}
-use Rattle.fdc_core.specs.State.{data_commands_of}
-use Rattle.pc_bus.specs.Boards.{Board, board, controller_of, memory_of, holds_of}
-use Rattle.laws_machine.specs.OnSteps.Lasts.{clock_of}
-use Rattle.floppy_driver.specs.Rigs.{Rig}
-use Rattle.pc_bus.specs.Counts.{counts_of}
+use Rattle.machine_commands.specs.Common.{Counters, user_bytes, DriveState, at_speed, data_commands_of, Board, board, controller_of, memory_of, holds_of, clock_of, Rig, counts_of}
 use Rattle.machine_commands.specs.Ready.{IsIdle}
 use Rattle.machine_commands.specs.declared.machine.CommandedMachine.{CommandedMachine}
 

@@ -1,12 +1,8 @@
 -- A station before the first request.
 use Rattle.std.specs.Prelude.{◌≡◌, List}
-use Rattle.flop_base.specs.Counters.{CostsUpTo, DriveCounts, GoesOn}
-use Rattle.drive_model.specs.Drive.{DriveState}
+use Rattle.machine_commands.specs.Common.{CostsUpTo, DriveCounts, GoesOn, DriveState, Board, IsEmpty, IsNew, StationState, with_waiting}
 use Rattle.irq_events.specs.declared.pace.Pace.{Pace}
-use Rattle.pc_bus.specs.Boards.{Board, IsEmpty, IsNew}
-use Rattle.sector_model.specs.Stations.{StationState}
 use Rattle.machine_commands.specs.Shown.{counters_of}
-use Rattle.floppy_driver.specs.Shown.{with_waiting}
 
 -- the board of a new machine, with some timing (pace) and two empty drives
 pub record IsFreshBoard (board : Board) : Type 0 where

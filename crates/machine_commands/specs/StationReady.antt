@@ -1,9 +1,7 @@
 -- What holds of a station with a machine between two calls.
 use Rattle.std.specs.Prelude.{◌≡◌, All}
-use Rattle.drive_model.specs.Drive.{DriveState}
-use Rattle.pc_bus.specs.Boards.{IsEmpty}
+use Rattle.machine_commands.specs.Common.{DriveState, IsEmpty, IsAttached}
 use Rattle.machine_commands.specs.Shown.{rig_shown, is_idle}
-use Rattle.floppy_driver.specs.Attached.{IsAttached}
 use Rattle.machine_commands.specs.Flagged.{flags_shown}
 use Rattle.machine_commands.specs.StationShown.{station_shown}
 use Rattle.machine_commands.specs.declared.station.MachineStation.{MachineStation}

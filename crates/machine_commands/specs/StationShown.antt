@@ -1,12 +1,7 @@
 -- The station that a machine with its driver and spare drives is.
 use Rattle.std.specs.Prelude.{◌≡◌, List, length, map}
-use Rattle.flop_base.specs.Counters.{DriveCounts}
-use Rattle.drive_model.specs.Drive.{DriveState}
-use Rattle.pc_bus.specs.Boards.{Board, memory_of}
-use Rattle.sector_model.specs.Stations.{StationState}
-use Rattle.pc_bus.specs.Counts.{counts_of}
+use Rattle.machine_commands.specs.Common.{DriveCounts, DriveState, Board, memory_of, StationState, counts_of, shown, with_waiting}
 use Rattle.machine_commands.specs.Shown.{counters_of, user_part, rig_shown}
-use Rattle.floppy_driver.specs.Shown.{shown, with_waiting}
 use Rattle.machine_commands.specs.declared.station.MachineStation.{MachineStation}
 
 -- what is counted of each of these drives

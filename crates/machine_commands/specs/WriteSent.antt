@@ -1,13 +1,7 @@
 -- What a WRITE DATA, WRITE DELETED DATA or FORMAT TRACK does at the ports.
 use Rattle.std.specs.Prelude.{◌≡◌, ◌⊎◌, ◌<◌, ◌≤◌, List, length, slice_index, slice_set, ℕ, ◌+◌, ◌-◌, ◌*◌, Bool, [], ◌∷◌, Result, Ok, Err}
-use Rattle.flop_base.specs.Standard.{sectors_at, standard_code}
-use Rattle.flop_base.specs.declared.key.Chrn.{Chrn}
-use Rattle.flop_base.specs.declared.answers.Rate.{Rate}
-use Rattle.flop_base.specs.declared.answers.Code.{Code}
-use Rattle.pc_bus.specs.Boards.{Board, channel_of, controller_of, holds_of, latch_of, memory_of}
+use Rattle.machine_commands.specs.Common.{sectors_at, standard_code, Chrn, Rate, Code, Board, channel_of, controller_of, holds_of, latch_of, memory_of, content_size, write_code}
 use Rattle.sector_map.specs.Layings.{Format}
-use Rattle.track_model.specs.Fields.{content_size}
-use Rattle.fdc_commands.specs.Writes.{write_code}
 use Rattle.machine_commands.specs.Awaited.{Finishes, Prepares, SetsChannel, sector_bytes}
 use Rattle.machine_commands.specs.Sending.{Sends}
 use Rattle.machine_commands.specs.declared.motors.Motors.{Motors}

@@ -1,8 +1,6 @@
 // Questions, and motors.
 ghost use Rattle.std.specs.Prelude.{◌≡◌, ◌≤◌, ◌<◌, ◌==◌, ◌^◌, ℕ, length, slice_index};
-ghost use Rattle.pc_bus.specs.Boards.{memory_of};
-ghost use Rattle.drive_model.specs.Drive.{InRange};
-ghost use Rattle.floppy_driver.specs.Rigs.{IsSound};
+ghost use Rattle.machine_commands.specs.Common.{memory_of, InRange, IsSound};
 ghost use Rattle.machine_commands.specs.Asked.{ReadsLine, SensesDrive, StartsMotor};
 ghost use Rattle.machine_commands.specs.Motored.{with_motor_of};
 ghost use Rattle.machine_commands.specs.Shown.{board_of, rig_shown};

@@ -1,7 +1,6 @@
 // The calls of a station with a machine.
 ghost use Rattle.std.specs.Prelude.{◌≡◌, ◌≤◌, Bool, if◌then◌else◌};
-ghost use Rattle.flop_base.specs.declared.answers.Rate.TheVariants.{R500};
-ghost use Rattle.floppy_driver.specs.Shown.{notes_of};
+ghost use Rattle.machine_commands.specs.Common.{R500, notes_of};
 
 use crate::station::MachineStation;
 use drive_model::Drive;

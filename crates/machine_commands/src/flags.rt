@@ -1,7 +1,6 @@
 // What a station knows of its bays without asking their drives.
 ghost use Rattle.std.specs.Prelude.{◌≡◌, false};
-ghost use Rattle.flop_base.specs.declared.answers.Rate.TheVariants.{R500};
-ghost use Rattle.flop_base.specs.Bays.{both, in_bay, with_bay};
+ghost use Rattle.machine_commands.specs.Common.{R500, both, in_bay, with_bay};
 ghost use Rattle.machine_commands.specs.Flagged.{with_rate};
 
 use flop_base::{Rate, Two};

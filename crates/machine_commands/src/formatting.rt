@@ -1,7 +1,6 @@
 // FORMAT TRACK.
 ghost use Rattle.std.specs.Prelude.{◌≡◌, ◌≤◌, ◌+◌, ◌*◌, ℕ, length};
-ghost use Rattle.flop_base.specs.Standard.{sectors_at};
-ghost use Rattle.pc_bus.specs.Boards.{memory_of};
+ghost use Rattle.machine_commands.specs.Common.{sectors_at, memory_of};
 ghost use Rattle.machine_commands.specs.Shown.{board_of};
 ghost use Rattle.machine_commands.specs.WriteSent.{PutsByte, PutsKey, PutsKeys, SendsFormatBytes, keys_at};
 

@@ -1,9 +1,7 @@
 // Calls past the driver: media, drives and user memory.
 ghost use Rattle.std.specs.Prelude.{◌≡◌, ◌≤◌, ◌<◌};
-ghost use Rattle.flop_base.specs.Memory.{user_bytes};
-ghost use Rattle.pc_bus.specs.Boards.{IsEmpty, drive_in};
+ghost use Rattle.machine_commands.specs.Common.{user_bytes, IsEmpty, drive_in, counts_of};
 ghost use Rattle.machine_commands.specs.Handled.{ExchangesDrive, PutsIn, PutsMemory, TakesOut};
-ghost use Rattle.pc_bus.specs.Counts.{counts_of};
 ghost use Rattle.machine_commands.specs.Shown.{board_of, rig_shown, is_idle};
 
 use crate::machine::CommandedMachine;

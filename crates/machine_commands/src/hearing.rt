@@ -1,9 +1,6 @@
 // What drives tell of the faults that are left to them. These functions only ask.
 ghost use Rattle.std.specs.Prelude.{All};
-ghost use Rattle.flop_base.specs.Counters.{DriveTells};
-ghost use Rattle.drive_model.specs.Drive.{InRange};
-ghost use Rattle.pc_bus.specs.Boards.{board};
-ghost use Rattle.pc_bus.specs.Counts.{counts_of};
+ghost use Rattle.machine_commands.specs.Common.{DriveTells, InRange, board, counts_of};
 
 use drive_model::Drive;
 use pc_bus::MachineOf;

@@ -1,14 +1,9 @@
 // What follows of boards. The bodies are empty.
-ghost use Rattle.fdc_core.specs.State.{is_held};
-ghost use Rattle.floppy_driver.specs.Attached.{CanSetUp};
-ghost use Rattle.flop_base.specs.declared.answers.Code.{Code};
-ghost use Rattle.flop_base.specs.declared.answers.Rate.{Rate};
-ghost use Rattle.irq_events.specs.Holds.{AreShort};
+ghost use Rattle.machine_commands.specs.Common.{is_held, CanSetUp, Code, Rate, AreShort, Lasts, AreSetIfEmpty, Board, controller_of, holds_of};
 ghost use Rattle.laws_machine.specs.OnAwaits.Goes.{GoesOn};
 ghost use Rattle.laws_machine.specs.OnOrders.Orders.{Order};
 ghost use Rattle.laws_machine.specs.OnReads.Ends.{most_steps_of};
 ghost use Rattle.laws_machine.specs.OnReads.Scenes.{Scene};
-ghost use Rattle.laws_machine.specs.OnSteps.Lasts.{Lasts};
 ghost use Rattle.laws_machine.specs.OnSteps.Uses.{Uses};
 ghost use Rattle.machine_commands.specs.Asked.{ReadsLine, Resets, SendsRecalibrate, SendsSeek, SensesDrive, StartsMotor};
 ghost use Rattle.machine_commands.specs.Awaited.{Finishes, Prepares, SetsChannel};
@@ -17,7 +12,6 @@ ghost use Rattle.machine_commands.specs.declared.motors.Motors.{Motors};
 ghost use Rattle.machine_commands.specs.declared.results.Done.{Done};
 ghost use Rattle.machine_commands.specs.Shown.{rig_of};
 ghost use Rattle.machine_commands.specs.Started.{IsFreshBoard};
-ghost use Rattle.pc_bus.specs.Boards.{AreSetIfEmpty, Board, controller_of, holds_of};
 ghost use Rattle.pc_bus.specs.Calls.{AreCalled};
 ghost use Rattle.std.specs.Prelude.{◌≡◌, ◌+◌, ℕ, Bool, false, List, Result, length};
 

@@ -1,6 +1,6 @@
 // The machine, together with what its commands keep.
 ghost use Rattle.std.specs.Prelude.{◌≡◌};
-ghost use Rattle.pc_bus.specs.Boards.{board};
+ghost use Rattle.machine_commands.specs.Common.{board};
 ghost use Rattle.machine_commands.specs.Shown.{board_of};
 
 use crate::motors::Motors;

@@ -1,6 +1,6 @@
 // Commands that read.
 ghost use Rattle.std.specs.Prelude.{◌≡◌, ◌≤◌, ◌+◌, ◌-◌};
-ghost use Rattle.track_model.specs.Fields.{IsSizeCode, content_size};
+ghost use Rattle.machine_commands.specs.Common.{IsSizeCode, content_size};
 ghost use Rattle.machine_commands.specs.Awaited.{sector_bytes, SendsReadId, SendsRead};
 ghost use Rattle.machine_commands.specs.Shown.{board_of};
 

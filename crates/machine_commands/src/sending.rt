@@ -1,7 +1,7 @@
 // Bytes to and from the controller.
 ghost use Rattle.std.specs.Prelude.{◌≡◌, ◌≤◌};
 ghost use Rattle.fdc_commands.specs.Spelled.{spelled};
-ghost use Rattle.pc_bus.specs.Ports.{Inputs, Outputs};
+ghost use Rattle.machine_commands.specs.Common.{Inputs, Outputs};
 ghost use Rattle.machine_commands.specs.Ready.{dor_with};
 ghost use Rattle.machine_commands.specs.Sending.{Sends, Settles};
 ghost use Rattle.machine_commands.specs.Shown.{board_of};

@@ -1,8 +1,6 @@
 // A station before the first request.
 ghost use Rattle.std.specs.Prelude.{All, map};
-ghost use Rattle.pc_bus.specs.Boards.{board, IsEmpty};
-ghost use Rattle.sector_model.specs.Stations.{IsFresh};
-ghost use Rattle.pc_bus.specs.Counts.{counts_of};
+ghost use Rattle.machine_commands.specs.Common.{board, IsEmpty, IsFresh, counts_of};
 ghost use Rattle.machine_commands.specs.StationReady.{is_station_ready};
 ghost use Rattle.machine_commands.specs.StationShown.{station_shown};
 ghost use Rattle.machine_commands.specs.Started.{IsFreshBoard, Starts};

@@ -1,7 +1,6 @@
 // A station with a machine.
 ghost use Rattle.std.specs.Prelude.{◌≡◌, length};
-ghost use Rattle.flop_base.specs.Memory.{user_bytes};
-ghost use Rattle.pc_bus.specs.Boards.{board};
+ghost use Rattle.machine_commands.specs.Common.{user_bytes, board};
 ghost use Rattle.machine_commands.specs.StationShown.{ShowsStation, station_shown};
 
 use crate::CommandedMachine;

@@ -1,7 +1,6 @@
 // Commands that write sectors.
 ghost use Rattle.std.specs.Prelude.{◌≡◌, ◌≤◌, ◌+◌, ◌-◌};
-ghost use Rattle.track_model.specs.Fields.{IsSizeCode, content_size};
-ghost use Rattle.fdc_commands.specs.Writes.{write_code};
+ghost use Rattle.machine_commands.specs.Common.{IsSizeCode, content_size, write_code};
 ghost use Rattle.machine_commands.specs.Shown.{board_of};
 ghost use Rattle.machine_commands.specs.WriteSent.{SendsWriteBytes, told_of};
 

@@ -1,9 +1,8 @@
 -- Device steps made one by one, and their count.
-use Rattle.std.proofs.Common.{◌≡◌, ℕ, zero, suc, add-suc, ◌+◌, ◌≤◌, min, Bool, true, false, refl, ap, sym, ◌∙◌, subst, add-one, arith}
-use Rattle.std.proofs.lemmas.Bool.{true≢false}
+use Rattle.std.proofs.Common.{◌≡◌, ℕ, zero, suc, add-suc, ◌+◌, ◌≤◌, min, Bool, false, refl, ap, sym, ◌∙◌, subst, add-one, arith}
 use Rattle.flop_base.specs.Counts.{last_count}
 use Rattle.pc_bus.specs.Boards.{Board, latch_of}
-use Rattle.pc_bus.specs.Steps.{Step, Runs, RunsUnset, RunsToIrq, Waits, stirred}
+use Rattle.pc_bus.specs.Steps.{Step, Runs, RunsUnset, RunsToIrq, Waits}
 
 pub runs_none : (board : Board) → Runs 0 board board
 unfolding Runs
@@ -32,16 +31,6 @@ steps_more n old between new so_far step =
 -- the count of no steps: a count is never more than its last value
 pub steps_none : (board : Board) → board.bus.steps ≤ last_count → board.bus.steps ≡ min (board.bus.steps + 0) last_count
 steps_none board range = omega arith
-
--- the run ends since the latch is set
-pub irq_set : (most i : ℕ) (old new : Board) → i ≤ most → RunsUnset i (stirred old) new → true ≡ (latch_of new).is_set → RunsToIrq most old i new
-irq_set most i old new within runs set =
-    record { within = within; runs = runs; all = λ unset. absurd (true≢false (set ∙ unset)) }
-
--- the run ends since all steps were made
-pub irq_all : (most i : ℕ) (old new : Board) → i ≡ most → RunsUnset i (stirred old) new → RunsToIrq most old most new
-irq_all most i old new all runs =
-    record { within = omega arith; runs = subst (λ (n : ℕ). RunsUnset n (stirred old) new) all runs; all = λ _. refl }
 
 -- from the number of steps that were made, and the latch after them, follows what `wait_irq` says
 pub waits_of : (most steps : ℕ) (old new : Board) (set : Bool) → RunsToIrq most old steps new → set ≡ (latch_of new).is_set → Waits most old set new

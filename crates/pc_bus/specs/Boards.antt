@@ -1,16 +1,8 @@
 -- The machine as contracts see it: a board of chips, with a drive in each bay.
 use Rattle.std.specs.Prelude.{◌≡◌, ℕ, true, false, ◌==◌, if◌then◌else◌, List, None}
-use Rattle.flop_base.specs.Memory.{zeroes}
-use Rattle.drive_model.specs.Drive.{DriveState, InRange, with_motor}
-use Rattle.dma_8237.specs.Channel.{Channel, power_up}
-use Rattle.irq_events.specs.Latch.{Latch}
+use Rattle.pc_bus.specs.Common.{zeroes, DriveState, InRange, with_motor, Channel, power_up, Latch, AreShort, Holds, Low, at_power_up, Fdc, Lines}
 use Rattle.irq_events.specs.declared.pace.Pace.{Pace}
-use Rattle.irq_events.specs.Holds.{AreShort, Holds}
-use Rattle.irq_events.specs.declared.holding.DmaRequest.TheVariants.{Low}
 use Rattle.fdc_core.specs.Ranges.{IsInRange as IsFdcInRange}
-use Rattle.fdc_core.specs.State.{at_power_up}
-use Rattle.fdc_core.specs.declared.controller.Fdc.{Fdc}
-use Rattle.fdc_core.specs.declared.controller.Lines.{Lines}
 use Rattle.fdc_core.specs.Drives.Lines.{lines_of_selected, selected_by}
 use Rattle.pc_bus.specs.declared.bus.Bus.{Bus}
 use Rattle.pc_bus.specs.declared.machine.MachineOf.{MachineOf}

@@ -1,8 +1,7 @@
 -- The calls of a machine that may change it, one after the other.
 use Rattle.std.specs.Prelude.{◌≡◌, ◌≤◌, ℕ, zero, suc, Bool}
 use Rattle.raw_image.specs.Disk.{Disk}
-use Rattle.drive_model.specs.Drive.{DriveState, loaded, unloaded}
-use Rattle.fdc_core.specs.Drives.Following.{FollowsMotor}
+use Rattle.pc_bus.specs.Common.{DriveState, loaded, unloaded, FollowsMotor}
 use Rattle.pc_bus.specs.Boards.{Board, IsEmpty, controller_of, drive_in}
 use Rattle.pc_bus.specs.Handling.{Touches, byte_set, irq_taken}
 use Rattle.pc_bus.specs.Ports.{Inputs, Outputs}

@@ -1,7 +1,6 @@
 -- Calls past the controller: to memory, to media, to drives, and to the latch.
 use Rattle.std.specs.Prelude.{◌≡◌, ℕ, ◌-◌, false, nat_lt, if◌then◌else◌, slice_set}
-use Rattle.flop_base.specs.Memory.{user_bytes}
-use Rattle.irq_events.specs.Holds.{counted}
+use Rattle.pc_bus.specs.Common.{user_bytes, counted}
 use Rattle.pc_bus.specs.Boards.{Board, drive_in}
 use Rattle.pc_bus.specs.declared.bus.Bus.{Bus}
 

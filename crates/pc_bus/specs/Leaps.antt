@@ -1,9 +1,6 @@
 -- Device steps made at once, in which nothing but word times passes.
 use Rattle.std.specs.Prelude.{◌≡◌, ℕ, ◌+◌, min, false}
-use Rattle.flop_base.specs.Counts.{last_count}
-use Rattle.irq_events.specs.Entries.{strays_later}
-use Rattle.irq_events.specs.declared.holding.DmaRequest.TheVariants.{Low}
-use Rattle.fdc_core.specs.State.{asks, interrupts}
+use Rattle.pc_bus.specs.Common.{last_count, strays_later, Low, asks, interrupts}
 use Rattle.pc_bus.specs.declared.bus.Bus.{Bus}
 
 -- The bus is calm. The DMA request is low, and was low when it was last looked at. The latch has seen the interrupt

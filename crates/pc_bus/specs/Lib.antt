@@ -1,3 +1,4 @@
+pub mod Common
 pub mod Transfers
 pub mod Boards
 pub mod Steps

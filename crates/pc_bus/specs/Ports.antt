@@ -1,11 +1,7 @@
 -- Port accesses of the machine.
 use Rattle.std.specs.Prelude.{◌≡◌, ℕ, Bool, true, false, ◌&&◌, nat_le, if◌then◌else◌}
-use Rattle.dma_8237.specs.Channel.{after_write, after_read, value_read}
+use Rattle.pc_bus.specs.Common.{after_write, after_read, value_read, Fdc, Lines, FollowsWrite, next_entry, rest_of}
 use Rattle.fdc_core.specs.Ports.{Writes, value_read as controller_value, after_read as controller_after}
-use Rattle.fdc_core.specs.declared.controller.Fdc.{Fdc}
-use Rattle.fdc_core.specs.declared.controller.Lines.{Lines}
-use Rattle.fdc_core.specs.Drives.Following.{FollowsWrite}
-use Rattle.irq_events.specs.Entries.{next_entry, rest_of}
 use Rattle.pc_bus.specs.Boards.{Board, lines_of}
 use Rattle.pc_bus.specs.Steps.{Runs}
 use Rattle.pc_bus.specs.Transfers.{shown_again}

@@ -1,10 +1,6 @@
 -- Device steps of the machine.
 use Rattle.std.specs.Prelude.{◌≡◌, ◌≤◌, ℕ, zero, suc, Bool, true, false, not, ◌&&◌, ◌||◌}
-use Rattle.irq_events.specs.Latch.{Latch}
-use Rattle.irq_events.specs.Entries.{is_stray_due, strays_after}
-use Rattle.irq_events.specs.Holds.{counted}
-use Rattle.fdc_core.specs.State.{interrupts}
-use Rattle.fdc_core.specs.declared.controller.Fdc.{Fdc}
+use Rattle.pc_bus.specs.Common.{Latch, is_stray_due, strays_after, counted, interrupts, Fdc}
 use Rattle.fdc_core.specs.Drives.WordTimes.{PassesWordTime}
 use Rattle.pc_bus.specs.Boards.{Board, controller_of, selected_of, latch_of}
 use Rattle.pc_bus.specs.Transfers.{dma_stepped}

@@ -1,10 +1,6 @@
 -- Bytes between the controller and memory, through DMA channel 2.
 use Rattle.std.specs.Prelude.{ℕ, zero, suc, Bool, true, false, ◌&&◌, ◌==◌, if◌then◌else◌, List, slice_index, slice_set}
-use Rattle.dma_8237.specs.Channel.{Channel, grants, after_transfer, place_of, writes_memory, reads_memory}
-use Rattle.fdc_core.specs.Dma.{byte_out, taken_out, taken_in, told_count, to_memory_of}
-use Rattle.fdc_core.specs.State.{asks}
-use Rattle.fdc_core.specs.declared.controller.Fdc.{Fdc}
-use Rattle.irq_events.specs.Holds.{looked, shown, is_due}
+use Rattle.pc_bus.specs.Common.{Channel, grants, after_transfer, place_of, writes_memory, reads_memory, byte_out, taken_out, taken_in, told_count, to_memory_of, asks, Fdc, looked, shown, is_due}
 use Rattle.pc_bus.specs.declared.chips.Chips.{Chips}
 
 -- the byte of memory that the channel gives; it is FF if the channel isn't set to read memory

@@ -1,7 +1,6 @@
 // The machine without its drives.
 ghost use Rattle.std.specs.Prelude.{◌≡◌, ◌<◌, ◌≤◌, IfOk, List, false, true};
-ghost use Rattle.fdc_core.specs.State.{interrupts};
-ghost use Rattle.irq_events.specs.Entries.{next_entry, rest_of, AreQuiet};
+ghost use Rattle.pc_bus.specs.Common.{interrupts, next_entry, rest_of, AreQuiet};
 ghost use Rattle.pc_bus.specs.Boards.{new_bus};
 ghost use Rattle.pc_bus.specs.Handling.{byte_set, irq_taken, touched};
 ghost use Rattle.pc_bus.specs.Leaps.{IsCalm, skipped};

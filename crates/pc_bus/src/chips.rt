@@ -1,11 +1,6 @@
 // The controller, DMA channel 2 and memory, and the DMA request between them.
 ghost use Rattle.std.specs.Prelude.{◌≡◌, IsTrue, IsFalse, IfOk, List};
-ghost use Rattle.flop_base.specs.Memory.{zeroes};
-ghost use Rattle.dma_8237.specs.Channel.{grants, power_up};
-ghost use Rattle.fdc_core.specs.Dma.{to_memory_of};
-ghost use Rattle.fdc_core.specs.State.{at_power_up};
-ghost use Rattle.irq_events.specs.Holds.{is_due};
-ghost use Rattle.irq_events.specs.declared.holding.DmaRequest.TheVariants.{Low};
+ghost use Rattle.pc_bus.specs.Common.{zeroes, grants, power_up, to_memory_of, at_power_up, is_due, Low};
 ghost use Rattle.pc_bus.specs.Ports.{port_value, port_read, is_controllers, WritesChips};
 ghost use Rattle.pc_bus.specs.Transfers.{can_move, moved, moved_to_memory, moved_from_memory, moved_up_to, looked_at, shown_again, granted, dma_stepped};
 

@@ -1,7 +1,6 @@
 // Calls past the controller: to memory, media and drives, and to the latch.
 ghost use Rattle.std.specs.Prelude.{◌≡◌, ◌≤◌, ◌<◌, ◌^◌, ◌↔◌, ℕ, IsErr, IsSome, OnOk, IfErr, length, slice_index, true};
-ghost use Rattle.drive_model.specs.Drive.{loaded, unloaded};
-ghost use Rattle.fdc_core.specs.Drives.Following.{FollowsMotor};
+ghost use Rattle.pc_bus.specs.Common.{loaded, unloaded, FollowsMotor};
 ghost use Rattle.pc_bus.specs.Boards.{board, drive_in, controller_of, memory_of, latch_of, IsEmpty};
 ghost use Rattle.pc_bus.specs.Handling.{Touches, byte_set, irq_taken};
 

@@ -1,7 +1,6 @@
 // The machine, its making and its counts.
 ghost use Rattle.std.specs.Prelude.{◌≡◌, ◌≤◌, IfOk};
-ghost use Rattle.drive_model.specs.Drive.{InRange, rate_of};
-ghost use Rattle.fdc_core.specs.State.{data_commands_of};
+ghost use Rattle.pc_bus.specs.Common.{InRange, rate_of, data_commands_of};
 ghost use Rattle.pc_bus.specs.Boards.{board, drive_in, controller_of, memory_of, holds_of, IsEmpty, IsInRange, IsNew};
 
 use crate::bus::Bus;

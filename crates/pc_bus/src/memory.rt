@@ -1,7 +1,6 @@
 // The memory of the machine.
 ghost use Rattle.std.specs.Prelude.{◌≡◌, ◌==◌, ◌<◌, ◌^◌, ℕ, IfOk, IsTrue, length, slice_index, slice_set};
-ghost use Rattle.flop_base.specs.Memory.{zeroes};
-ghost use Rattle.dma_8237.specs.Channel.{grants, after_transfer};
+ghost use Rattle.pc_bus.specs.Common.{zeroes, grants, after_transfer};
 ghost use Rattle.pc_bus.specs.Transfers.{byte_read, memory_after};
 
 mod saving;

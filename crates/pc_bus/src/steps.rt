@@ -1,6 +1,6 @@
 // Device steps.
 ghost use Rattle.std.specs.Prelude.{◌≡◌, ◌≤◌, ◌+◌, min, false};
-ghost use Rattle.flop_base.specs.Counts.{last_count};
+ghost use Rattle.pc_bus.specs.Common.{last_count};
 ghost use Rattle.pc_bus.specs.Boards.{board, latch_of};
 ghost use Rattle.pc_bus.specs.Steps.{Step, Runs, RunsUnset, RunsToIrq, Waits, stirred};
 

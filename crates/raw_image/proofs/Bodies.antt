@@ -1,12 +1,8 @@
 -- The bytes after a header, as the words that they spell and perhaps the first half of one more word.
 use Rattle.std.proofs.Common.{◌≡◌, ℕ, ◌+◌, ◌*◌, ◌≤◌, true, false, List, ◌++◌, length, refl, sym, ap, subst, ◌∙◌, arith, Option, None, Some, length-append}
 use Rattle.std.specs.Prelude.{option_to_list, is_some}
-use Rattle.raw_image.specs.Words.{words_of, bytes_of}
-use Rattle.raw_image.specs.Disk.{Disk, IsDisk}
-use Rattle.raw_image.specs.Header.{Header, word_count}
-use Rattle.raw_image.specs.Image.{disk_of, whole_length}
+use Rattle.raw_image.proofs.Common.{words_of, bytes_of, Disk, IsDisk, Header, word_count, disk_of, whole_length, append-nil}
 use Rattle.raw_image.proofs.Pairs.{IsWords, length-bytes_of, words_again}
-use Rattle.std.proofs.lemmas.List.{append-nil}
 
 pub length_body : (words : List ℕ) (high : Option ℕ) → length (bytes_of words ++ option_to_list high) ≡ 2 * length words + length (option_to_list high)
 length_body words high = omega (arith, length-append (bytes_of words) (option_to_list high), length-bytes_of words)

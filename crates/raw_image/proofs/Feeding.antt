@@ -1,30 +1,15 @@
 -- What a reader that was fed some bytes is after more bytes, and what it answers where the file ends.
 use Rattle.std.proofs.Common.{◌≡◌, ℕ, ◌+◌, ◌<◌, ◌≤◌, true, false, ltb, List, [], ◌∷◌, ◌++◌, length, take, drop, refl, sym, ap, subst, ◌∙◌, append_assoc, arith, Result, Ok, Err, length-append, length-drop}
-use Rattle.std.specs.List.{flat_map}
-use Rattle.std.proofs.lemmas.Bool.{lt-ltb, le-ltb}
-use Rattle.std.proofs.lemmas.List.{append-nil, take_at, take_all, take-append-le, drop-append-le, take-append-drop}
-use Rattle.std.proofs.Math.ListN.{drop_of_length-le}
-use Rattle.raw_image.specs.declared.error.ImageError.{ImageError}
-use Rattle.raw_image.specs.declared.error.ImageError.TheVariants.{TooShort, BadMagic, BadField, Trailing, NoMemory}
-use Rattle.raw_image.specs.Disk.{Disk}
-use Rattle.raw_image.specs.Header.{Header, header_of}
-use Rattle.raw_image.specs.Image.{image_of, whole_length, OrNoMemory, Reads}
-use Rattle.raw_image.specs.Progress.{Progress, Begun, Going, Failed, IsWrong, IsFed, FeedsAll}
-use Rattle.raw_image.specs.Stage.{Finishes}
+use Rattle.raw_image.proofs.Common.{flat_map, lt-ltb, le-ltb, append-nil, take_at, take_all, take-append-le, drop-append-le, take-append-drop, drop_of_length-le, ImageError, TooShort, Trailing, NoMemory, Disk, Header, header_of, whole_length, OrNoMemory, Reads, Progress, Begun, Going, Failed, IsWrong, IsFed, FeedsAll, Finishes}
+use Rattle.raw_image.specs.Image.{image_of}
 
 pub or_no_memory : (e : ImageError) (P : Type 0) → P → OrNoMemory e P
 or_no_memory NoMemory P p = tt
-or_no_memory (TooShort need have) P p = p
-or_no_memory BadMagic P p = p
-or_no_memory (BadField offset) P p = p
-or_no_memory (Trailing offset) P p = p
+or_no_memory _ P p = p
 
 pub or_no_memory_then : (e : ImageError) (P Q : Type 0) → (P → Q) → OrNoMemory e P → OrNoMemory e Q
 or_no_memory_then NoMemory P Q f p = tt
-or_no_memory_then (TooShort need have) P Q f p = f p
-or_no_memory_then BadMagic P Q f p = f p
-or_no_memory_then (BadField offset) P Q f p = f p
-or_no_memory_then (Trailing offset) P Q f p = f p
+or_no_memory_then _ P Q f p = f p
 
 -- if something is wrong with a header, it is wrong with every file that begins with this header
 pub wrong_header : (header rest : List ℕ) (e : ImageError) → length header ≡ 14 → header_of header ≡ Err e → IsWrong (header ++ rest) e

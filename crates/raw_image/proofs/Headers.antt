@@ -1,19 +1,12 @@
 -- A header that tells of a medium is the header of that medium, and the other way round.
 use Rattle.std.proofs.Common.{◌≡◌, ℕ, ◌+◌, ◌*◌, ◌/◌, ◌%◌, ◌≤◌, Bool, true, false, cond, eqb, leb, ◌&&◌, List, [], ◌∷◌, ◌++◌, length, get_or, drop, refl, sym, ap, subst, ◌∙◌, arith, Option, Some, None, Result, Ok, Err, length-drop, ◌⊎◌, inl, inr}
-use Rattle.std.specs.List.{starts_with}
+use Rattle.raw_image.proofs.Common.{starts_with, eqb-true, leb-true, le-leb, and_parts, get_or-drop, ImageError, BadMagic, BadField, Version, First, Second, Header, field, magic, version_of, protection_of, rate_of, within, flag, rate_byte, header_bytes, disk_of}
 use Rattle.std.specs.Option.{ok_or}
-use Rattle.std.proofs.lemmas.Bool.{eqb-true, leb-true, le-leb, and_parts}
 use Rattle.std.proofs.lemmas.Bool.Decides.{Decides-eqb}
 use Rattle.std.proofs.lemmas.Slice.Eq.{starts_is, text_from_reads}
-use Rattle.std.proofs.lemmas.List.{get_or-drop}
 use Rattle.flop_base.specs.declared.answers.Rate.{Rate}
 use Rattle.flop_base.specs.declared.answers.Rate.TheVariants.{R500, R250}
-use Rattle.raw_image.specs.declared.error.ImageError.{ImageError}
-use Rattle.raw_image.specs.declared.error.ImageError.TheVariants.{BadMagic, BadField}
-use Rattle.raw_image.specs.declared.header.Version.{Version}
-use Rattle.raw_image.specs.declared.header.Version.TheVariants.{First, Second}
-use Rattle.raw_image.specs.Header.{Header, ◌>>=◌, field, magic, version_of, protection_of, rate_of, within, header_of}
-use Rattle.raw_image.specs.Image.{flag, rate_byte, header_bytes, disk_of}
+use Rattle.raw_image.specs.Header.{◌>>=◌, header_of}
 use Rattle.raw_image.proofs.Pairs.{IsBytes}
 
 abbrev done : Header → Result Header ImageError
@@ -159,10 +152,8 @@ protection_at true = refl
 protection_at false = refl
 
 rate_at : (v : Version) (r : Rate) → CanTell v r → rate_of v (rate_byte r) ≡ Some r
-rate_at First R500 can = refl
 rate_at First R250 can = absurd cc
-rate_at Second R500 can = refl
-rate_at Second R250 can = refl
+rate_at _ _ can = refl
 
 pub header_again : (v : Version) (h : Header) → CanTell v h.rate → IsHeader h → header_of (header_bytes v (disk_of h [])) ≡ Ok h
 unfolding header_of

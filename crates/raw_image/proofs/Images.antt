@@ -1,17 +1,9 @@
 -- A medium that is read from bytes is spelled by them, and a medium that bytes spell is read from them.
 use Rattle.std.proofs.Common.{◌≡◌, ℕ, zero, suc, ◌+◌, ◌*◌, ◌/◌, ◌≤◌, Bool, true, false, cond, ltb, List, [], ◌∷◌, ◌++◌, length, take, drop, refl, sym, ap, subst, ◌∙◌, arith, Result, Ok, Err, inl, inr, length-append, length-drop}
 use Rattle.std.specs.Prelude.{IfOk}
-use Rattle.std.proofs.Math.ListN.{drop_of_length-le}
-use Rattle.std.proofs.lemmas.Bool.{cases_lt, ltb-false, le-ltb}
-use Rattle.std.proofs.lemmas.List.{append-nil, take_at, drop_at, take-append-drop, get_or-drop, get_or-take, get_or_past, length-take-le, length-take}
-use Rattle.raw_image.specs.declared.error.ImageError.{ImageError}
-use Rattle.raw_image.specs.declared.error.ImageError.TheVariants.{TooShort, Trailing}
-use Rattle.raw_image.specs.declared.header.Version.{Version}
-use Rattle.raw_image.specs.declared.header.Version.TheVariants.{First, Second}
-use Rattle.raw_image.specs.Disk.{Disk, IsDisk}
-use Rattle.raw_image.specs.Words.{words_of, bytes_of}
-use Rattle.raw_image.specs.Header.{Header, ◌>>=◌, word_count, header_of}
-use Rattle.raw_image.specs.Image.{header_bytes, spelling, Spells, disk_of, whole_length, body_of, image_of, Reads}
+use Rattle.raw_image.proofs.Common.{drop_of_length-le, cases_lt, ltb-false, le-ltb, append-nil, take_at, drop_at, take-append-drop, get_or-drop, get_or-take, get_or_past, length-take-le, length-take, ImageError, TooShort, Trailing, Version, First, Second, Disk, IsDisk, words_of, bytes_of, Header, word_count, header_of, header_bytes, spelling, Spells, disk_of, whole_length, body_of, Reads}
+use Rattle.raw_image.specs.Header.{◌>>=◌}
+use Rattle.raw_image.specs.Image.{image_of}
 use Rattle.raw_image.proofs.Pairs.{IsBytes, IsWords, length-bytes_of, bytes_again, words_again}
 use Rattle.raw_image.proofs.Headers.{bind_ok, CanTell, header_found, header_again}
 
@@ -26,13 +18,12 @@ IsBytes-take n bytes h i =
     ]
 
 words_fit : (bytes : List ℕ) → IsBytes bytes → IsWords (words_of bytes)
-words_fit [] fits k = omega arith
-words_fit (high ∷ []) fits k = omega arith
 words_fit (high ∷ low ∷ rest) fits zero =
     let high_fits = fits 0 in
     let low_fits = fits 1 in
     omega (arith, high_fits, low_fits)
 words_fit (high ∷ low ∷ rest) fits (suc k) = words_fit rest (λ i. fits (suc (suc i))) k
+words_fit _ fits k = omega arith
 
 guard_ok : (b : Bool) (e : ImageError) (r : Result Disk ImageError) (d : Disk) → cond b (Err e) r ≡ Ok d → (b ≡ false) × (r ≡ Ok d)
 guard_ok true e r d same = absurd cc

@@ -1,12 +1,10 @@
 -- Words to bytes and back.
 use Rattle.std.proofs.Common.{◌≡◌, ℕ, suc, ◌+◌, ◌*◌, ◌/◌, ◌%◌, ◌^◌, ◌<◌, List, [], ◌∷◌, ◌++◌, length, map, drop, get_or, refl, subst, ap, ◌∙◌, append_assoc, arith, Option, Result, Ok, Err}
 use Rattle.std.specs.Prelude.{OnOk, IfOk, option_to_list}
-use Rattle.std.specs.Int.{w16, from_be_bytes, to_be_bytes}
+use Rattle.raw_image.proofs.Common.{w16, from_be_bytes, to_be_bytes, append-nil, words_of, bytes_of}
 use Rattle.std.specs.Simd.{first_chunks}
 use Rattle.std.proofs.lemmas.Grind.{flat_map-append}
-use Rattle.std.proofs.lemmas.List.{append-nil}
 use Rattle.flop_base.specs.declared.answers.NoMemory.{NoMemory}
-use Rattle.raw_image.specs.Words.{words_of, bytes_of}
 
 -- each number is a byte
 abbrev pub IsBytes : List ℕ → Type 0
@@ -18,12 +16,11 @@ IsWords words = (k : ℕ) → get_or words k 0 < 2 ^ 16
 
 -- the first pairs of bytes, read as numbers, are the words
 pub words_of-pairs : (bytes : List ℕ) → map (from_be_bytes w16) (first_chunks 2 (length bytes / 2) bytes) ≡ words_of bytes
-words_of-pairs [] = refl
-words_of-pairs (high ∷ []) = refl
 words_of-pairs (high ∷ low ∷ rest) =
     let more : length (high ∷ low ∷ rest) / 2 ≡ suc (length rest / 2) = omega arith in
     let word : from_be_bytes w16 (high ∷ low ∷ []) ≡ 256 * high + low = omega arith in
     rw (more, word, words_of-pairs rest) refl
+words_of-pairs _ = refl
 
 pub length-bytes_of : (words : List ℕ) → length (bytes_of words) ≡ 2 * length words
 length-bytes_of [] = refl
@@ -31,8 +28,6 @@ length-bytes_of (w ∷ ws) = omega (arith, length-bytes_of ws)
 
 -- bytes are the bytes of their words, and then the odd byte at the end, if there is one
 pub bytes_again : (bytes : List ℕ) → IsBytes bytes → bytes_of (words_of bytes) ++ drop (length bytes / 2 * 2) bytes ≡ bytes
-bytes_again [] fits = refl
-bytes_again (high ∷ []) fits = refl
 bytes_again (high ∷ low ∷ rest) fits =
     let high_fits = fits 0 in
     let low_fits = fits 1 in
@@ -41,6 +36,7 @@ bytes_again (high ∷ low ∷ rest) fits =
     let more : length (high ∷ low ∷ rest) / 2 * 2 ≡ suc (suc (length rest / 2 * 2)) = omega arith in
     let again = bytes_again rest (λ k. fits (suc (suc k))) in
     rw (top, bottom, more) (ap (λ (bs : List ℕ). high ∷ low ∷ bs) again)
+bytes_again _ fits = refl
 
 -- words are the words of their bytes
 pub words_again : (words : List ℕ) → IsWords words → words_of (bytes_of words) ≡ words

@@ -1,12 +1,8 @@
 -- Words written over a part of one track, and what each track then is.
 use Rattle.std.proofs.Common.{◌≡◌, ℕ, ◌+◌, ◌-◌, ◌*◌, ◌^◌, ◌<◌, ◌≤◌, ◌++◌, List, length, take, drop, get_or, refl, sym, subst, ap, ◌∙◌, arith, inl, inr}
-use Rattle.std.proofs.lemmas.Bool.{cases_lt}
-use Rattle.std.proofs.lemmas.List.{ext_get_or, get_or_append_left, get_or-append-add, get_or-take, get_or-drop, length-append, length-take, length-drop, drop-drop}
+use Rattle.raw_image.proofs.Common.{cases_lt, ext_get_or, get_or_append_left, get_or-append-add, get_or-take, get_or-drop, length-append, length-take, length-drop, drop-drop, Header, disk_of, Disk, IsDisk, HasTrack, IsWithTrack, track_start, track_of}
 use borrow.Rule.Slice.PartMut.{put_mid}
 use Rattle.flop_base.specs.Lists.{with_items}
-use Rattle.raw_image.specs.Header.{Header}
-use Rattle.raw_image.specs.Image.{disk_of}
-use Rattle.raw_image.specs.Disk.{Disk, IsDisk, HasTrack, IsWithTrack, track_start, track_of}
 use Rattle.raw_image.proofs.Tracks.{apart, rows_apart}
 
 module _ (list : List ℕ) (at : ℕ) (words : List ℕ) (fits : at + length words ≤ length list) where

@@ -1,11 +1,8 @@
 -- A word written into one track, and what each track then is.
 use Rattle.std.proofs.Common.{◌≡◌, ℕ, ◌+◌, ◌-◌, ◌*◌, ◌<◌, ◌≤◌, List, take, drop, ap, ◌∙◌, arith, ◌⊎◌, inl, inr}
-use Rattle.std.proofs.Math.ListN.{set}
+use Rattle.raw_image.proofs.Common.{set, cases_lt, drop-set-add, drop-set-lt, take-set-le, Disk, HasTrack, track_start, track_of, with_word}
 use Rattle.std.proofs.Math.Nat.{mul-le-mul_left}
-use Rattle.std.proofs.lemmas.Bool.{cases_lt}
-use Rattle.std.proofs.lemmas.List.{drop-set-add, drop-set-lt, take-set-le}
 use Rattle.std.proofs.lemmas.Nat.{mul-add-lt}
-use Rattle.raw_image.specs.Disk.{Disk, HasTrack, track_start, track_of, with_word}
 
 -- a track that begins before another one ends before it begins, at any number of words per track
 pub rows_apart : (r s w : ℕ) → r < s → r * w + w ≤ s * w

@@ -1,19 +1,9 @@
 -- A track of words 0000.
 use Rattle.std.proofs.Common.{◌≡◌, ◌==◌, ℕ, suc, ◌/◌, true, List, [], ◌∷◌, length, replicate, get_or, sym, subst, refl, arith, inl, inr}
-use Rattle.std.proofs.lemmas.Bool.{cases_lt}
+use Rattle.remaster.proofs.Common.{cases_lt, get_or-replicate, get_or_past, length-replicate, words_at, Chrn, Rate, IsAddressAt, IsRegular, Sector, AreSectors, IsFit, IsTrackRemaster}
 use Rattle.std.proofs.lemmas.Bool.Decides.{nat_tests}
-use Rattle.std.proofs.lemmas.List.{get_or-replicate, get_or_past, length-replicate}
-use Rattle.flop_base.specs.Standard.{words_at}
-use Rattle.flop_base.specs.declared.key.Chrn.{Chrn}
-use Rattle.flop_base.specs.declared.answers.Rate.{Rate}
 use Rattle.sector_map.specs.Met.{unrecorded}
 use Rattle.track_model.specs.Marks.{IsAddressMark}
-use Rattle.track_model.specs.Fields.{IsAddressAt}
-use Rattle.track_model.specs.Regular.{IsRegular}
-use Rattle.remaster.specs.declared.sectors.Sector.{Sector}
-use Rattle.remaster.specs.Sectors.{AreSectors}
-use Rattle.remaster.specs.Fit.{IsFit}
-use Rattle.remaster.specs.Remastered.{IsTrackRemaster}
 
 pub empty_when : (xs : List Sector) (count : ℕ) → count ≡ length xs → (count == 0) ≡ true → xs ≡ []
 empty_when [] count e h = refl

@@ -1,11 +1,8 @@
 -- A disk while its tracks are laid out anew.
-use Rattle.std.proofs.Common.{◌≡◌, ◌≢◌, ℕ, ◌+◌, ◌<◌, ◌≤◌, Result, Err, sym, subst, arith, inl, inr, IfErr}
-use Rattle.std.proofs.lemmas.Bool.{cases_lt}
-use Rattle.raw_image.specs.Disk.{Disk, HasTrack, track_of}
+use Rattle.std.proofs.Common.{◌≡◌, ◌≢◌, ℕ, ◌+◌, ◌<◌, Result, Err, sym, subst, arith, inl, inr, IfErr}
+use Rattle.remaster.proofs.Common.{cases_lt, Disk, HasTrack, track_of, IsFitTrack, IsUnfitTrack, IsTrackRemaster, IsDone, IsTrackError, IsUnfitIn, Remasters}
 use Rattle.remaster.specs.declared.error.RemasterError.{RemasterError}
 use Rattle.remaster.specs.declared.error.RemasterError.TheVariants.{Unfit, NoMemory}
-use Rattle.remaster.specs.Fit.{IsFitTrack, IsUnfitTrack}
-use Rattle.remaster.specs.Remastered.{IsTrackRemaster, IsDone, IsTrackError, IsUnfitIn, Remasters}
 
 -- a track that is done stays done if it stays as it is
 pub done_still : (disk old new : Disk) (c h : ℕ) → track_of new c h ≡ track_of old c h → IsDone disk old c h → IsDone disk new c h

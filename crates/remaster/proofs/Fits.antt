@@ -1,15 +1,8 @@
 -- When sectors are fit.
 use Rattle.std.proofs.Common.{◌≡◌, ◌≢◌, ℕ, zero, suc, ◌+◌, ◌<◌, ◌≤◌, false, Option, Some, None, MatchOption, List, [], length, take, get_or, All, sym, ap, subst, ◌∙◌, arith, length-take}
-use Rattle.std.specs.List.{AllPairs}
-use Rattle.std.proofs.lemmas.List.{take_more, take_all, get_or-take, get_or_default}
+use Rattle.remaster.proofs.Common.{AllPairs, take_more, take_all, get_or-take, get_or_default, gap_at, words_at, Chrn, Rate, Sector, sector_of, IsFit, HasSizeCode, MayShare, IsPlanned}
 use Rattle.std.proofs.lemmas.List.Quantifiers.{all_pairs_push}
-use Rattle.flop_base.specs.Standard.{gap_at, words_at}
-use Rattle.flop_base.specs.declared.key.Chrn.{Chrn}
-use Rattle.flop_base.specs.declared.answers.Rate.{Rate}
 use Rattle.track_format.specs.Gaps.{Suits, wide_gap, IsLargestGap}
-use Rattle.remaster.specs.declared.sectors.Sector.{Sector}
-use Rattle.remaster.specs.Sectors.{sector_of}
-use Rattle.remaster.specs.Fit.{IsFit, HasSizeCode, MayShare, IsPlanned}
 
 abbrev pub Distinct : List Sector → Type 0
 Distinct sectors = AllPairs (λ (a b : Sector). a.key ≢ b.key) sectors

@@ -1,3 +1,4 @@
+mod Common
 pub mod Blanks
 pub mod Disks
 pub mod Fits

@@ -1,13 +1,8 @@
 -- Lines of a survey, one track after the other.
-use Rattle.std.proofs.Common.{◌≡◌, ℕ, zero, suc, ◌+◌, ◌<◌, List, [], ◌∷◌, ◌++◌, map, sym, ap, subst, ◌∙◌, append_assoc, refl, arith}
-use Rattle.std.specs.List.{range_with_len, flat_map}
-use Rattle.std.proofs.lemmas.List.{append-nil, flat_map_more}
-use Rattle.std.proofs.lemmas.List.FromFn.{map-range_with_len_more}
-use Rattle.raw_image.specs.Disk.{Disk, track_of}
-use Rattle.remaster.specs.declared.looked.LookedField.{LookedField}
+use Rattle.std.proofs.Common.{◌≡◌, ℕ, zero, suc, ◌+◌, List, [], ◌∷◌, ◌++◌, map, sym, ap, subst, ◌∙◌, append_assoc, refl, arith}
+use Rattle.remaster.proofs.Common.{range_with_len, flat_map, append-nil, flat_map_more, map-range_with_len_more, Disk, track_of, LookedField, AreLooked, TrackNumber, track_number, line_on, AreLines}
 use Rattle.remaster.specs.declared.lines.SurveyLine.{SurveyLine}
-use Rattle.remaster.specs.Looked.{AreLooked}
-use Rattle.remaster.specs.Survey.{TrackNumber, track_number, cylinder_tracks, tracks_of, line_on, AreLines}
+use Rattle.remaster.specs.Survey.{cylinder_tracks, tracks_of}
 
 lines-append : (disk : Disk) (tracks more : List TrackNumber) (lines others : List SurveyLine) → AreLines disk tracks lines → AreLines disk more others → AreLines disk (tracks ++ more) (lines ++ others)
 lines-append disk [] more lines others a b = subst (AreLines disk more) (sym (ap (λ ls. ls ++ others) a)) b

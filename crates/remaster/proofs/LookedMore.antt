@@ -1,10 +1,6 @@
 -- One more field that was looked at.
 use Rattle.std.proofs.Common.{◌≡◌, ℕ, ◌+◌, ◌<◌, List, [], ◌∷◌, ◌++◌, length, map, take, get_or, All, sym, ap, subst, ◌∙◌}
-use Rattle.std.proofs.lemmas.List.{map-append, take_more}
-use Rattle.std.proofs.lemmas.List.Elements.{All-push}
-use Rattle.track_model.specs.declared.Field.{Field}
-use Rattle.remaster.specs.declared.looked.LookedField.{LookedField}
-use Rattle.remaster.specs.Looked.{field_of, HasLook}
+use Rattle.remaster.proofs.Common.{map-append, take_more, All-push, Field, LookedField, field_of, HasLook}
 
 pub fields_more : (fields : List Field) (i : ℕ) (looked after : List LookedField) (one : LookedField) (d : Field) → after ≡ looked ++ one ∷ [] → map field_of looked ≡ take i fields → i < length fields → one.field ≡ get_or fields i d → map field_of after ≡ take (i + 1) fields
 fields_more fields i looked after one d e so_far within is =

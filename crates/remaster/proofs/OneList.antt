@@ -1,17 +1,6 @@
 -- A track has only one list of address fields, and only one list of sectors.
 use Rattle.std.proofs.Common.{◌≡◌, ◌⊎◌, ℕ, zero, suc, ◌<◌, List, [], ◌∷◌, length, map, drop, get_or, All, Contains, sym, ap, subst, ◌∙◌, refl, arith, inl, inr}
-use Rattle.std.specs.List.{flat_map, AllPairs}
-use Rattle.flop_base.specs.declared.answers.Rate.{Rate}
-use Rattle.track_model.specs.declared.Field.{Field}
-use Rattle.track_model.specs.declared.Look.{Look}
-use Rattle.track_model.specs.Fields.{AreAddresses}
-use Rattle.track_model.specs.Looks.{LookAt}
-use Rattle.track_model.proofs.Unique.{one_look_at}
-use Rattle.remaster.specs.declared.looked.LookedField.{LookedField}
-use Rattle.remaster.specs.declared.sectors.Sector.{Sector}
-use Rattle.remaster.specs.Looked.{field_of, HasLook, AreLooked}
-use Rattle.remaster.specs.Sectors.{found_at, AreSectors}
-use Rattle.remaster.specs.Fit.{IsFit, IsFitTrack, IsUnfitTrack}
+use Rattle.remaster.proofs.Common.{flat_map, AllPairs, Rate, Field, Look, AreAddresses, LookAt, one_look_at, LookedField, Sector, field_of, HasLook, AreLooked, found_at, AreSectors, IsFit, IsFitTrack, IsUnfitTrack}
 
 abbrev Rising : List Field → Type 0
 Rising fields = AllPairs (λ (a b : Field). a.place < b.place) fields

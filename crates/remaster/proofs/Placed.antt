@@ -1,17 +1,7 @@
 -- One sector written on a track whose sectors keep their distance.
 use Rattle.std.proofs.Common.{◌≡◌, ◌≢◌, ℕ, ◌+◌, ◌≤◌, List, length, sym, ap, subst, ◌∙◌, arith}
-use Rattle.track_model.specs.declared.Look.TheVariants.{Found}
-use Rattle.track_model.specs.Fields.{IsAddressAt, content_at}
-use Rattle.track_model.specs.Looks.{LookAt}
-use Rattle.track_model.specs.Writing.{window}
-use Rattle.track_model.specs.Windows.{window_word, window_place, cut_of}
-use Rattle.track_model.specs.Laid.{with_window}
-use Rattle.track_model.specs.Regular.{IsSpaced}
-use Rattle.track_model.specs.Kept.{KeepsOthers}
+use Rattle.remaster.proofs.Common.{Found, IsAddressAt, content_at, LookAt, window, window_word, window_place, cut_of, with_window, IsSpaced, KeepsOthers, Sector, HasSize, HoldsSector}
 use Rattle.track_model.proofs.Written.{length-window}
-use Rattle.remaster.specs.declared.sectors.Sector.{Sector}
-use Rattle.remaster.specs.Fit.{HasSize}
-use Rattle.remaster.specs.Relaid.{HoldsSector}
 
 module _ (track : List ℕ) (place : ℕ) (sector : Sector) (here : IsAddressAt track place sector.key) where
   -- the window is inside the track

@@ -1,7 +1,7 @@
 -- The image of a medium with the flag of its protection set.
 use Rattle.std.proofs.Common.{◌≡◌, ℕ, true, List, slice_set, inl, Ok, Result}
 use Rattle.raw_image.specs.declared.error.ImageError.{ImageError}
-use Rattle.raw_image.specs.Disk.{Disk, IsDisk}
+use Rattle.remaster.proofs.Common.{Disk, IsDisk}
 use Rattle.raw_image.specs.Image.{file_of, Spells}
 
 pub protected_spells : (d : Disk) (bytes : List ℕ) → IsDisk d → bytes ≡ slice_set (file_of d) 8 1 → Spells bytes (record d { protected = true })

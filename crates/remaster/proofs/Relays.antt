@@ -1,30 +1,8 @@
 -- A formatted track, while its sectors are written one after the other.
 use Rattle.std.proofs.Common.{◌≡◌, ◌≢◌, ℕ, zero, suc, ◌+◌, ◌<◌, List, [], ◌∷◌, length, map, drop, get_or, All, sym, ap, subst, ◌∙◌, arith, refl, inl, inr}
-use Rattle.std.specs.List.{flat_map, AllPairs}
-use Rattle.std.proofs.lemmas.Bool.{cases_lt}
+use Rattle.remaster.proofs.Common.{flat_map, AllPairs, cases_lt, length-map, get_or-map, get_or_default, drop_more, drop_all, All-map, words_at, standard_fill, Chrn, Rate, Field, Found, IsAddressAt, AreAddresses, content_size, content_at, window_place, lay, sector_place, HasLaidFields, HasEndRoom, with_window, IsSpaced, IsRegular, KeepsOthers, one_key, LookedField, Sector, field_of, HasLook, sector_of, found_at, AreSectors, IsOwnKey, IsPlanned, key_of, with_sectors, laid_with, HoldsSector}
 use Rattle.std.proofs.lemmas.Nat.{mul-add-lt}
-use Rattle.std.proofs.lemmas.List.{length-map, get_or-map, get_or_default, drop_more, drop_all}
-use Rattle.std.proofs.lemmas.List.Elements.{All-map}
-use Rattle.flop_base.specs.Standard.{words_at, standard_fill}
-use Rattle.flop_base.specs.declared.key.Chrn.{Chrn}
-use Rattle.flop_base.specs.declared.answers.Rate.{Rate}
-use Rattle.track_model.specs.declared.Field.{Field}
-use Rattle.track_model.specs.declared.Look.TheVariants.{Found}
-use Rattle.track_model.specs.Fields.{IsAddressAt, AreAddresses, content_size, content_at}
-use Rattle.track_model.specs.Windows.{window_place}
-use Rattle.track_model.specs.Layouts.{lay}
-use Rattle.track_model.specs.LaidFields.{sector_place, HasLaidFields, HasEndRoom}
-use Rattle.track_model.specs.Laid.{with_window}
-use Rattle.track_model.specs.Regular.{IsSpaced, IsRegular}
-use Rattle.track_model.specs.Kept.{KeepsOthers}
-use Rattle.track_model.proofs.Unique.{one_key}
 use Rattle.track_format.proofs.Read.{length-lay}
-use Rattle.remaster.specs.declared.looked.LookedField.{LookedField}
-use Rattle.remaster.specs.declared.sectors.Sector.{Sector}
-use Rattle.remaster.specs.Looked.{field_of, HasLook}
-use Rattle.remaster.specs.Sectors.{sector_of, found_at, AreSectors}
-use Rattle.remaster.specs.Fit.{IsOwnKey, IsPlanned}
-use Rattle.remaster.specs.Relaid.{key_of, with_sectors, laid_with, HoldsSector}
 use Rattle.remaster.proofs.Fits.{blank_sector}
 use Rattle.remaster.proofs.Placed.{holds_still}
 

@@ -1,22 +1,8 @@
 -- The sectors behind address fields, and their sizes.
-use Rattle.std.proofs.Common.{◌≡◌, ℕ, suc, ◌+◌, ◌*◌, ◌<◌, ◌≤◌, Bool, List, [], ◌∷◌, ◌++◌, length, take, All, sym, ap, subst, ◌∙◌, arith}
-use Rattle.std.specs.List.{flat_map}
-use Rattle.std.proofs.lemmas.List.{take_all}
-use Rattle.std.proofs.lemmas.List.Elements.{All-append, All-push}
-use Rattle.std.proofs.lemmas.List.FromFn.{length-map-range_with_len}
-use Rattle.flop_base.specs.declared.key.Chrn.{Chrn}
-use Rattle.track_model.specs.declared.Look.{Look}
-use Rattle.track_model.specs.declared.Look.TheVariants.{Found, NoMark, NoSector, NoData, BadCrc}
+use Rattle.std.proofs.Common.{◌≡◌, ℕ, suc, ◌+◌, ◌*◌, ◌≤◌, Bool, List, [], ◌∷◌, ◌++◌, length, take, All, sym, ap, subst, ◌∙◌, arith}
+use Rattle.remaster.proofs.Common.{flat_map, take_all, All-append, All-push, length-map-range_with_len, Chrn, Look, Found, byte_at, bytes_at, IsSizeCode, content_size, content_at, LookAt, LookedField, Sector, HasLook, sector_of, found_by, found_at, HasSize}
 use Rattle.track_model.specs.Cells.{IsInside}
-use Rattle.track_model.specs.Bytes.{byte_at, bytes_at}
-use Rattle.track_model.specs.Fields.{IsSizeCode, content_size, content_at}
-use Rattle.track_model.specs.Looks.{LookAt}
 use Rattle.track_model.proofs.Places.{bytes_at-more}
-use Rattle.remaster.specs.declared.looked.LookedField.{LookedField}
-use Rattle.remaster.specs.declared.sectors.Sector.{Sector}
-use Rattle.remaster.specs.Looked.{HasLook}
-use Rattle.remaster.specs.Sectors.{sector_of, found_by, found_at}
-use Rattle.remaster.specs.Fit.{HasSize}
 
 -- data that are found have a size code, and are inside the track together with their CRC
 pub found_coded : (track : List ℕ) (p n : ℕ) (deleted : Bool) (place : ℕ) → LookAt track p n (Found deleted place) → IsSizeCode n
@@ -45,10 +31,7 @@ sized_by track p key (Found deleted place) look =
       coded = found_coded track p key.n deleted place look;
       size = length-map-range_with_len (λ i. byte_at track (place + 16 * i)) 0 (content_size key.n);
     })
-sized_by track p key NoMark look = none_sized
-sized_by track p key NoSector look = none_sized
-sized_by track p key NoData look = none_sized
-sized_by track p key BadCrc look = none_sized
+sized_by track p key _ look = none_sized
 
 pub all_sized : (track : List ℕ) (looked : List LookedField) → All (HasLook track) looked → All HasSize (flat_map (found_at track) looked)
 all_sized track [] looks = none_sized

@@ -1,11 +1,6 @@
 -- When the sectors of a track can be laid out anew, so that each can be written over.
 use Rattle.std.specs.Prelude.{◌≡◌, ◌≢◌, ℕ, ◌<◌, ◌≤◌, ◌⊎◌, List, length, All, AllPairs}
-use Rattle.flop_base.specs.Standard.{gap_at, words_at}
-use Rattle.flop_base.specs.declared.key.Chrn.{Chrn}
-use Rattle.flop_base.specs.declared.answers.Rate.{Rate}
-use Rattle.raw_image.specs.Disk.{Disk, HasTrack, track_of}
-use Rattle.track_model.specs.Fields.{IsSizeCode, content_size}
-use Rattle.track_format.specs.Gaps.{Suits, wide_gap, IsLargestGap}
+use Rattle.remaster.specs.Common.{gap_at, words_at, Chrn, Rate, Disk, HasTrack, track_of, IsSizeCode, content_size, Suits, wide_gap, IsLargestGap}
 use Rattle.remaster.specs.declared.sectors.Sector.{Sector}
 use Rattle.remaster.specs.Sectors.{AreSectors}
 

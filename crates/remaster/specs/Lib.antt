@@ -1,3 +1,4 @@
+pub mod Common
 pub mod Fit
 pub mod Looked
 pub mod Relaid

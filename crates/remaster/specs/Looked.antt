@@ -1,8 +1,7 @@
 -- The address fields of a track, and what a look at each one finds.
 use Rattle.std.specs.Prelude.{ℕ, List, map, All}
 use Rattle.track_model.specs.declared.Field.{Field}
-use Rattle.track_model.specs.Fields.{AreAddresses}
-use Rattle.track_model.specs.Looks.{LookAt}
+use Rattle.remaster.specs.Common.{AreAddresses, LookAt}
 use Rattle.remaster.specs.declared.looked.LookedField.{LookedField}
 
 -- the field without the look

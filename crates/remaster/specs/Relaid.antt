@@ -1,17 +1,9 @@
 -- A track laid out anew.
 use Rattle.std.specs.Prelude.{◌≡◌, ℕ, ◌+◌, List, [], ◌∷◌, length, map}
-use Rattle.flop_base.specs.Standard.{words_at, standard_fill}
-use Rattle.flop_base.specs.declared.key.Chrn.{Chrn}
-use Rattle.flop_base.specs.declared.answers.Rate.{Rate}
+use Rattle.remaster.specs.Common.{words_at, standard_fill, Chrn, Rate, Found, IsAddressAt, content_at, LookAt, sector_place, with_window, wide_gap, IsLargestGap}
 use Rattle.sector_map.specs.Met.{unrecorded}
-use Rattle.track_model.specs.declared.Look.TheVariants.{Found}
-use Rattle.track_model.specs.Fields.{IsAddressAt, content_at}
-use Rattle.track_model.specs.Looks.{LookAt}
 use Rattle.track_model.specs.Windows.{window_place}
 use Rattle.track_model.specs.Layouts.{lay}
-use Rattle.track_model.specs.LaidFields.{sector_place}
-use Rattle.track_model.specs.Laid.{with_window}
-use Rattle.track_format.specs.Gaps.{wide_gap, IsLargestGap}
 use Rattle.remaster.specs.declared.sectors.Sector.{Sector}
 
 -- the key of a sector

@@ -1,9 +1,6 @@
 -- What a medium becomes when it is laid out anew.
 use Rattle.std.specs.Prelude.{◌≡◌, ℕ, ◌<◌, List, Result, Ok, Err}
-use Rattle.flop_base.specs.Standard.{words_at}
-use Rattle.flop_base.specs.declared.answers.Rate.{Rate}
-use Rattle.raw_image.specs.Disk.{Disk, IsDisk, HasTrack, track_of}
-use Rattle.track_model.specs.Regular.{IsRegular}
+use Rattle.remaster.specs.Common.{words_at, Rate, Disk, IsDisk, HasTrack, track_of, IsRegular}
 use Rattle.sector_map.specs.Disks.{IsRegularDisk}
 use Rattle.remaster.specs.declared.sectors.Sector.{Sector}
 use Rattle.remaster.specs.declared.error.RemasterError.{RemasterError}

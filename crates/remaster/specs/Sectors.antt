@@ -1,10 +1,6 @@
 -- The sectors of a track, whatever their places are.
 use Rattle.std.specs.Prelude.{◌≡◌, ℕ, Bool, List, [], ◌∷◌}
-use Rattle.std.specs.List.{flat_map}
-use Rattle.flop_base.specs.declared.key.Chrn.{Chrn}
-use Rattle.track_model.specs.declared.Look.{Look}
-use Rattle.track_model.specs.declared.Look.TheVariants.{Found, NoMark, NoSector, NoData, BadCrc}
-use Rattle.track_model.specs.Fields.{content_at}
+use Rattle.remaster.specs.Common.{flat_map, Chrn, Look, Found, NoMark, NoSector, NoData, BadCrc, content_at}
 use Rattle.remaster.specs.declared.looked.LookedField.{LookedField}
 use Rattle.remaster.specs.declared.sectors.Sector.{Sector}
 use Rattle.remaster.specs.Looked.{AreLooked}

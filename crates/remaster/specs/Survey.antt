@@ -1,10 +1,7 @@
 -- A survey, which has a line for each address field of a disk.
 use Rattle.std.specs.Prelude.{◌≡◌, ℕ, Bool, true, false, List, [], ◌∷◌, ◌++◌, map, codes, if◌then◌else◌, nat_le, ◌&&◌}
 use Rattle.std.specs.Fmt.{decimal}
-use Rattle.std.specs.List.{range_with_len, flat_map, join_with_byte}
-use Rattle.raw_image.specs.Disk.{Disk, track_of}
-use Rattle.track_model.specs.declared.Look.{Look}
-use Rattle.track_model.specs.declared.Look.TheVariants.{Found, NoMark, NoSector, NoData, BadCrc}
+use Rattle.remaster.specs.Common.{range_with_len, flat_map, join_with_byte, Disk, track_of, Look, Found, NoMark, NoSector, NoData, BadCrc}
 use Rattle.remaster.specs.declared.looked.LookedField.{LookedField}
 use Rattle.remaster.specs.declared.lines.SurveyLine.{SurveyLine}
 use Rattle.remaster.specs.Looked.{AreLooked}

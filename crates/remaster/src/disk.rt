@@ -1,8 +1,6 @@
 // A whole medium laid out anew.
 ghost use Rattle.std.specs.Prelude.{◌≡◌, ◌≢◌, ◌<◌, ℕ, true, length, IfOk, IfErr, OnOk};
-ghost use Rattle.flop_base.specs.Standard.{words_at};
-ghost use Rattle.raw_image.specs.Disk.{Disk, HasTrack, track_of, IsWithTrack};
-ghost use Rattle.track_model.specs.Cells.{IsTrackSized};
+ghost use Rattle.remaster.specs.Common.{words_at, Disk, HasTrack, track_of, IsWithTrack, IsTrackSized};
 ghost use Rattle.remaster.specs.Remastered.{HasShapeOf, Remasters, IsTrackRemaster, IsTrackError, IsDone, IsUnfitIn};
 
 use crate::error::RemasterError;

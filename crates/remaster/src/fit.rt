@@ -1,6 +1,6 @@
 // Whether the sectors of a track can be laid out anew.
 ghost use Rattle.std.specs.Prelude.{◌≡◌, ◌≢◌, ◌<◌, ◌↔◌, IsTrue, MatchOption, length, slice_index_or, All, AllPairs};
-ghost use Rattle.track_model.specs.Fields.{IsSizeCode};
+ghost use Rattle.remaster.specs.Common.{IsSizeCode};
 ghost use Rattle.remaster.specs.declared.sectors.Sector.{Sector};
 ghost use Rattle.remaster.specs.Fit.{IsOwnKey, HasSizeCode, MayShare, IsFit, IsPlanned};
 

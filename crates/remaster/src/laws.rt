@@ -1,6 +1,6 @@
 // What is known of the lists of a track.
 ghost use Rattle.std.specs.Prelude.{◌≡◌, ℕ, List};
-ghost use Rattle.flop_base.specs.declared.answers.Rate.{Rate};
+ghost use Rattle.remaster.specs.Common.{Rate};
 ghost use Rattle.remaster.specs.declared.looked.LookedField.{LookedField};
 ghost use Rattle.remaster.specs.declared.sectors.Sector.{Sector};
 ghost use Rattle.remaster.specs.Looked.{AreLooked};

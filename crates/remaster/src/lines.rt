@@ -1,6 +1,6 @@
 // A line for each address field of a medium.
 ghost use Rattle.std.specs.Prelude.{◌≡◌, ◌++◌, ◌<◌, List, map, Some, OnOk, IfOk};
-ghost use Rattle.raw_image.specs.Disk.{HasTrack, track_of};
+ghost use Rattle.remaster.specs.Common.{HasTrack, track_of};
 ghost use Rattle.remaster.specs.declared.looked.LookedField.{LookedField};
 ghost use Rattle.remaster.specs.declared.lines.SurveyLine.{SurveyLine};
 ghost use Rattle.remaster.specs.Looked.{AreLooked};

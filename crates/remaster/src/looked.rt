@@ -1,8 +1,6 @@
 // The address fields of a track, each with what is found behind it.
 ghost use Rattle.std.specs.Prelude.{IfOk, ◌≤◌, ◌↔◌, IsTrue};
-ghost use Rattle.track_model.specs.Cells.{IsTrackSized};
-ghost use Rattle.track_model.specs.Fields.{IsAddressAt, IsSizeCode};
-ghost use Rattle.track_model.specs.Looks.{LookAt};
+ghost use Rattle.remaster.specs.Common.{IsTrackSized, IsAddressAt, IsSizeCode, LookAt};
 ghost use Rattle.remaster.specs.Looked.{AreLooked};
 
 use flop_base::NoMemory;

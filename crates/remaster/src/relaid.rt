@@ -1,11 +1,6 @@
 // A track laid out anew from its sectors.
 ghost use Rattle.std.specs.Prelude.{◌≡◌, ◌+◌, ◌*◌, ◌<◌, ◌≤◌, length, map, IfOk, OnOk, All, [], ◌≢◌};
-ghost use Rattle.flop_base.specs.Standard.{words_at};
-ghost use Rattle.track_model.specs.Cells.{IsTrackSized};
-ghost use Rattle.track_model.specs.Fields.{IsSizeCode, IsAddressAt, content_size};
-ghost use Rattle.track_model.specs.LaidFields.{sector_place, IsKey};
-ghost use Rattle.track_model.specs.Laid.{with_window};
-ghost use Rattle.track_model.specs.Regular.{IsSpaced, IsRegular};
+ghost use Rattle.remaster.specs.Common.{words_at, IsTrackSized, IsSizeCode, IsAddressAt, content_size, sector_place, IsKey, with_window, IsSpaced, IsRegular};
 ghost use Rattle.track_model.specs.Kept.{KeepsOthers};
 ghost use Rattle.remaster.specs.Sectors.{AreSectors};
 ghost use Rattle.remaster.specs.Fit.{HasSize, IsPlanned};

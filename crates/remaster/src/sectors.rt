@@ -1,7 +1,6 @@
 // The sectors of a track, with their contents.
 ghost use Rattle.std.specs.Prelude.{◌≡◌, ◌++◌, ◌*◌, ◌+◌, OnOk, IfOk, All};
-ghost use Rattle.track_model.specs.Cells.{IsTrackSized, IsInside};
-ghost use Rattle.track_model.specs.Fields.{IsSizeCode, IsAddressAt, content_size, content_at};
+ghost use Rattle.remaster.specs.Common.{IsTrackSized, IsInside, IsSizeCode, IsAddressAt, content_size, content_at};
 ghost use Rattle.remaster.specs.Looked.{HasLook};
 ghost use Rattle.remaster.specs.Sectors.{AreSectors, found_at};
 ghost use Rattle.remaster.specs.Fit.{HasSize};

@@ -1,12 +1,7 @@
 -- The records of a diskette, with one more record, head or cylinder at a time.
 use Rattle.std.proofs.Common.{◌≡◌, ℕ, zero, suc, ◌+◌, ◌-◌, ◌≤◌, List, [], ◌∷◌, ◌++◌, map, sym, ap, ◌∙◌, append_assoc, refl, arith}
-use Rattle.std.specs.List.{range_with_len, flat_map}
-use Rattle.std.proofs.lemmas.List.{append-nil, flat_map_more}
-use Rattle.std.proofs.lemmas.List.FromFn.{map-range_with_len_more}
-use Rattle.flop_base.specs.declared.key.Chrn.{Chrn}
-use Rattle.flop_base.specs.Standard.{sectors_at}
-use Rattle.flop_base.specs.declared.answers.Rate.{Rate}
-use Rattle.sector_map.specs.Standard.{key_of, track_keys, cylinder_keys}
+use Rattle.rescue.proofs.Common.{range_with_len, flat_map, append-nil, flat_map_more, map-range_with_len_more, Chrn, sectors_at, Rate, key_of}
+use Rattle.sector_map.specs.Standard.{track_keys, cylinder_keys}
 use Rattle.rescue.specs.Course.{standard_keys}
 
 pub track-more : (r c h : ℕ) → 1 ≤ r → track_keys (r + 1 - 1) c h ≡ track_keys (r - 1) c h ++ key_of c h r ∷ []

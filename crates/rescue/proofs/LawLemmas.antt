@@ -1,13 +1,8 @@
 -- A log's text is the text of no other log, and has no bad line.
 use Rattle.std.proofs.Common.{◌≡◌, ℕ, ◌<◌, List, [], ◌∷◌, ◌++◌, length, get_or, refl, sym, ap, ◌∙◌, subst, arith, append_assoc, length-append}
-use Rattle.std.proofs.lemmas.List.{get_or_append_left, append-nil, append_cancel_left}
-use Rattle.std.proofs.lemmas.List.Elements.{recursion_from_All}
-use Rattle.std.specs.List.{AllByRecursion}
+use Rattle.rescue.proofs.Common.{get_or_append_left, append-nil, append_cancel_left, recursion_from_All, AllByRecursion, BeginsWith, line_text, log_text, IsLogLine, IsBefore, IsLog, IsFirstBadLine, LogLine}
 use Rattle.rescue.proofs.LogLemmas.{less_left}
 use Rattle.rescue.proofs.TextLemmas.{begins_with_one, same_tail}
-use Rattle.rescue.specs.Fields.{BeginsWith}
-use Rattle.rescue.specs.Log.{line_text, log_text, IsLogLine, IsBefore, IsLog, IsFirstBadLine}
-use Rattle.rescue.specs.declared.line.LogLine.{LogLine}
 
 -- the text of a first line and the others
 text-cons : (line : LogLine) (lines : List LogLine) (rest : List ℕ) → log_text (line ∷ lines) ++ rest ≡ line_text line ++ (10 ∷ (log_text lines ++ rest))

@@ -1,18 +1,11 @@
 -- A log grows line by line, and its beginnings are logs.
 use Rattle.std.proofs.Common.{◌≡◌, ℕ, ◌+◌, ◌-◌, ◌<◌, ◌≤◌, Bool, true, false, List, [], ◌∷◌, ◌++◌, length, take, get_or, eqb, Some, refl, sym, ap, subst, arith, length-append, append_assoc}
-use Rattle.std.proofs.lemmas.Bool.{eqb-true, eqb-false}
-use Rattle.std.proofs.lemmas.List.{get_or_append_left, append-nil, take_more}
+use Rattle.rescue.proofs.Common.{eqb-true, eqb-false, get_or_append_left, append-nil, take_more, All-append, All-from_recursion, AllPairs, slice_get, Chrn, BeginsWith, line_text, log_text, IsLogLine, IsBefore, IsLog, IsAfterLast, IsFirstBadLine, LogLine}
 use Rattle.std.proofs.lemmas.List.Concat.{flat_map-append}
-use Rattle.std.proofs.lemmas.List.Elements.{All-append, All-from_recursion}
 use Rattle.std.proofs.lemmas.List.Quantifiers.{all_pairs_push}
 use Rattle.std.proofs.lemmas.Option.{slice_get-get_or}
 use Rattle.std.proofs.Math.Seq.{get_or-append_seam}
-use Rattle.std.specs.List.{AllPairs, slice_get}
-use Rattle.flop_base.specs.declared.key.Chrn.{Chrn}
 use Rattle.rescue.proofs.TextLemmas.{begins_with_one}
-use Rattle.rescue.specs.Fields.{BeginsWith}
-use Rattle.rescue.specs.Log.{line_text, log_text, IsLogLine, IsBefore, IsLog, IsAfterLast, IsFirstBadLine}
-use Rattle.rescue.specs.declared.line.LogLine.{LogLine}
 
 -- the record of one line is before that of another
 abbrev pub Before : LogLine → LogLine → Type 0

@@ -1,20 +1,11 @@
 -- The records of the standard format are in rising order.
 use Rattle.std.proofs.Common.{◌≡◌, ℕ, zero, suc, ◌+◌, ◌<◌, ◌≤◌, inl, inr, List, [], ◌∷◌, ◌++◌, length, get_or, map, refl, sym, ap, ◌∙◌, subst, arith}
-use Rattle.std.proofs.lemmas.List.{flat_map_more, get_or-map, length-map}
-use Rattle.std.proofs.lemmas.List.Elements.{All-from_recursion}
-use Rattle.std.proofs.lemmas.List.FromFn.{map-range_with_len_more}
+use Rattle.rescue.proofs.Common.{flat_map_more, get_or-map, length-map, All-from_recursion, map-range_with_len_more, AllByRecursion, AllPairs, range_with_len, flat_map, Chrn, Rate, sectors_at, key_of, BadRequest, logged_keys, IsBefore, IsLog, LogLine}
 use Rattle.std.proofs.lemmas.List.Kept.{AllPairs-cons}
 use Rattle.std.specs.Prelude.{⊤}
-use Rattle.std.specs.List.{AllByRecursion, AllPairs, range_with_len, flat_map}
-use Rattle.flop_base.specs.declared.key.Chrn.{Chrn}
-use Rattle.flop_base.specs.declared.answers.Rate.{Rate}
-use Rattle.flop_base.specs.Standard.{sectors_at}
-use Rattle.sector_map.specs.Standard.{key_of, track_keys, cylinder_keys}
+use Rattle.sector_map.specs.Standard.{track_keys, cylinder_keys}
 use Rattle.rescue.proofs.KeyLemmas.{range_suc}
-use Rattle.flop_base.specs.declared.answers.Code.TheVariants.{BadRequest}
-use Rattle.rescue.specs.Course.{standard_keys, logged_keys}
-use Rattle.rescue.specs.Log.{IsBefore, IsLog}
-use Rattle.rescue.specs.declared.line.LogLine.{LogLine}
+use Rattle.rescue.specs.Course.{standard_keys}
 
 -- each record is before all later ones
 abbrev Rises : List Chrn → Type 0

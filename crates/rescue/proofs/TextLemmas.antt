@@ -1,23 +1,10 @@
 -- Cutting a text at spaces and at line feeds gives the words and lines from which it was joined.
 use Rattle.std.proofs.Common.{◌≡◌, ℕ, ◌+◌, ◌<◌, ◌≤◌, Bool, false, List, [], ◌∷◌, ◌++◌, length, take, drop, get_or, nat_lt, eqb, cond, Some, None, refl, sym, ap, ◌∙◌, subst, arith, lit<, lit≤}
-use Rattle.std.proofs.lemmas.Bool.{eqb-true}
-use Rattle.std.proofs.lemmas.Bool.Decides.{nat_tests}
-use Rattle.std.proofs.lemmas.Fmt.{decimal_is_IsNumeral}
-use Rattle.std.proofs.lemmas.List.Elements.{All-from_recursion}
+use Rattle.rescue.proofs.Common.{eqb-true, nat_tests, decimal_is_IsNumeral, All-from_recursion, drop-drop, digit_from_value, decimal, AllByRecursion, join_with_byte, position, position_or_len, AllDigits, Code, BadRequest, NoMark, Protected, NotFound, Changed, Overrun, Page, BadCrc, Seek, NotReady, line_of, words_of, pieces_of, BeginsWith, BeginsWithNone, code_text, line_words, line_text, IsLogLine, LogLine}
 use Rattle.std.proofs.lemmas.List.Splits.{slice_split_none, slice_split_at, length-slice_split, join_with_byte-slice_split}
-use Rattle.std.proofs.lemmas.List.{drop-drop}
 use Rattle.std.proofs.lemmas.List.Splits.{slice_split_first}
 use Rattle.std.proofs.lemmas.List.Sums.{split_at_first, fails_before_first, passes_at_first}
-use Rattle.std.proofs.lemmas.Str.Parse.{digit_from_value}
-use Rattle.std.specs.Fmt.{decimal}
-use Rattle.std.specs.List.{AllByRecursion, join_with_byte, position, position_or_len}
-use Rattle.std.specs.Str.Parse.{AllDigits}
-use Rattle.flop_base.specs.declared.answers.Code.{Code}
-use Rattle.flop_base.specs.declared.answers.Code.TheVariants.{BadRequest, NoMark, Protected, NotFound, Changed, Overrun, Page, BadCrc, Seek, NotReady}
 use Rattle.rescue.proofs.WordLemmas.{plain_text, code_text-is, line_of-read, line_of-words}
-use Rattle.rescue.specs.Fields.{line_of, words_of, pieces_of, BeginsWith, BeginsWithNone}
-use Rattle.rescue.specs.Log.{code_text, line_words, line_text, IsLogLine}
-use Rattle.rescue.specs.declared.line.LogLine.{LogLine}
 
 -- each number is m or more
 abbrev AllFrom : ℕ → List ℕ → Type 0

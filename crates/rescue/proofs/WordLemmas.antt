@@ -1,22 +1,14 @@
 -- The words of a line spell it, and no other words do.
 use Rattle.std.proofs.Common.{◌≡◌, ℕ, ◌/◌, ◌%◌, ◌<◌, ◌≤◌, Bool, true, false, ◌&&◌, cond, List, [], ◌∷◌, length, get_or, zero, suc, nat_le, nat_lt, eqb, Option, Some, None, option_and_then, refl, sym, ap, ◌∙◌, subst, arith, lit<, le-leb, lt-ltb, leb-true, ltb-true}
-use Rattle.std.proofs.lemmas.Bool.Decides.{nat_tests}
-use Rattle.std.proofs.lemmas.Fmt.{decimal_is_IsNumeral, length-decimal-le, decimal-digits_value, first_decimal, decimal_digit, hex_one_digit}
+use Rattle.rescue.proofs.Common.{nat_tests, decimal_is_IsNumeral, length-decimal-le, decimal-digits_value, first_decimal, decimal_digit, hex_one_digit, numerals_by_value, tells_digits, decimal, digit_glyph, AllDigits, IsNumeral, digits_value, Code, BadRequest, NoMark, Protected, NotFound, Changed, Overrun, Page, BadCrc, Seek, NotReady, code_text, line_words, IsLogLine, LogLine}
 use Rattle.std.proofs.lemmas.Slice.Eq.{bytes_eq-Decides}
-use Rattle.std.proofs.lemmas.Str.Parse.{numerals_by_value, tells_digits}
 use Rattle.std.specs.Char.{digit_value}
-use Rattle.std.specs.Fmt.{decimal, digit_glyph}
 use Rattle.std.specs.Prelude.{codes}
 use Rattle.floppy_jobs.specs.Spelling.{hex2}
 use Rattle.std.specs.Str.{bytes_eq}
-use Rattle.std.specs.Str.Parse.{AllDigits, IsNumeral, digits_value}
-use Rattle.flop_base.specs.declared.answers.Code.{Code}
-use Rattle.flop_base.specs.declared.answers.Code.TheVariants.{BadRequest, NoMark, Protected, NotFound, Changed, Overrun, Page, BadCrc, Seek, NotReady}
 use Rattle.floppy_jobs.specs.Numbers.{all_digits, number_of}
 use Rattle.sector_model.specs.Orders.{IsDeviceRefusal}
 use Rattle.rescue.specs.Fields.{plain_of, code_of, line_of}
-use Rattle.rescue.specs.Log.{code_text, line_words, IsLogLine}
-use Rattle.rescue.specs.declared.line.LogLine.{LogLine}
 
 pub and_left : (a b : Bool) → (a && b) ≡ true → a ≡ true
 and_left true b h = refl
@@ -169,16 +161,12 @@ code_of-read word code h =
 -- the spelling of each refusal of a drive is read as that refusal
 pub code_of-text : (code : Code) → IsDeviceRefusal code → code_of (code_text code) ≡ Some code
 unfolding code_of
-code_of-text BadRequest h = absurd h
 code_of-text NoMark h = rw (code_text-is NoMark) refl
-code_of-text Protected h = absurd h
 code_of-text NotFound h = rw (code_text-is NotFound) refl
-code_of-text Changed h = absurd h
 code_of-text Overrun h = rw (code_text-is Overrun) refl
-code_of-text Page h = absurd h
 code_of-text BadCrc h = rw (code_text-is BadCrc) refl
 code_of-text Seek h = rw (code_text-is Seek) refl
-code_of-text NotReady h = absurd h
+code_of-text _ h = absurd h
 
 -- lines
 
@@ -209,12 +197,8 @@ fields_read sectors cylinder head number code line small h =
 pub line_of-read : (sectors : ℕ) (words : List (List ℕ)) (line : LogLine) → sectors < 256 → line_of sectors words ≡ Some line
     → (words ≡ line_words line) × IsLogLine sectors line
 unfolding line_of
-line_of-read sectors [] line small h = absurd (cc)
-line_of-read sectors (c ∷ []) line small h = absurd (cc)
-line_of-read sectors (c ∷ d ∷ []) line small h = absurd (cc)
-line_of-read sectors (c ∷ d ∷ r ∷ []) line small h = absurd (cc)
 line_of-read sectors (c ∷ d ∷ r ∷ e ∷ []) line small h = fields_read sectors c d r e line small h
-line_of-read sectors (c ∷ d ∷ r ∷ e ∷ f ∷ fs) line small h = absurd (cc)
+line_of-read sectors _ line small h = absurd (cc)
 
 -- the words of each line are read as that line
 pub line_of-words : (sectors : ℕ) (line : LogLine) → sectors < 256 → IsLogLine sectors line → line_of sectors (line_words line) ≡ Some line

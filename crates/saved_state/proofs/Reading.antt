@@ -46,11 +46,7 @@ four_values fits spelled (a ∷ b ∷ c ∷ d ∷ []) here _ _ _ _ rest _ _ _ _ 
     let three = third c _ f.1.1.0 two.1 in
     let last = fourth d rest f.1.1.1.0 three.1 in
     (rw (one.0, two.0, three.0, last.0) refl, last.1)
-four_values fits spelled [] _ _ _ _ _ _ _ _ _ _ four _ _ _ _ _ _ = absurd (omega (arith, four))
-four_values fits spelled (_ ∷ []) _ _ _ _ _ _ _ _ _ _ four _ _ _ _ _ _ = absurd (omega (arith, four))
-four_values fits spelled (_ ∷ _ ∷ []) _ _ _ _ _ _ _ _ _ _ four _ _ _ _ _ _ = absurd (omega (arith, four))
-four_values fits spelled (_ ∷ _ ∷ _ ∷ []) _ _ _ _ _ _ _ _ _ _ four _ _ _ _ _ _ = absurd (omega (arith, four))
-four_values fits spelled (_ ∷ _ ∷ _ ∷ _ ∷ _ ∷ more) _ _ _ _ _ _ _ _ _ _ four _ _ _ _ _ _ = absurd (omega (arith, four))
+four_values fits spelled _ _ _ _ _ _ _ _ _ _ _ four _ _ _ _ _ _ = absurd (omega (arith, four))
 
 -- if each value of a type fits, so does each value of a list
 pub each_fits : {A : Type 0} (fits : A → Type 0) → ((value : A) → fits value) → (values : List A) → EachFits fits values

@@ -1,32 +1,12 @@
 -- Nothing disturbs a desk: its drives have no faults, and no DMA request waits too long.
-use Rattle.std.proofs.Common.{◌≡◌, ◌≤◌, ℕ, Bool, true, false, List, [], Some, None, refl, ap, ◌∙◌, arith, lit<}
+use Rattle.std.proofs.Common.{◌≡◌, ◌≤◌, ℕ, Bool, true, false, [], Some, None, refl, ap, arith, lit<}
 use Rattle.std.specs.Prelude.{◌==◌, is_some, if◌then◌else◌}
 use mathlib.Core.Bool.{false≢true}
-use Rattle.flop_base.specs.Counters.{Counters, DriveCounts, GoesOn, faults_of}
-use Rattle.drive_model.specs.Drive.{DriveState}
-use Rattle.drive_model.specs.PlainDrive.{plain_state}
-use Rattle.drive_model.specs.declared.plain.PlainDrive.{PlainDrive}
-use Rattle.irq_events.specs.declared.pace.Pace.{Pace}
-use Rattle.machine_commands.specs.Shown.{stalls_left}
-use Rattle.machine_commands.specs.StationReady.{IsStationReady}
-use Rattle.machine_commands.specs.StationShown.{station_shown}
-use Rattle.machine_commands.specs.Started.{Starts}
-use Rattle.machine_commands.specs.declared.station.MachineStation.{MachineStation}
-use Rattle.pc_bus.specs.Boards.{Board, IsNew, holds_of}
-use Rattle.pc_bus.specs.declared.bus.Bus.{Bus}
-use Rattle.sector_model.specs.Orders.{is_acknowledged}
-use Rattle.sector_model.specs.Stations.{StationState, bay_of}
+use Rattle.flop_base.specs.Counters.{Counters, GoesOn, faults_of}
+use Rattle.sector_desk.proofs.Common.{plain_state, PlainDrive, IsStationReady, station_shown, MachineStation, is_acknowledged, bay_of}
 use Rattle.sector_desk.specs.Quiet.{IsCalm, stalls_due}
 
 -- ---- no stall is due
-
-pub quiet_at_first : (pace : Pace) (bay0 bay1 : DriveState) (board : Board) (spares : List DriveCounts) (station : StationState)
-    → pace.holds.items ≡ [] → IsNew pace bay0 bay1 board → Starts board spares station → stalls_due station.counters ≡ 0
-quiet_at_first pace bay0 bay1 board spares station none new starts =
-    let stalls : (holds_of board).stalls ≡ 0 = ap (λ (b : Bus). b.chips.holding.stalls) new.bus in
-    let entries : (holds_of board).entries ≡ [] = ap (λ (b : Bus). b.chips.holding.entries) new.bus ∙ none in
-    let left : stalls_left (holds_of board).entries ≡ 0 = ap stalls_left entries in
-    omega (arith, stalls, left, starts.counts.stalls_spent)
 
 pub quiet_still : (old new : Counters) → GoesOn old new → stalls_due old ≡ 0 → stalls_due new ≡ 0
 quiet_still old new goes quiet = omega (arith, goes.stalls_spent, quiet)

@@ -5,12 +5,9 @@ use mathlib.Core.Bool.{false≢true}
 use Rattle.std.proofs.lemmas.List.FromFn.{length-map-range_with_len}
 use Rattle.flop_base.specs.declared.answers.Code.{Code}
 use Rattle.flop_base.specs.declared.key.Chrn.{Chrn}
-use Rattle.flop_base.specs.Memory.{bytes_from, user_bytes}
+use Rattle.sector_desk.proofs.Common.{bytes_from, user_bytes, read_refusal, IsRefusedAtOnce, StationState, sector_place}
 use Rattle.track_model.specs.Fields.{content_size}
-use Rattle.sector_model.specs.Orders.{read_refusal, IsRefusedAtOnce}
 use Rattle.sector_model.specs.Reads.{IsRead, Reads, ReadsDrive}
-use Rattle.sector_model.specs.Stations.{StationState}
-use Rattle.sector_desk.specs.Desks.{sector_place}
 use Rattle.sector_desk.proofs.Placing.{at_stands}
 
 -- a read that was answered reached the drive

@@ -1,3 +1,4 @@
+mod Common
 pub mod Readying
 pub mod Calming
 pub mod Placing

@@ -1,16 +1,12 @@
 -- Bytes that are put to the desk's place one by one.
 use Rattle.std.proofs.Common.{◌≡◌, ◌+◌, ◌<◌, ◌≤◌, ◌∷◌, ◌++◌, ℕ, List, [], length, take, drop, get_or, refl, sym, ap, ◌∙◌, arith}
 use Rattle.std.specs.Prelude.{slice_set}
-use Rattle.std.proofs.lemmas.List.{ext_get_or, get_or-take, get_or-drop, length-take, length-take-le, length-drop, take_more}
+use Rattle.sector_desk.proofs.Common.{ext_get_or, get_or-take, get_or-drop, length-take, length-take-le, length-drop, take_more, bytes_from, user_bytes, StationState, sector_place, Places}
 use Rattle.flop_base.specs.Lists.{with_items}
-use Rattle.flop_base.specs.Memory.{bytes_from, user_bytes}
 use Rattle.flop_base.proofs.Costs.{costs_after, costs_none}
 use Rattle.floppy_session.proofs.Memories.{with_items-nil, set-with_items}
 use Rattle.sector_model.specs.Calls.{SetsMemory}
-use Rattle.sector_model.specs.Stations.{StationState}
 use Rattle.track_model.proofs.Splices.{length-with_items, with_items_at}
-use Rattle.sector_desk.specs.Desks.{sector_place}
-use Rattle.sector_desk.specs.Sectors.{Places}
 
 -- no byte has been put yet
 pub places_none : (old : StationState) (bytes : List ℕ) → Places (take 0 bytes) old old

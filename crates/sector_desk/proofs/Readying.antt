@@ -4,18 +4,14 @@ use mathlib.Core.HLevel.{⊥_prop}
 use mathlib.Core.Logic.{∥∥₁_elim, ∥∥₁_map}
 use Rattle.std.proofs.Props.{props}
 use Rattle.std.proofs.lemmas.Bool.{cases_eq}
-use Rattle.drive_model.specs.PlainDrive.{plain_state}
-use Rattle.drive_model.specs.declared.plain.PlainDrive.{PlainDrive}
+use Rattle.sector_desk.proofs.Common.{plain_state, PlainDrive, Board, controller_of, IsStationReady, MachineStation}
 use Rattle.fdc_core.specs.State.{dor_of}
 use Rattle.fdc_core.specs.declared.controller.Fdc.{Fdc}
 use Rattle.fdc_phases.specs.declared.phases.Phase.{Phase}
-use Rattle.fdc_phases.specs.declared.phases.Phase.TheVariants.{Command, Execute, Result}
+use Rattle.fdc_phases.specs.declared.phases.Phase.TheVariants.{Command}
 use Rattle.fdc_commands.specs.Seeking.{Seeking}
-use Rattle.pc_bus.specs.Boards.{Board, controller_of}
 use Rattle.machine_commands.specs.Ready.{AreSeeksOver, HasMotors, IsIdle, IsReady, dor_with}
 use Rattle.machine_commands.specs.declared.motors.Motors.{Motors}
-use Rattle.machine_commands.specs.StationReady.{IsStationReady}
-use Rattle.machine_commands.specs.declared.station.MachineStation.{MachineStation}
 
 none_again : {A : Type 0} (o : Option A) → ∥ o ≡ None ∥₁ → o ≡ None
 none_again None told = refl
@@ -23,8 +19,7 @@ none_again (Some x) told = let none : ⊥ = ∥∥₁_elim told ⊥_prop (λ is.
 
 phase_again : (phase : Phase) → ∥ phase ≡ Command ∥₁ → phase ≡ Command
 phase_again Command told = refl
-phase_again (Execute execution) told = let none : ⊥ = ∥∥₁_elim told ⊥_prop (λ is. cc) in absurd none
-phase_again (Result answer) told = let none : ⊥ = ∥∥₁_elim told ⊥_prop (λ is. cc) in absurd none
+phase_again _ told = let none : ⊥ = ∥∥₁_elim told ⊥_prop (λ is. cc) in absurd none
 
 seeks_again : (seeks : Seeking) → ∥ AreSeeksOver seeks ∥₁ → AreSeeksOver seeks
 seeks_again seeks told = record {

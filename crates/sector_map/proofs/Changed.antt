@@ -1,25 +1,8 @@
 -- What the disk is after a change.
 use Rattle.std.proofs.Common.{◌≡◌, ℕ, ◌+◌, ◌≤◌, Bool, List, length, take, sym, ap, subst, ◌∙◌, arith, inr}
-use Rattle.std.proofs.lemmas.List.{length-take}
-use Rattle.flop_base.specs.declared.key.Chrn.{Chrn}
-use Rattle.raw_image.specs.Disk.{Disk, HasTrack, track_of}
-use Rattle.track_model.specs.declared.Look.{Look}
-use Rattle.track_model.specs.declared.Look.TheVariants.{Found}
-use Rattle.track_model.specs.Fields.{IsAddressAt, content_at}
-use Rattle.track_model.specs.Looks.{LookAt}
-use Rattle.track_model.specs.Regular.{IsRegular}
-use Rattle.track_model.specs.Kept.{KeepsOthers}
-use Rattle.track_model.specs.Windows.{window_word, window_words, window_place, cut_of, IsCuttable, IsFieldFor}
+use Rattle.sector_map.proofs.Common.{length-take, Chrn, Disk, HasTrack, track_of, Look, Found, IsAddressAt, content_at, LookAt, IsRegular, KeepsOthers, window_word, window_words, window_place, cut_of, IsCuttable, IsFieldFor, same_before, length-with_items, one_look_at, length-window, IsRegularDisk, IsOnMap, IsClearAddress, Change, Written, window_of, IsChange, KeepsTracks, KeepsOtherKeys, KeepsSectors, IsWholeChange, IsSafeChange, HasWritten, entry_of}
 use Rattle.track_model.proofs.Frames.{same_address_at}
-use Rattle.track_model.proofs.Splices.{same_before, length-with_items}
-use Rattle.track_model.proofs.Unique.{one_look_at}
-use Rattle.track_model.proofs.Written.{length-window}
 use Rattle.track_model.proofs.Kept as cuts
-use Rattle.sector_map.specs.Disks.{IsRegularDisk, IsOnMap}
-use Rattle.sector_map.specs.Met.{IsClearAddress}
-use Rattle.sector_map.specs.Changes.{Change, Written, window_of, IsChange}
-use Rattle.sector_map.specs.KeptDisks.{KeepsTracks, KeepsOtherKeys, KeepsSectors}
-use Rattle.sector_map.specs.ChangedDisks.{IsWholeChange, IsSafeChange, HasWritten, entry_of}
 use Rattle.sector_map.proofs.Writable.{FitsKey}
 use Rattle.sector_map.proofs.RegularTracks.{spaced_from, clear_address, key_cylinder}
 use Rattle.sector_map.proofs.KeptTracks.{has_after, had_before, each_track, with_track_keeps}

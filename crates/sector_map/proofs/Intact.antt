@@ -1,11 +1,6 @@
 -- The CRC of a data field, computed from its mark byte on.
 use Rattle.std.proofs.Common.{◌≡◌, ℕ, ◌+◌, ◌*◌, Bool, List, ◌∷◌, ◌↔◌, IsTrue, refl, subst, sym, ap, ◌∙◌, arith}
-use Rattle.track_model.specs.Bytes.{byte_at, bytes_at}
-use Rattle.track_model.specs.Marks.{TouchesNoZero}
-use Rattle.track_model.specs.Cells.{IsInside}
-use Rattle.track_model.specs.Fields.{HasCheck, after_marks, content_size, data_cells, content_at}
-use Rattle.track_model.specs.Looks.{IsIntact}
-use Rattle.track_model.proofs.Places.{bytes_at-cons}
+use Rattle.sector_map.proofs.Common.{byte_at, bytes_at, TouchesNoZero, IsInside, HasCheck, after_marks, content_size, data_cells, content_at, IsIntact, bytes_at-cons}
 
 same_check : (track : List ℕ) (p q : ℕ) (bytes other : List ℕ) → p ≡ q → bytes ≡ other → HasCheck track p bytes → HasCheck track q other
 same_check track p q bytes other e f h =
@@ -34,6 +29,3 @@ module _ (track : List ℕ) (q n size : ℕ) (sized : size ≡ content_size n) w
     },
     λ whole. h.1 (same_check track _ _ _ _ (sym place) (sym bytes_are) whole.check),
   )
-
-  pub touched_not_intact : (TouchesNoZero track q (64 + 16 * (size + 2)) → ⊥) → IsIntact track q n → ⊥
-  touched_not_intact touched whole = touched (λ k low high. whole.sound.no_zero k low (omega arith))

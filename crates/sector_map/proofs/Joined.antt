@@ -1,15 +1,7 @@
 -- Two changes joined into one, and changes of no words.
 use Rattle.std.proofs.Common.{◌≡◌, ℕ, ◌+◌, ◌≤◌, List, ◌++◌, length, take, drop, max, sym, ap, subst, ◌∙◌, arith, inl, inr}
-use Rattle.std.proofs.lemmas.List.{take-append-drop}
-use Rattle.raw_image.specs.Disk.{Disk, IsDisk, HasTrack, track_of, IsWithTrack}
-use Rattle.track_model.specs.Fields.{IsAddressAt}
-use Rattle.track_model.specs.Regular.{IsRegular}
+use Rattle.sector_map.proofs.Common.{take-append-drop, Disk, IsDisk, HasTrack, track_of, IsWithTrack, IsAddressAt, IsRegular, window_word, cut_of, IsCuttable, longer_cut, IsRegularDisk, Change, Written, window_of, IsChange, IsSafeChange, joined}
 use Rattle.flop_base.specs.Lists.{with_items}
-use Rattle.track_model.specs.Windows.{window_word, cut_of, IsCuttable}
-use Rattle.track_model.proofs.Splices.{longer_cut}
-use Rattle.sector_map.specs.Disks.{IsRegularDisk}
-use Rattle.sector_map.specs.Changes.{Change, Written, window_of, IsChange}
-use Rattle.sector_map.specs.ChangedDisks.{IsSafeChange, joined}
 use Rattle.sector_map.proofs.Writable.{FitsKey}
 use Rattle.sector_map.proofs.RegularTracks.{length-track_of, window_inside}
 use Rattle.sector_map.proofs.KeptTracks.{with_itself, with_later}

@@ -1,18 +1,6 @@
 -- The data of all keys of a track but one.
 use Rattle.std.proofs.Common.{◌≡◌, ◌≢◌, ◌↔◌, ℕ, Bool, List, refl, sym, subst, ◌∙◌}
-use Rattle.flop_base.specs.declared.key.Chrn.{Chrn}
-use Rattle.raw_image.specs.Disk.{Disk, HasTrack, track_of}
-use Rattle.track_model.specs.declared.Look.{Look}
-use Rattle.track_model.specs.declared.Look.TheVariants.{Found, NoMark, NoSector, NoData, BadCrc}
-use Rattle.track_model.specs.Fields.{IsAddressAt, content_at}
-use Rattle.track_model.specs.Looks.{LookAt, LookFirst, LookFor, HasAddressMark}
-use Rattle.track_model.specs.Sectors.{IsSector}
-use Rattle.track_model.specs.Kept.{KeepsOthers}
-use Rattle.track_model.specs.Regular.{IsRegular}
-use Rattle.track_model.proofs.Unique.{one_key}
-use Rattle.sector_map.specs.Disks.{LookOn, Entry, IsOnMap}
-use Rattle.sector_map.specs.Met.{HasLook, AllFound}
-use Rattle.sector_map.specs.KeptDisks.{KeepsOtherKeys}
+use Rattle.sector_map.proofs.Common.{Chrn, Disk, HasTrack, track_of, Look, Found, NoMark, NoSector, NoData, BadCrc, IsAddressAt, content_at, LookAt, LookFirst, LookFor, HasAddressMark, IsSector, KeepsOthers, IsRegular, one_key, LookOn, Entry, IsOnMap, HasLook, AllFound, KeepsOtherKeys}
 
 -- `after` has the address fields of the track at the same places, and behind them the data of all keys but one
 pub record KeepsPlaces (track : List ℕ) (key : Chrn) (after : List ℕ) : Type 0 where

@@ -1,17 +1,6 @@
 -- A disk after one of its tracks was replaced.
 use Rattle.std.proofs.Common.{◌≡◌, ◌↔◌, ℕ, ◌<◌, List, Option, Some, length, refl, sym, subst, ◌∙◌, inl, inr}
-use Rattle.std.proofs.lemmas.Bool.{cases_eq}
-use Rattle.flop_base.specs.declared.key.Chrn.{Chrn}
-use Rattle.flop_base.specs.declared.answers.Rate.{Rate}
-use Rattle.raw_image.specs.Disk.{Disk, IsDisk, HasTrack, track_of, IsWithTrack}
-use Rattle.track_model.specs.declared.Look.{Look}
-use Rattle.track_model.specs.declared.Look.TheVariants.{Found}
-use Rattle.track_model.specs.Fields.{IsAddressAt, content_at}
-use Rattle.track_model.specs.Looks.{LookAt, LookFor}
-use Rattle.track_model.specs.Regular.{IsRegular}
-use Rattle.sector_map.specs.Disks.{LookOn, IsRegularDisk, Entry, IsOnMap}
-use Rattle.sector_map.specs.MetTracks.{MeetsTrack}
-use Rattle.sector_map.specs.KeptDisks.{AreAlike, KeepsTracks}
+use Rattle.sector_map.proofs.Common.{cases_eq, Rate, Disk, IsDisk, HasTrack, track_of, IsWithTrack, Found, IsAddressAt, content_at, LookAt, IsRegular, IsRegularDisk, Entry, IsOnMap, MeetsTrack, AreAlike, KeepsTracks}
 use Rattle.sector_map.proofs.RegularTracks.{length-track_of}
 
 module _ (disk after : Disk) (c h : ℕ) (words : List ℕ) (laid : IsWithTrack disk c h words after) where
@@ -127,19 +116,6 @@ keeps_both disk middle after c h first second = record {
 -- ---- what the other tracks have
 
 module _ (disk : Disk) (c h : ℕ) (after : Disk) (keeps : KeepsTracks disk c h after) where
-  pub elsewhere_looked : (key : Chrn) (look : Look) → (key.c ≡ c → key.h ≡ h → ⊥) → LookOn disk key look ↔ LookOn after key look
-  elsewhere_looked key look other = (
-    λ on. record {
-      there = λ has.
-          let had = (alike_tracks disk after key.c key.h keeps.alike).1 has in
-          subst (λ track. LookFor track key look) (sym (keeps.others key.c key.h had other)) (on.there had);
-      absent = λ none. on.absent (λ had. none ((alike_tracks disk after key.c key.h keeps.alike).0 had));
-    },
-    λ on. record {
-      there = λ had. subst (λ track. LookFor track key look) (keeps.others key.c key.h had other) (on.there ((alike_tracks disk after key.c key.h keeps.alike).0 had));
-      absent = λ none. on.absent (λ has. none ((alike_tracks disk after key.c key.h keeps.alike).1 has));
-    },
-  )
 
   on_map : (from to : Disk) (entry : Entry) → HasTrack to entry.cylinder entry.head → track_of to entry.cylinder entry.head ≡ track_of from entry.cylinder entry.head → IsOnMap from entry → IsOnMap to entry
   on_map from to entry has same on = record {

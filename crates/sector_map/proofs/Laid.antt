@@ -1,20 +1,13 @@
 -- What the disk is after a laying, and the keys of a format.
 use Rattle.std.proofs.Common.{◌≡◌, ◌↔◌, ℕ, false, ◌+◌, ◌-◌, ◌<◌, ◌≤◌, List, ◌++◌, length, take, drop, max, get_or, All, sym, ap, subst, ◌∙◌, arith}
-use Rattle.std.proofs.lemmas.List.{length-append, length-take, length-replicate, drop_all, take_all, append-nil}
-use Rattle.std.proofs.lemmas.List.FromFn.{length-map-range_with_len, get_or-map-range_with_len}
-use Rattle.flop_base.specs.declared.key.Chrn.{Chrn}
-use Rattle.flop_base.specs.Standard.{sectors_at, standard_code}
-use Rattle.raw_image.specs.Disk.{Disk, IsDisk, track_of, IsWithTrack}
+use Rattle.sector_map.proofs.Common.{length-append, length-take, length-replicate, drop_all, take_all, append-nil, length-map-range_with_len, get_or-map-range_with_len, Chrn, sectors_at, standard_code, Disk, IsDisk, track_of, IsWithTrack, longer_cut, key_of, AreAlike, KeepsTracks, joined_laying}
 use Rattle.track_model.specs.declared.symbol.Symbol.{Symbol}
 use Rattle.track_model.specs.declared.symbol.Symbol.TheVariants.{Byte}
 use Rattle.track_model.specs.Layouts.{lay, track_symbols, gap, laid_words, Fits}
 use Rattle.flop_base.specs.Lists.{with_items}
 use Rattle.track_model.proofs.Recorded.{length-recorded}
-use Rattle.track_model.proofs.Splices.{longer_cut}
-use Rattle.sector_map.specs.Standard.{key_of, track_keys}
+use Rattle.sector_map.specs.Standard.{track_keys}
 use Rattle.sector_map.specs.Layings.{Format, format_keys, formatted, Laying, IsLaying, CanFormat}
-use Rattle.sector_map.specs.KeptDisks.{AreAlike, KeepsTracks}
-use Rattle.sector_map.specs.LaidDisks.{joined_laying}
 use Rattle.sector_map.proofs.RegularTracks.{length-track_of}
 use Rattle.sector_map.proofs.KeptTracks.{alike_tracks, with_track_keeps, with_later}
 

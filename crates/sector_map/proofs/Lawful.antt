@@ -1,14 +1,6 @@
 -- The laws on windows, for any key that the address field has.
 use Rattle.std.proofs.Common.{◌≡◌, ℕ, ◌+◌, ◌^◌, ◌<◌, ◌≤◌, ◌⊎◌, Bool, List, length, get_or, max, subst}
-use Rattle.flop_base.specs.declared.key.Chrn.{Chrn}
-use Rattle.track_model.specs.declared.Look.TheVariants.{Found, BadCrc}
-use Rattle.track_model.specs.Fields.{IsAddressAt, content_at}
-use Rattle.track_model.specs.Looks.{LookAt}
-use Rattle.track_model.specs.Writing.{window}
-use Rattle.track_model.specs.Windows.{window_place, cut_of, HasFieldFor, IsTidy, damaged_window}
-use Rattle.track_model.specs.Regular.{IsSpaced}
-use Rattle.track_model.specs.Kept.{KeepsOthers}
-use Rattle.track_model.proofs.Unique.{one_key}
+use Rattle.sector_map.proofs.Common.{Chrn, Found, BadCrc, IsAddressAt, content_at, LookAt, window, window_place, cut_of, HasFieldFor, IsTidy, damaged_window, IsSpaced, KeepsOthers, one_key}
 use Rattle.track_model.proofs.Kept
 
 module _ (track : List ℕ) (p : ℕ) (deleted : Bool) (content : List ℕ) (spaced : IsSpaced track) (field : HasFieldFor track p content) where

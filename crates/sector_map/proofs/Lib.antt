@@ -1,3 +1,4 @@
+mod Common
 pub mod Writable
 pub mod Changed
 pub mod Joined

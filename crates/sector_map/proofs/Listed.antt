@@ -1,15 +1,7 @@
 -- Lists of failing keys, joined one after the other.
 use Rattle.std.proofs.Common.{◌≡◌, ℕ, zero, suc, ◌+◌, ◌-◌, ◌≤◌, List, [], ◌∷◌, ◌++◌, map, take, sym, ap, subst, ◌∙◌, append_assoc, refl, arith}
-use Rattle.std.specs.List.{range_with_len, flat_map}
-use Rattle.std.proofs.lemmas.List.{append-nil, flat_map_more}
-use Rattle.std.proofs.lemmas.List.FromFn.{map-range_with_len_more, take-map-range_with_len}
-use Rattle.flop_base.specs.declared.key.Chrn.{Chrn}
-use Rattle.raw_image.specs.Disk.{Disk}
-use Rattle.track_model.specs.declared.Look.{Look}
-use Rattle.sector_map.specs.Disks.{LookOn}
-use Rattle.flop_base.specs.Standard.{sectors_at}
-use Rattle.sector_map.specs.Standard.{key_of, track_keys, cylinder_keys, standard_keys}
-use Rattle.sector_map.specs.Failing.{unless_found, AreFailing}
+use Rattle.sector_map.proofs.Common.{range_with_len, flat_map, append-nil, flat_map_more, map-range_with_len_more, take-map-range_with_len, Chrn, Disk, Look, LookOn, sectors_at, key_of, unless_found, AreFailing}
+use Rattle.sector_map.specs.Standard.{track_keys, cylinder_keys, standard_keys}
 
 pub failing-append : (disk : Disk) (keys more : List Chrn) (failed others : List (Chrn × Look)) → AreFailing disk keys failed → AreFailing disk more others → AreFailing disk (keys ++ more) (failed ++ others)
 failing-append disk [] more failed others a b = subst (AreFailing disk more) (sym (ap (λ fs. fs ++ others) a)) b

@@ -1,13 +1,8 @@
 -- The list of address fields, extended by one place.
 use Rattle.std.proofs.Common.{◌≡◌, ℕ, ◌+◌, ◌<◌, List, [], ◌∷◌, ◌++◌, All, Contains, subst, sym, ap, ◌∙◌, arith, inl, inr}
-use Rattle.std.specs.List.{AllPairs}
-use Rattle.std.proofs.lemmas.Bool.{cases_lt}
+use Rattle.sector_map.proofs.Common.{AllPairs, cases_lt, Chrn, Field, IsAddressAt, one_key}
 use Rattle.std.proofs.lemmas.List.Elements.{All-push, Contains-push, Contains-append_left}
 use Rattle.std.proofs.lemmas.List.Quantifiers.{all_pairs_push}
-use Rattle.flop_base.specs.declared.key.Chrn.{Chrn}
-use Rattle.track_model.specs.declared.Field.{Field}
-use Rattle.track_model.specs.Fields.{IsAddressAt}
-use Rattle.track_model.proofs.Unique.{one_key}
 
 -- the list has exactly the address fields that begin below a place
 pub record AreAddressesBelow (track : List ℕ) (limit : ℕ) (fields : List Field) : Type 0 where

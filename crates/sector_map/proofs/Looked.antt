@@ -1,10 +1,6 @@
 -- Steps of the searches for a data mark and for an address field.
 use Rattle.std.proofs.Common.{◌≡◌, ℕ, ◌+◌, ◌-◌, ◌*◌, ◌<◌, ◌≤◌, Bool, false, Option, None, Some, is_some, MatchOption, List, length, min, subst, arith, inl, inr}
-use Rattle.std.proofs.lemmas.Bool.{cases_lt}
-use Rattle.flop_base.specs.declared.key.Chrn.{Chrn}
-use Rattle.track_model.specs.Fields.{IsDataMark, data_cells}
-use Rattle.track_model.specs.Looks.{IsFirstDataMark, HasDataField}
-use Rattle.track_model.proofs.Unique.{one_first}
+use Rattle.sector_map.proofs.Common.{cases_lt, Chrn, IsDataMark, data_cells, IsFirstDataMark, HasDataField, one_first}
 
 -- what doesn't hold below a place, nor at it, doesn't hold below the next place
 pub none_more : (P : ℕ → Type 0) (p : ℕ) → ((k : ℕ) → k < p → P k → ⊥) → (P p → ⊥) → (k : ℕ) → k < p + 1 → P k → ⊥

@@ -1,23 +1,17 @@
 -- What a command meets of a track.
-use Rattle.std.proofs.Common.{◌≡◌, ◌↔◌, ℕ, ◌&&◌, ◌⊎◌, true, Option, Some, None, List, length, replicate, get_or, nat_lt, refl, sym, ap, subst, ◌∙◌, arith, inl, inr}
+use Rattle.std.proofs.Common.{◌≡◌, ℕ, ◌&&◌, ◌⊎◌, true, Option, Some, None, List, length, replicate, get_or, nat_lt, refl, sym, ap, subst, ◌∙◌, arith, inl, inr}
 use Rattle.std.specs.Option.{option_map_or}
-use Rattle.std.proofs.lemmas.Bool.{false≢true, cases_lt, ltb-true, lt-ltb, and_parts, and_from, cond-true, cond_both}
-use Rattle.std.proofs.lemmas.List.{get_or-replicate, get_or_past, length-replicate}
-use Rattle.flop_base.specs.declared.answers.Rate.{Rate}
+use Rattle.sector_map.proofs.Common.{false≢true, cases_lt, ltb-true, lt-ltb, and_parts, and_from, cond-true, cond_both, get_or-replicate, get_or_past, length-replicate, Rate, Disk, IsDisk, HasTrack, track_of, HasAddressMark, same_rate, met_on, met_in, MeetsTrack, HasNothing}
 use Rattle.flop_base.specs.declared.answers.Rate.TheVariants.{R500, R250}
-use Rattle.raw_image.specs.Disk.{Disk, IsDisk, HasTrack, track_of}
-use Rattle.track_model.specs.Looks.{HasAddressMark}
-use Rattle.sector_map.specs.Met.{unrecorded, same_rate, met_on, met_in}
-use Rattle.sector_map.specs.MetTracks.{MeetsTrack, HasNothing}
+use Rattle.sector_map.specs.Met.{unrecorded}
 use Rattle.sector_map.proofs.RegularTracks.{length-track_of}
 
 -- ---- rates
 
 pub rates_same : (a b : Rate) → same_rate a b ≡ true → a ≡ b
-rates_same R500 R500 e = refl
-rates_same R250 R250 e = refl
 rates_same R500 R250 e = absurd (false≢true e)
 rates_same R250 R500 e = absurd (false≢true e)
+rates_same _ _ e = refl
 
 same_itself : (a : Rate) → same_rate a a ≡ true
 same_itself R500 = refl
@@ -27,10 +21,9 @@ pub same_rates : (a b : Rate) → a ≡ b → same_rate a b ≡ true
 same_rates a b e = subst (λ r. same_rate a r ≡ true) e (same_itself a)
 
 pub cases_rate : (a b : Rate) → (a ≡ b) ⊎ (a ≡ b → ⊥)
-cases_rate R500 R500 = inl refl
-cases_rate R250 R250 = inl refl
 cases_rate R500 R250 = inr (λ e. false≢true (same_rates R500 R250 e))
 cases_rate R250 R500 = inr (λ e. false≢true (same_rates R250 R500 e))
+cases_rate _ _ = inl refl
 
 -- ---- where nothing is recorded
 
@@ -88,12 +81,6 @@ module _ (disk : Disk) (rate : Rate) (c h : ℕ) where
   pub on_nothing : (HasTrack disk c h → disk.rate ≡ rate → ⊥) → HasNothing (met_on disk rate c h)
   on_nothing not =
       by_met HasNothing (λ has same. absurd (not has same)) (λ none. nothing_unrecorded disk.words_per_track)
-
-  -- what is met has as many words as the disk's tracks
-  pub length-met_on : IsDisk disk → length (met_on disk rate c h) ≡ disk.words_per_track
-  length-met_on valid =
-      by_met (λ track. length track ≡ disk.words_per_track)
-      (λ has same. length-track_of disk c h valid has) (λ none. length-unrecorded disk.words_per_track)
 
 -- ---- a medium, or none
 

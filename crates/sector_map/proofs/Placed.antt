@@ -1,11 +1,9 @@
 -- Words written into a part of a track.
 use Rattle.std.proofs.Common.{◌≡◌, ℕ, ◌+◌, ◌-◌, ◌≤◌, List, ◌++◌, length, take, drop, ap, ◌∙◌, append_assoc, arith}
 use Rattle.std.proofs.Math.Seq.{take-length}
-use Rattle.std.proofs.lemmas.List.{length-take}
-use Rattle.std.proofs.lemmas.Slice.{put_mid-paste}
+use Rattle.sector_map.proofs.Common.{length-take, put_mid-paste, window_word, cut_of}
 use borrow.Rule.Slice.PartMut.{put_mid}
 use Rattle.flop_base.specs.Lists.{with_items}
-use Rattle.track_model.specs.Windows.{window_word, cut_of}
 
 pub placed : (words part window : List ℕ) (p start cut : ℕ) → start ≡ window_word p → part ≡ take cut window → cut ≤ length window → put_mid start (start + cut - start) words part ≡ cut_of words p cut window
 unfolding with_items

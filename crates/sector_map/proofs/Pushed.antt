@@ -1,12 +1,8 @@
 -- The cells of one byte, pushed onto words.
 use Rattle.std.proofs.Common.{◌≡◌, ℕ, ◌+◌, ◌/◌, ◌%◌, ◌^◌, ◌<◌, ◌≤◌, Bool, true, false, List, [], ◌∷◌, ◌++◌, length, get_or, take, sym, ap, ◌∙◌, append_assoc, arith}
 use Rattle.std.proofs.Math.ListN.{set}
-use Rattle.std.specs.Int.{w16, to_be_bytes}
-use Rattle.std.proofs.lemmas.List.{append-nil, take_all, take_more_set}
-use Rattle.std.proofs.lemmas.Slice.{take-put_mid}
+use Rattle.sector_map.proofs.Common.{w16, to_be_bytes, append-nil, take_all, take_more_set, take-put_mid, last_bit, legal, check_bytes}
 use borrow.Rule.Slice.PartMut.{put_mid}
-use Rattle.track_model.specs.Bytes.{last_bit, legal}
-use Rattle.track_model.specs.Writing.{check_bytes}
 use Rattle.track_model.proofs.Legals.{legal-cons, legal-nil}
 
 -- words that one byte was pushed onto, and the bytes that follow

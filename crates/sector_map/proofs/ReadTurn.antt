@@ -1,21 +1,9 @@
 -- A data field read word by word.
 use Rattle.std.proofs.Common.{◌≡◌, ◌⊎◌, ℕ, ◌+◌, ◌*◌, ◌<◌, Bool, true, false, List, length, take, min, get_or, set, length-set, get_or-set_same, get_or-set_other, refl, sym, ap, subst, ◌∙◌, arith, inl, inr}
-use Rattle.track_model.specs.Bytes.{byte_at}
-use Rattle.std.proofs.lemmas.Bool.{cases_lt}
-use Rattle.std.proofs.lemmas.List.{take_more, take_all, length-take-le, ext_get_or}
-use Rattle.std.proofs.lemmas.List.FromFn.{length-map-range_with_len, get_or-map-range_with_len}
-use Rattle.flop_base.specs.declared.key.Chrn.{Chrn}
+use Rattle.sector_map.proofs.Common.{byte_at, cases_lt, take_more, take_all, length-take-le, ext_get_or, length-map-range_with_len, get_or-map-range_with_len, Chrn, IsSizeCode, content_size, content_at, LookAt, Seen, Nothing, Mark, Address, Mode, Byte, End, Separator, with_word, IsPart, SWaits, SReads, HasEnded, TellsWhole, IsUnfinished, SWaitFed, SReadFed, first_words, byte_stays, field_stays, no_data_stays, unfinished_is_no_data, reads_within}
 use Rattle.track_model.specs.declared.Look.TheVariants as look
-use Rattle.track_model.specs.Fields.{IsSizeCode, content_size, content_at}
-use Rattle.track_model.specs.Looks.{LookAt}
-use Rattle.track_separator.specs.declared.state.Seen.{Seen}
-use Rattle.track_separator.specs.declared.state.Seen.TheVariants.{Nothing, Mark, Address, Mode, Byte, End, NoData}
-use Rattle.track_separator.specs.declared.state.Separator.{Separator}
-use Rattle.track_separator.specs.Parts.{with_word, IsPart}
-use Rattle.track_separator.specs.Waits.{SWaits, SReads, HasEnded, TellsWhole, IsUnfinished}
-use Rattle.track_separator.specs.Turns.{SWaitFed, SReadFed}
+use Rattle.track_separator.specs.declared.state.Seen.TheVariants.{NoData}
 use Rattle.track_separator.specs.Lifts.{look_of}
-use Rattle.track_separator.proofs.Lawful.{first_words, byte_stays, field_stays, no_data_stays, unfinished_is_no_data, reads_within}
 
 -- some bytes of the data field at q have passed, and the content has them
 pub record IsCopied (words : List ℕ) (p q size passed : ℕ) (separator : Separator) (i : ℕ) (deleted : Bool) (taken : ℕ) (content : List ℕ) : Type 0 where

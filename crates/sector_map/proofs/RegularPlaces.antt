@@ -1,18 +1,7 @@
 -- A track is regular if each of its places is.
 use Rattle.std.proofs.Common.{◌≡◌, ◌↔◌, ℕ, ◌+◌, ◌-◌, ◌*◌, ◌/◌, ◌%◌, ◌<◌, ◌≤◌, Bool, false, IsTrue, List, length, min, refl, sym, ap, subst, ◌∙◌, lit<, arith, inl, inr}
-use Rattle.std.proofs.lemmas.Bool.{cases_lt, cases_order, false≢true}
-use Rattle.std.proofs.lemmas.List.{get_or_past}
+use Rattle.sector_map.proofs.Common.{cases_lt, cases_order, false≢true, get_or_past, bit_at, Chrn, cell, cells_at, IsRun, IsAddressMark, IsAddressAt, IsRegular, bit_at-cells_at, one_key, HasNoRunWithin, HasNoRun, IsFieldRegular, IsPlaceRegular}
 use Rattle.std.proofs.lemmas.Nat.Bits.{bit_at-zero}
-use Rattle.std.specs.Int.{bit_at}
-use Rattle.flop_base.specs.declared.key.Chrn.{Chrn}
-use Rattle.track_model.specs.Cells.{cell, cells_at}
-use Rattle.track_model.specs.Marks.{IsRun, IsAddressMark}
-use Rattle.track_model.specs.Fields.{IsAddressAt}
-use Rattle.track_model.specs.Regular.{IsRegular}
-use Rattle.track_model.proofs.Places.{bit_at-cells_at}
-use Rattle.track_model.proofs.Unique.{one_key}
-use Rattle.track_model.specs.Sectors.{HasNoRunWithin}
-use Rattle.sector_map.specs.Places.{HasNoRun, IsFieldRegular, IsPlaceRegular}
 
 cell_beyond : (track : List ℕ) (q : ℕ) → 16 * length track ≤ q → cell track q ≡ 0
 cell_beyond track q h = ap (λ w. bit_at w (15 - q % 16)) (get_or_past track (q / 16) 0 (omega arith)) ∙ bit_at-zero (15 - q % 16)

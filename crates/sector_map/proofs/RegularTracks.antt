@@ -1,16 +1,8 @@
 -- The tracks of a disk, and facts about regular ones.
 use Rattle.std.proofs.Common.{◌≡◌, ℕ, ◌+◌, ◌*◌, ◌<◌, ◌≤◌, List, length, drop, arith}
-use Rattle.std.proofs.lemmas.List.{length-take, length-drop}
-use Rattle.std.proofs.lemmas.Nat.{mul-add-lt}
-use Rattle.flop_base.specs.declared.key.Chrn.{Chrn}
-use Rattle.raw_image.specs.Disk.{Disk, IsDisk, HasTrack, track_of, track_start}
+use Rattle.sector_map.proofs.Common.{length-take, length-drop, mul-add-lt, Chrn, Disk, IsDisk, HasTrack, track_of, track_start, IsAddressAt, window_word, window_words, IsSpaced, IsRegular, IsRegularDisk, IsClearAddress}
 use Rattle.raw_image.proofs.Tracks.{rows_apart}
-use Rattle.track_model.specs.Fields.{IsAddressAt}
-use Rattle.track_model.specs.Windows.{window_word, window_words}
-use Rattle.track_model.specs.Regular.{IsSpaced, IsRegular}
 use Rattle.track_model.proofs.Sectored.{plain_clear}
-use Rattle.sector_map.specs.Disks.{IsRegularDisk}
-use Rattle.sector_map.specs.Met.{IsClearAddress}
 use Rattle.sector_map.proofs.Writable.{IsWritable}
 
 -- a track of a disk has the disk's number of words

@@ -1,13 +1,6 @@
 -- Several writes of the same content, one after the other.
 use Rattle.std.proofs.Common.{◌≡◌, ℕ, ◌⊎◌, max, sym, subst, inl, inr}
-use Rattle.raw_image.specs.Disk.{Disk, IsDisk, track_of}
-use Rattle.track_model.specs.Fields.{IsAddressAt}
-use Rattle.track_model.specs.Regular.{IsRegular}
-use Rattle.track_model.specs.Windows.{IsTidy}
-use Rattle.sector_map.specs.Disks.{IsRegularDisk}
-use Rattle.sector_map.specs.Changes.{Change, Written, IsChange}
-use Rattle.sector_map.specs.KeptDisks.{KeepsTracks, KeepsOtherKeys, KeepsSectors}
-use Rattle.sector_map.specs.ChangedDisks.{IsWholeChange, HasWritten, change_at}
+use Rattle.sector_map.proofs.Common.{Disk, IsDisk, track_of, IsAddressAt, IsRegular, IsTidy, IsRegularDisk, Change, Written, IsChange, KeepsTracks, KeepsOtherKeys, KeepsSectors, IsWholeChange, HasWritten, change_at}
 use Rattle.sector_map.proofs.Writable.{FitsKey, IsSameOrChanged}
 use Rattle.sector_map.proofs.KeptTracks.{keeps_itself}
 use Rattle.sector_map.proofs.KeptKeys.{other_keys_same}

@@ -1,10 +1,6 @@
 -- Two disks of one shape that have the same tracks are the same.
 use Rattle.std.proofs.Common.{◌≡◌, ℕ, ◌+◌, ◌*◌, ◌/◌, ◌%◌, ◌<◌, Bool, List, length, drop, get_or, sym, ap, subst, ◌∙◌, arith}
-use Rattle.std.proofs.lemmas.List.{get_or-take, get_or-drop, ext_get_or}
-use Rattle.std.proofs.lemmas.Nat.{div-add-mod', div_below, mod_below}
-use Rattle.flop_base.specs.declared.answers.Rate.{Rate}
-use Rattle.raw_image.specs.Disk.{Disk, IsDisk, HasTrack, track_of, track_start}
-use Rattle.sector_map.specs.KeptDisks.{KeepsTracks}
+use Rattle.sector_map.proofs.Common.{get_or-take, get_or-drop, ext_get_or, div-add-mod', div_below, mod_below, Rate, Disk, IsDisk, HasTrack, track_of, track_start, KeepsTracks}
 
 -- a word of a track, found among all words
 word_of_track : (disk : Disk) (c h i : ℕ) → i < disk.words_per_track → get_or (track_of disk c h) i 0 ≡ get_or disk.words (track_start disk c h + i) 0

@@ -1,11 +1,6 @@
 -- The tracks of a disk.
 use Rattle.std.proofs.Common.{◌≡◌, ◌↔◌, ℕ, Bool, IsTrue, List, sym, subst}
-use Rattle.flop_base.specs.declared.key.Chrn.{Chrn}
-use Rattle.raw_image.specs.Disk.{Disk, HasTrack, track_of}
-use Rattle.track_model.specs.declared.Look.{Look}
-use Rattle.track_model.specs.Looks.{LookFor}
-use Rattle.track_model.specs.Regular.{IsRegular}
-use Rattle.sector_map.specs.Disks.{LookOn}
+use Rattle.sector_map.proofs.Common.{Chrn, Disk, HasTrack, track_of, Look, LookFor, IsRegular, LookOn}
 
 pub look_there : (disk : Disk) (key : Chrn) (look : Look) (words : List ℕ) → words ≡ track_of disk key.c key.h → HasTrack disk key.c key.h → LookFor words key look → LookOn disk key look
 look_there disk key look words is has found = record {

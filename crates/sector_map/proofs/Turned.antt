@@ -1,20 +1,6 @@
 -- A hunt over a revolution, word by word.
 use Rattle.std.proofs.Common.{◌≡◌, ℕ, ◌+◌, ◌*◌, ◌<◌, ◌≤◌, Bool, true, false, MatchBool, List, length, take, get_or, sym, ap, subst, ◌∙◌, arith, inl, inr}
-use Rattle.flop_base.specs.declared.key.Chrn.{Chrn}
-use Rattle.track_model.specs.Marks.{IsAddressMark}
-use Rattle.track_model.specs.Fields.{IsAddressAt}
-use Rattle.track_model.specs.Looks.{HasAddressMark, IsFirstAddress}
-use Rattle.track_separator.specs.declared.state.Separator.{Separator}
-use Rattle.track_model.specs.Sectors.{IsPlain}
-use Rattle.std.proofs.lemmas.Bool.{cases_lt}
-use Rattle.std.proofs.lemmas.List.{take_more, length-take-le}
-use Rattle.track_separator.specs.declared.state.Seen.{Seen}
-use Rattle.track_separator.specs.declared.state.Seen.TheVariants.{Mark, Address}
-use Rattle.track_separator.specs.Parts.{with_word, turn_after, EndsInLast, IsPart}
-use Rattle.track_separator.specs.Hunts.{SHunts, SFollows, SAddressed, Stands, SHuntSeen, GivesAll}
-use Rattle.track_separator.specs.Turns.{SBegins}
-use Rattle.track_separator.proofs.Lawful.{mark_stays, mark_stood, address_stays, address_stood, no_run_stood, first_words, runs_apart}
-use Rattle.sector_map.specs.Turned.{IsPassed}
+use Rattle.sector_map.proofs.Common.{Chrn, IsAddressMark, IsAddressAt, HasAddressMark, IsFirstAddress, Separator, IsPlain, cases_lt, take_more, length-take-le, Seen, Mark, Address, with_word, turn_after, EndsInLast, IsPart, SHunts, SFollows, SAddressed, Stands, SHuntSeen, GivesAll, SBegins, mark_stays, mark_stood, address_stays, address_stood, no_run_stood, first_words, runs_apart, IsPassed}
 
 -- this many words were fed, and no address field of the key has ended in them
 pub record IsHuntingFor (words : List ℕ) (key : Chrn) (separator : Separator) (i : ℕ) (has_mark : Bool) : Type 0 where

@@ -1,21 +1,10 @@
 -- After a whole window was written, its data field is intact, whatever other fields the track has.
-use Rattle.std.proofs.Common.{◌≡◌, ℕ, suc, ◌+◌, ◌-◌, ◌*◌, ◌/◌, ◌%◌, ◌^◌, ◌<◌, ◌≤◌, Bool, true, List, ◌∷◌, ◌++◌, length, get_or, refl, sym, ap, ◌∙◌, arith, inl, inr}
-use Rattle.std.proofs.lemmas.Bool.{cases_lt, cases_eq}
-use Rattle.std.proofs.lemmas.List.{get_or_append_left, get_or-append-add, length-append}
-use Rattle.std.proofs.lemmas.List.FromFn.{fill_by_all}
-use Rattle.track_model.specs.Cells.{cells_at}
-use Rattle.track_model.specs.Bytes.{byte_at, legal}
-use Rattle.track_model.specs.Crc.{crc}
-use Rattle.track_model.specs.Marks.{data_byte, IsSound, IsRun}
-use Rattle.track_model.specs.Fields.{after_marks, content_size, content_at, data_cells, IsDataMark, IsWhole}
-use Rattle.track_model.specs.Writing.{sync_and_marks, check_bytes, window}
+use Rattle.std.proofs.Common.{◌≡◌, ℕ, suc, ◌+◌, ◌-◌, ◌*◌, ◌/◌, ◌%◌, ◌^◌, ◌<◌, ◌≤◌, Bool, true, List, ◌∷◌, ◌++◌, length, get_or, sym, ap, ◌∙◌, arith, inl, inr}
+use Rattle.sector_map.proofs.Common.{cases_lt, cases_eq, get_or_append_left, get_or-append-add, length-append, fill_by_all, byte_at, legal, crc, data_byte, after_marks, content_size, content_at, sync_and_marks, check_bytes, window, length-sync_and_marks, length-window}
 use Rattle.flop_base.specs.Lists.{with_items}
-use Rattle.track_model.specs.Windows.{window_word}
-use Rattle.track_model.proofs.CrcSteps.{crc_below}
 use Rattle.track_model.proofs.OwnField.{legal_not_zero}
 use Rattle.track_model.proofs.Splices
-use Rattle.track_model.proofs.WindowMarks.{marked, byte_in, byte_behind, run_in, word_12, word_13, word_14}
-use Rattle.track_model.proofs.Written.{length-sync_and_marks, length-window}
+use Rattle.track_model.proofs.WindowMarks.{marked, byte_in, word_12, word_13, word_14}
 
 not_zero : (deleted : Bool) (rest : List ℕ) (i : ℕ) → 12 ≤ i → i < 16 + length rest → get_or (marked (data_byte deleted ∷ rest)) i 0 ≡ 0 → ⊥
 not_zero deleted rest i low high zero =
@@ -54,33 +43,6 @@ module _ (track : List ℕ) (start : ℕ) (deleted : Bool) (content : List ℕ) 
   long : length (window deleted content) ≡ content_size n + 18
   long = omega (arith, length-window deleted content)
 
-  cells_in : (q i : ℕ) → q ≡ 16 * start + i → i + 16 ≤ 16 * length (window deleted content) → cells_at row q ≡ cells_at (marked (data_byte deleted ∷ rest)) i
-  cells_in = Splices.cells_of track start (window deleted content) fits
-
-  row_run : IsRun row (16 * start + 192)
-  row_run =
-      let run = run_in deleted rest in
-      record {
-        first = cells_in (16 * start + 192) 192 refl (omega (arith, long)) ∙ run.0;
-        second = cells_in (16 * start + 192 + 16) 208 (omega arith) (omega (arith, long)) ∙ run.1;
-        third = cells_in (16 * start + 192 + 32) 224 (omega arith) (omega (arith, long)) ∙ run.2;
-      }
-
-  row_mark : byte_at row (16 * start + 192 + 48) ≡ data_byte deleted
-  row_mark =
-      Splices.byte_of track start (window deleted content) fits (16 * start + 192 + 48) 240 (omega arith) (omega (arith, long))
-      ∙ byte_behind deleted rest
-
-  row_sound : (m : ℕ) → 192 + m ≤ 16 * length (window deleted content) → IsSound row (16 * start + 192) m
-  row_sound m h = record {
-    inside = omega (arith, Splices.length-with_items track start (window deleted content) fits);
-    no_zero = λ q low high zero.
-        let i = q / 16 - start in
-        let place : q / 16 ≡ start + i = omega arith in
-        let word = Splices.with_items_at track start (window deleted content) fits (q / 16) i place (omega (arith, long)) in
-        not_zero deleted rest i (omega arith) (omega (arith, long, long_rest)) (sym word ∙ zero);
-  }
-
   row_rest : (q j : ℕ) → q ≡ 16 * start + 256 + 16 * j → j < length rest → get_or rest j 0 < 2 ^ 8 → byte_at row q ≡ get_or rest j 0
   row_rest q j e h small =
       Splices.byte_of track start (window deleted content) fits q (256 + 16 * j) (omega arith) (omega (arith, long, long_rest))
@@ -103,24 +65,3 @@ module _ (track : List ℕ) (start : ℕ) (deleted : Bool) (content : List ℕ) 
   low =
       let place : content_size n + 1 ≡ length content + 1 = omega arith in
       ap (λ j. get_or rest j 0) place ∙ get_or-append-add content (check_bytes check) 1 0
-
-  row_check : (q : ℕ) → q ≡ 16 * start + 256 + 16 * content_size n → 256 * byte_at row q + byte_at row (q + 16) ≡ check
-  row_check q e =
-      let below = crc_below (after_marks (data_byte deleted ∷ content)) in
-      let upper = row_rest q (content_size n) e (omega (arith, long_rest)) (omega (arith, high, below)) in
-      let lower = row_rest (q + 16) (content_size n + 1) (omega arith) (omega (arith, long_rest)) (omega (arith, low)) in
-      omega (arith, upper, lower, high, low)
-
-  row_mark_of : (p : ℕ) → start ≡ window_word p → IsDataMark row p (16 * start + 192) deleted
-  row_mark_of p at = record {
-    after = omega arith;
-    near = omega arith;
-    run = record { run = row_run; mark = row_mark; sound = row_sound 64 (omega (arith, long)) };
-  }
-
-  row_whole : IsWhole row (16 * start + 192) n content
-  row_whole = record {
-    sound = row_sound (data_cells n) (omega (arith, long));
-    content_is = row_content;
-    check = row_check (16 * start + 192 + 64 + 16 * content_size n) (omega arith) ∙ sym (ap (λ b. crc (after_marks (b ∷ content))) row_mark);
-  }

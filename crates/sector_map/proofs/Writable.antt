@@ -1,12 +1,6 @@
 -- Terms of the proofs: disks that are unchanged, or changed at one key.
 use Rattle.std.proofs.Common.{◌≡◌, ℕ, ◌+◌, ◌^◌, ◌<◌, ◌≤◌, List, length, slice_index, ◌⊎◌}
-use Rattle.flop_base.specs.declared.key.Chrn.{Chrn}
-use Rattle.raw_image.specs.Disk.{Disk}
-use Rattle.track_model.specs.Fields.{IsAddressAt, content_size}
-use Rattle.track_model.specs.Windows.{window_word, window_words}
-use Rattle.sector_map.specs.Met.{HasNoClearMark, HasClearAddress}
-use Rattle.sector_map.specs.Changes.{Written, IsChange}
-use Rattle.sector_map.specs.ChangedDisks.{change_at, IsSafeChange}
+use Rattle.sector_map.proofs.Common.{Chrn, Disk, IsAddressAt, content_size, window_word, window_words, HasNoClearMark, HasClearAddress, Written, IsChange, change_at, IsSafeChange}
 
 -- what is written is a content for its key: it consists of bytes, as many as the size code says
 pub record FitsKey (written : Written) : Type 0 where

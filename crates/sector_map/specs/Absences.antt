@@ -1,8 +1,6 @@
 -- Tracks without an address field of a key.
 use Rattle.std.specs.Prelude.{ℕ, List}
-use Rattle.flop_base.specs.declared.key.Chrn.{Chrn}
-use Rattle.track_model.specs.Fields.{IsAddressAt}
-use Rattle.track_model.specs.Looks.{HasAddressMark}
+use Rattle.sector_map.specs.Common.{Chrn, IsAddressAt, HasAddressMark}
 use Rattle.sector_map.specs.declared.looking.Absent.{Absent}
 use Rattle.sector_map.specs.declared.looking.Absent.TheVariants.{NoMark, NoSector}
 

@@ -1,13 +1,6 @@
 -- Changes of a disk: whole and safe ones, several joined into one, and what the disk has after them.
-use Rattle.std.specs.Prelude.{◌≡◌, ℕ, ◌+◌, ◌^◌, ◌<◌, ◌≤◌, Bool, List, length, max, ◌⊎◌}
-use Rattle.flop_base.specs.declared.key.Chrn.{Chrn}
-use Rattle.raw_image.specs.Disk.{Disk, track_of}
-use Rattle.track_model.specs.declared.Look.{Look}
-use Rattle.track_model.specs.declared.Look.TheVariants.{Found}
-use Rattle.track_model.specs.Fields.{IsAddressAt, content_at}
-use Rattle.track_model.specs.Looks.{LookAt}
-use Rattle.track_model.specs.Sectors.{IsSector}
-use Rattle.track_model.specs.Windows.{window_place, IsTidy}
+use Rattle.std.specs.Prelude.{◌≡◌, ℕ, ◌+◌, Bool, List, length, max, ◌⊎◌}
+use Rattle.sector_map.specs.Common.{Chrn, Disk, track_of, Look, Found, IsAddressAt, content_at, LookAt, IsSector, window_place, IsTidy}
 use Rattle.sector_map.specs.Disks.{Entry}
 use Rattle.sector_map.specs.Met.{HasClearAddress, HasLook, AllFound}
 use Rattle.sector_map.specs.Changes.{Change, Written, window_of}

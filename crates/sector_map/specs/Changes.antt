@@ -1,10 +1,6 @@
 -- What a write does to a disk.
 use Rattle.std.specs.Prelude.{ℕ, Bool, List}
-use Rattle.flop_base.specs.declared.key.Chrn.{Chrn}
-use Rattle.raw_image.specs.Disk.{Disk, HasTrack, track_of, IsWithTrack}
-use Rattle.track_model.specs.Fields.{IsAddressAt}
-use Rattle.track_model.specs.Writing.{window}
-use Rattle.track_model.specs.Windows.{cut_of, IsCuttable}
+use Rattle.sector_map.specs.Common.{Chrn, Disk, HasTrack, track_of, IsWithTrack, IsAddressAt, window, cut_of, IsCuttable}
 
 -- A write behind an address field: its cylinder, the place of the address field, and how many words of the window were
 -- written.

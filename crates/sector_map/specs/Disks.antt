@@ -1,12 +1,6 @@
 -- The sectors of a disk.
 use Rattle.std.specs.Prelude.{◌≡◌, ℕ, Bool, List}
-use Rattle.flop_base.specs.declared.key.Chrn.{Chrn}
-use Rattle.raw_image.specs.Disk.{Disk, HasTrack, track_of}
-use Rattle.track_model.specs.declared.Look.{Look}
-use Rattle.track_model.specs.declared.Look.TheVariants.{Found, NoMark}
-use Rattle.track_model.specs.Fields.{IsAddressAt, content_at}
-use Rattle.track_model.specs.Looks.{LookAt, LookFor}
-use Rattle.track_model.specs.Regular.{IsRegular}
+use Rattle.sector_map.specs.Common.{Chrn, Disk, HasTrack, track_of, Look, Found, NoMark, IsAddressAt, content_at, LookAt, LookFor, IsRegular}
 
 -- the answer of the look for a key, on the track of its cylinder and head; NoMark if the disk has no such track
 pub record LookOn (disk : Disk) (key : Chrn) (look : Look) : Type 0 where

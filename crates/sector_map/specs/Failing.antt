@@ -1,9 +1,6 @@
 -- The keys that aren't found on a disk.
 use Rattle.std.specs.Prelude.{◌≡◌, List, [], ◌∷◌, ◌++◌}
-use Rattle.flop_base.specs.declared.key.Chrn.{Chrn}
-use Rattle.raw_image.specs.Disk.{Disk}
-use Rattle.track_model.specs.declared.Look.{Look}
-use Rattle.track_model.specs.declared.Look.TheVariants.{Found, NoMark, NoSector, NoData, BadCrc}
+use Rattle.sector_map.specs.Common.{Chrn, Disk, Look, Found, NoMark, NoSector, NoData, BadCrc}
 use Rattle.sector_map.specs.Disks.{LookOn}
 
 -- a key with the answer of its look, unless the answer is Found

@@ -1,12 +1,6 @@
 -- What stays on a disk when it is changed or laid.
 use Rattle.std.specs.Prelude.{◌≡◌, ◌≢◌, ◌↔◌, ℕ, Bool, List}
-use Rattle.flop_base.specs.declared.key.Chrn.{Chrn}
-use Rattle.raw_image.specs.Disk.{Disk, IsDisk, HasTrack, track_of}
-use Rattle.track_model.specs.declared.Look.{Look}
-use Rattle.track_model.specs.Fields.{IsAddressAt}
-use Rattle.track_model.specs.Looks.{HasAddressMark}
-use Rattle.track_model.specs.Sectors.{IsSector}
-use Rattle.track_model.specs.Regular.{IsRegular}
+use Rattle.sector_map.specs.Common.{Chrn, Disk, IsDisk, HasTrack, track_of, Look, IsAddressAt, HasAddressMark, IsSector, IsRegular}
 use Rattle.sector_map.specs.Disks.{LookOn, IsRegularDisk, Entry, IsOnMap}
 use Rattle.sector_map.specs.Met.{HasLook, AllFound}
 

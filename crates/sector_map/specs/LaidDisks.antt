@@ -1,6 +1,6 @@
 -- Layings of a disk, and several joined into one.
 use Rattle.std.specs.Prelude.{ℕ, max}
-use Rattle.flop_base.specs.declared.answers.Rate.{Rate}
+use Rattle.sector_map.specs.Common.{Rate}
 use Rattle.sector_map.specs.Layings.{Format, Laying}
 
 -- the format of a cylinder and head at a rate, with a gap 3 and a fill

@@ -1,9 +1,6 @@
 -- What a format does to a disk.
 use Rattle.std.specs.Prelude.{◌≡◌, ℕ, ◌≤◌, List, take, Option, Some}
-use Rattle.flop_base.specs.Standard.{sectors_at, standard_code}
-use Rattle.flop_base.specs.declared.key.Chrn.{Chrn}
-use Rattle.flop_base.specs.declared.answers.Rate.{Rate}
-use Rattle.raw_image.specs.Disk.{Disk, HasTrack, track_of, IsWithTrack}
+use Rattle.sector_map.specs.Common.{sectors_at, standard_code, Chrn, Rate, Disk, HasTrack, track_of, IsWithTrack}
 use Rattle.track_model.specs.Layouts.{lay, Fits}
 use Rattle.flop_base.specs.Lists.{with_items}
 use Rattle.sector_map.specs.Standard.{track_keys}

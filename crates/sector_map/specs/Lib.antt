@@ -1,3 +1,4 @@
+pub mod Common
 pub mod ChangedDisks
 pub mod Changes
 pub mod Disks

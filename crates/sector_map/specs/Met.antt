@@ -1,15 +1,9 @@
 -- What a command meets on a track of a disk, and terms for it.
 use Rattle.std.specs.Prelude.{ℕ, ◌&&◌, Bool, true, false, List, replicate, nat_lt, Option, if◌then◌else◌}
 use Rattle.std.specs.Option.{option_map_or}
-use Rattle.flop_base.specs.declared.key.Chrn.{Chrn}
-use Rattle.flop_base.specs.declared.answers.Rate.{Rate}
+use Rattle.sector_map.specs.Common.{Chrn, Rate, Disk, track_of, Look, IsAddressAt, LookAt, IsClear}
 use Rattle.flop_base.specs.declared.answers.Rate.TheVariants.{R500, R250}
-use Rattle.raw_image.specs.Disk.{Disk, track_of}
-use Rattle.track_model.specs.declared.Look.{Look}
 use Rattle.track_model.specs.declared.Look.TheVariants as look
-use Rattle.track_model.specs.Fields.{IsAddressAt}
-use Rattle.track_model.specs.Looks.{LookAt}
-use Rattle.track_model.specs.Sectors.{IsClear}
 
 -- a track of words 0000, on which nothing is recorded
 unfoldable pub unrecorded : ℕ → List ℕ

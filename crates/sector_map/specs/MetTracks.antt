@@ -1,11 +1,6 @@
 -- When a command meets a track of a disk, and when nothing is recorded.
 use Rattle.std.specs.Prelude.{◌≡◌, ℕ, List, Option, Some}
-use Rattle.flop_base.specs.declared.key.Chrn.{Chrn}
-use Rattle.flop_base.specs.declared.answers.Rate.{Rate}
-use Rattle.raw_image.specs.Disk.{Disk, HasTrack}
-use Rattle.track_model.specs.declared.Look.{Look}
-use Rattle.track_model.specs.Fields.{IsAddressAt}
-use Rattle.track_model.specs.Looks.{HasAddressMark}
+use Rattle.sector_map.specs.Common.{Chrn, Rate, Disk, HasTrack, Look, IsAddressAt, HasAddressMark}
 use Rattle.sector_map.specs.Met.{HasNoClearMark, HasClearAddress, HasLook}
 
 -- A command at this rate meets a track of this disk: the disk is in the drive, and has the track, at this rate.

@@ -1,12 +1,6 @@
 -- What a regular track requires of each place.
 use Rattle.std.specs.Prelude.{◌≡◌, ℕ, ◌+◌, ◌-◌, ◌<◌, ◌≤◌, List}
-use Rattle.flop_base.specs.declared.key.Chrn.{Chrn}
-use Rattle.track_model.specs.Cells.{cells_at, IsInside}
-use Rattle.track_model.specs.Marks.{IsRun, IsAddressMark}
-use Rattle.track_model.specs.Fields.{IsAddressAt, IsSizeCode}
-use Rattle.track_model.specs.Sectors.{HasNoRunWithin}
-use Rattle.track_model.specs.Windows.{window_place, window_end}
-use Rattle.track_model.specs.Regular.{span_cells}
+use Rattle.sector_map.specs.Common.{Chrn, cells_at, IsInside, IsRun, IsAddressMark, IsAddressAt, IsSizeCode, HasNoRunWithin, window_place, window_end, span_cells}
 
 -- no run begins at or after the first of these cells and before the second
 abbrev pub HasNoRun : List ℕ → ℕ → ℕ → Type 0

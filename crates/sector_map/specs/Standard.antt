@@ -1,9 +1,7 @@
 -- The keys of a standard format.
 use Rattle.std.specs.Prelude.{ℕ, List, map}
 use Rattle.std.specs.List.{range_with_len, flat_map}
-use Rattle.flop_base.specs.Standard.{sectors_at, standard_code}
-use Rattle.flop_base.specs.declared.key.Chrn.{Chrn}
-use Rattle.raw_image.specs.Disk.{Disk}
+use Rattle.sector_map.specs.Common.{sectors_at, standard_code, Chrn, Disk}
 
 -- the key of a sector of 512 bytes
 abbrev pub key_of : ℕ → ℕ → ℕ → Chrn

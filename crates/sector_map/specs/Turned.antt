@@ -1,12 +1,8 @@
 -- What a revolution gives when it is fed to a separator.
 use Rattle.std.specs.Prelude.{◌≡◌, ℕ, ◌+◌, ◌<◌, ◌≤◌, MatchBool, List, length, take}
-use Rattle.flop_base.specs.declared.key.Chrn.{Chrn}
-use Rattle.track_model.specs.declared.Look.TheVariants.{Found, NoMark, NoSector, NoData, BadCrc}
-use Rattle.track_model.specs.Fields.{IsAddressAt, content_at}
-use Rattle.track_model.specs.Looks.{IsFirstAddress, HasAddressMark, LookAt, LookFor}
+use Rattle.sector_map.specs.Common.{Chrn, Found, NoMark, NoSector, NoData, BadCrc, IsAddressAt, content_at, IsFirstAddress, HasAddressMark, LookAt, LookFor, SAddressed}
 use Rattle.track_separator.specs.declared.state.Separator.{Separator}
 use Rattle.track_separator.specs.Parts.{EndsInLast}
-use Rattle.track_separator.specs.Hunts.{SAddressed}
 use Rattle.track_separator.specs.Turns.{SBegins}
 use Rattle.sector_map.specs.declared.turn.TurnRead.{TurnRead}
 use Rattle.sector_map.specs.declared.turn.TurnRead.TheVariants as turned

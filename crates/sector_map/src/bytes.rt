@@ -1,9 +1,6 @@
 // Bytes of a track that begin at any cell, and their CRC.
 ghost use Rattle.std.specs.Prelude.{◌≡◌, ◌+◌, ◌*◌, ◌↔◌, IsTrue};
-ghost use Rattle.track_model.specs.Cells.{IsTrackSized, IsInside};
-ghost use Rattle.track_model.specs.Bytes.{byte_at, bytes_at};
-ghost use Rattle.track_model.specs.Crc.{crc};
-ghost use Rattle.track_model.specs.Fields.{HasCheck, after_marks};
+ghost use Rattle.sector_map.specs.Common.{IsTrackSized, IsInside, byte_at, bytes_at, crc, HasCheck, after_marks};
 
 use track_model::{MARKS_CRC, cells16, crc_step, decode_word};
 

@@ -1,8 +1,6 @@
 // Looks for sectors of a medium, and whether its tracks are regular.
 ghost use Rattle.std.specs.Prelude.{◌↔◌, ℕ, IsTrue};
-ghost use Rattle.raw_image.specs.Disk.{HasTrack, track_of};
-ghost use Rattle.track_model.specs.Fields.{IsSizeCode};
-ghost use Rattle.track_model.specs.Regular.{IsRegular};
+ghost use Rattle.sector_map.specs.Common.{HasTrack, track_of, IsSizeCode, IsRegular};
 ghost use Rattle.sector_map.specs.Disks.{LookOn, IsRegularDisk};
 
 use crate::{Look, find_sector, is_regular};

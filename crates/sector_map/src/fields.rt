@@ -1,8 +1,6 @@
 // Intact address fields.
 ghost use Rattle.std.specs.Prelude.{MatchOption, IfOk};
-ghost use Rattle.track_model.specs.Cells.{IsTrackSized, IsInside};
-ghost use Rattle.track_model.specs.Fields.{IsAddressAt, AreAddresses};
-ghost use Rattle.flop_base.specs.declared.key.Chrn.{Chrn};
+ghost use Rattle.sector_map.specs.Common.{IsTrackSized, IsInside, IsAddressAt, AreAddresses, Chrn};
 
 use crate::bytes::{byte_at_cell, is_checked};
 use crate::marks::{MARK_CELLS, is_address_mark, touches_no_zero};

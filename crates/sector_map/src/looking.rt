@@ -1,8 +1,6 @@
 // The look for a sector's data.
 ghost use Rattle.std.specs.Prelude.{◌≡◌, ℕ, ◌+◌, ◌≤◌, ◌↔◌, Bool, IsTrue, MatchOption, MatchResult};
-ghost use Rattle.track_model.specs.Cells.{IsTrackSized, IsInside};
-ghost use Rattle.track_model.specs.Fields.{IsAddress, IsAddressAt, IsDataMark, IsSizeCode, data_cells};
-ghost use Rattle.track_model.specs.Looks.{IsFirstAddress, IsFirstDataMark, IsIntact, LookAt, LookFor};
+ghost use Rattle.sector_map.specs.Common.{IsTrackSized, IsInside, IsAddress, IsAddressAt, IsDataMark, IsSizeCode, data_cells, IsFirstAddress, IsFirstDataMark, IsIntact, LookAt, LookFor};
 ghost use Rattle.sector_map.specs.Absences.{IsWithout};
 
 use crate::bytes::is_checked;

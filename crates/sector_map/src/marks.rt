@@ -1,7 +1,6 @@
 // Runs of three marks A1, and the byte after them.
 ghost use Rattle.std.specs.Prelude.{◌<◌, ◌↔◌, Bool, IsTrue, MatchOption};
-ghost use Rattle.track_model.specs.Cells.{IsTrackSized, IsInside};
-ghost use Rattle.track_model.specs.Marks.{IsRun, TouchesNoZero, IsAddressMark, IsDataRun};
+ghost use Rattle.sector_map.specs.Common.{IsTrackSized, IsInside, IsRun, TouchesNoZero, IsAddressMark, IsDataRun};
 
 use crate::bytes::byte_at_cell;
 use track_model::cells16;

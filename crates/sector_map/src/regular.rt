@@ -1,9 +1,6 @@
 // Tracks on which each data field can be written over by itself.
 ghost use Rattle.std.specs.Prelude.{◌≡◌, ◌↔◌, ◌+◌, ◌*◌, ◌<◌, ◌≤◌, IsTrue, length};
-ghost use Rattle.track_model.specs.Cells.{IsTrackSized, IsInside};
-ghost use Rattle.track_model.specs.Fields.{IsAddressAt, IsSizeCode};
-ghost use Rattle.track_model.specs.Windows.{window_word};
-ghost use Rattle.track_model.specs.Regular.{span_cells, IsRegular};
+ghost use Rattle.sector_map.specs.Common.{IsTrackSized, IsInside, IsAddressAt, IsSizeCode, window_word, span_cells, IsRegular};
 ghost use Rattle.sector_map.specs.Places.{HasNoRun, HasNoMark, StandsAlone, IsFieldRegular, IsPlaceRegular};
 
 use crate::fields::{ADDRESS_CELLS, address_at};

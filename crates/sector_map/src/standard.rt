@@ -1,8 +1,6 @@
 // The keys of a standard format, and those that aren't found on a medium.
 ghost use Rattle.std.specs.Prelude.{◌≡◌, ◌++◌, ◌<◌, ◌≤◌, ℕ, List, OnOk, IfOk, take};
-ghost use Rattle.flop_base.specs.declared.key.Chrn.{Chrn};
-ghost use Rattle.track_model.specs.declared.Look.{Look};
-ghost use Rattle.flop_base.specs.Standard.{sectors_at};
+ghost use Rattle.sector_map.specs.Common.{Chrn, Look, sectors_at};
 ghost use Rattle.sector_map.specs.Standard.{track_keys, cylinder_keys, standard_keys};
 ghost use Rattle.sector_map.specs.Failing.{unless_found, AreFailing};
 

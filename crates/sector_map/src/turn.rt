@@ -1,9 +1,6 @@
 // A revolution, from the index to the index, that is fed to a separator.
 ghost use Rattle.std.specs.Prelude.{◌≡◌, ◌↔◌, IsTrue, ◌<◌, ℕ, [], length, take};
-ghost use Rattle.flop_base.specs.declared.key.Chrn.{Chrn};
-ghost use Rattle.track_model.specs.Fields.{IsSizeCode, content_size};
-ghost use Rattle.track_model.specs.Sectors.{IsPlain};
-ghost use Rattle.track_separator.specs.Hunts.{SFollows};
+ghost use Rattle.sector_map.specs.Common.{Chrn, IsSizeCode, content_size, IsPlain, SFollows};
 ghost use Rattle.track_separator.specs.Waits.{SWaits};
 ghost use Rattle.sector_map.specs.Turned.{IsHuntOver, IsPassedWithin, IsReadOver, IsTurnRead};
 

@@ -1,7 +1,6 @@
 // A data field written over, whole or in part.
 ghost use Rattle.std.specs.Prelude.{◌≡◌, ◌+◌, ◌≤◌, length};
-ghost use Rattle.track_model.specs.Cells.{IsTrackSized};
-ghost use Rattle.track_model.specs.Windows.{window_word, cut_of};
+ghost use Rattle.sector_map.specs.Common.{IsTrackSized, window_word, cut_of};
 
 use crate::window_word;
 

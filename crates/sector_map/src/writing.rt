@@ -1,9 +1,6 @@
 // Fields as words to write.
 ghost use Rattle.std.specs.Prelude.{◌≡◌, ◌+◌, ◌≤◌, ℕ, List, ◌∷◌, ◌++◌, length, take, IfOk};
-ghost use Rattle.track_model.specs.Bytes.{legal};
-ghost use Rattle.track_model.specs.Crc.{crc};
-ghost use Rattle.track_model.specs.Fields.{after_marks};
-ghost use Rattle.track_model.specs.Writing.{sync_and_marks, address_field, window};
+ghost use Rattle.sector_map.specs.Common.{legal, crc, after_marks, sync_and_marks, address_field, window};
 
 use flop_base::{Chrn, NoMemory};
 use std::alloc::Global;

@@ -1,14 +1,10 @@
 -- How counters change when a drive is exchanged, and how faults are taken from what was left of them.
 use Rattle.std.proofs.Common.{arith, ◌≡◌, ℕ, zero, suc, ◌+◌, ◌-◌, ◌≤◌, Bool, true, false, List, [], ◌∷◌, refl, ap, ◌∙◌, sym, subst, Option, Some, None}
 use Rattle.std.proofs.lemmas.Bool.Decides.{nat_tests}
-use Rattle.std.proofs.lemmas.List.Sums.{sum_by-cons}
+use Rattle.sector_model.proofs.Common.{sum_by-cons, Spends, DriveCounts, Counters, DriveGoesOn, GoesOn, TakesSpare, drive_same, with_spare, told_rise, told_faults, told_left, all_left}
 use Rattle.std.specs.Prelude.{◌==◌, if◌then◌else◌, sum_by}
 use Rattle.std.specs.Option.{option_map_or}
-use Rattle.flop_base.specs.Counts.{Spends}
 use Rattle.flop_base.specs.Bays.{in_bay}
-use Rattle.flop_base.specs.Counters.{DriveCounts, Counters, DriveGoesOn, GoesOn, TakesSpare}
-use Rattle.flop_base.proofs.Counted.{drive_same}
-use Rattle.sector_model.specs.Ties.{with_spare, told_rise, told_faults, told_left, all_left}
 
 pub not-first : (bay : ℕ) → (suc bay == 0) ≡ false
 not-first bay = grind (arith, nat_tests)

@@ -2,22 +2,11 @@
 use Rattle.std.proofs.Common.{arith, ◌≡◌, ℕ, zero, suc, ◌+◌, ◌≤◌, Bool, true, false, All, List, [], ◌∷◌, refl, ap, ◌∙◌, sym, subst, Option, Some, None, IsSome}
 use Rattle.std.proofs.lemmas.Bool.{true≢false, leb-true, eqb-false}
 use Rattle.std.specs.Prelude.{◌==◌, if◌then◌else◌, MatchOption}
-use Rattle.flop_base.specs.Counts.{Spends}
-use Rattle.flop_base.specs.Shelf.{Files}
-use Rattle.flop_base.specs.Counters.{DriveCounts, Counters, faults_of, DriveGoesOn, GoesOn, IsUndisturbed}
-use Rattle.floppy_jobs.specs.declared.request.Request.{Request}
+use Rattle.sector_model.proofs.Common.{Spends, Files, DriveCounts, Counters, faults_of, DriveGoesOn, GoesOn, IsUndisturbed, Request, Reply, Reason, State, is_bay, Step, IsRefused, unless_bad, Taken, Run, with_spare, entered_by, entered, left_by, step_faults, sum_told, all_left, is_exchange_by, is_exchange, came_with, faults_since, OfAllDrives, TellsFaults, IsSpent, HasNothingLeft, AreUndisturbed, faults_go_on}
 use Rattle.floppy_jobs.specs.declared.request.Request.TheVariants as request
-use Rattle.sector_model.specs.declared.reply.Reply.{Reply}
 use Rattle.sector_model.specs.declared.reply.Reply.TheVariants as reply
 use Rattle.flop_base.specs.declared.answers.Code.TheVariants.{BadRequest}
-use Rattle.sector_model.specs.declared.reply.Reason.{Reason}
 use Rattle.sector_model.specs.declared.reply.Reason.TheVariants as reason
-use Rattle.sector_model.specs.States.{State}
-use Rattle.sector_model.specs.Orders.{is_bay}
-use Rattle.sector_model.specs.Steps.{Step, IsRefused, unless_bad}
-use Rattle.sector_model.specs.Runs.{Taken, Run}
-use Rattle.sector_model.specs.Ties.{with_spare, entered_by, entered, left_by, step_faults, sum_told, all_left, is_exchange_by, is_exchange, came_with, faults_since, OfAllDrives, TellsFaults, IsSpent, HasNothingLeft, AreUndisturbed}
-use Rattle.flop_base.proofs.Counted.{faults_go_on}
 use Rattle.sector_model.proofs.Counted.{not-first, left_paid, spare_left}
 use Rattle.sector_model.proofs.Ties.{step_goes}
 
@@ -25,22 +14,7 @@ use Rattle.sector_model.proofs.Ties.{step_goes}
 
 entered_left : (counters : Counters) (asked : Request) (answer : Reply) → all_left (entered_by counters asked answer) ≤ all_left counters
 entered_left counters (request.Unit bay) reply.Done = spare_left counters bay counters.spares refl
-entered_left counters (request.Unit bay) reply.DoneDeleted = omega arith
-entered_left counters (request.Unit bay) (reply.Bytes address content) = omega arith
-entered_left counters (request.Unit bay) (reply.Refused cause) = omega arith
-entered_left counters (request.Insert bay name) answer = omega arith
-entered_left counters (request.Blank bay name cylinders) answer = omega arith
-entered_left counters (request.BlankDd bay name cylinders) answer = omega arith
-entered_left counters (request.Eject bay) answer = omega arith
-entered_left counters (request.Ack bay) answer = omega arith
-entered_left counters (request.Read bay key address) answer = omega arith
-entered_left counters (request.Write bay key address) answer = omega arith
-entered_left counters (request.WriteDeleted bay key address) answer = omega arith
-entered_left counters (request.Format bay c h) answer = omega arith
-entered_left counters (request.Fill address count byte) answer = omega arith
-entered_left counters (request.Dump address count) answer = omega arith
-entered_left counters (request.SetRate bay rate) answer = omega arith
-entered_left counters (request.Tries tries) answer = omega arith
+entered_left counters _ _ = omega arith
 
 -- each fault in a course is taken from what was left, also if counts change further after the course
 pub told_paid : (old mid : State) (told after : Option Files) (course : List Taken) (new : Counters) → Run old told course mid after → GoesOn mid.station.counters new → sum_told old.station.counters course + all_left new ≤ all_left old.station.counters
@@ -83,22 +57,7 @@ spare_elsewhere counters (next ∷ later) (suc exchanged) (suc bay) one two apar
 entered_same : (old : State) (told after : Option Files) (asked : Request) (answer : Reply) (new : State) (bay : ℕ) → Step asked old told answer new after → bay ≤ 1 → is_exchange_by bay asked answer ≡ false → faults_of (entered_by old.station.counters asked answer) bay ≡ faults_of old.station.counters bay
 entered_same old told after (request.Unit exchanged) reply.Done new bay step one apart =
     spare_elsewhere old.station.counters old.station.counters.spares exchanged bay (done_bay old told after new exchanged step) one apart
-entered_same old told after (request.Unit exchanged) reply.DoneDeleted new bay step one apart = refl
-entered_same old told after (request.Unit exchanged) (reply.Bytes address content) new bay step one apart = refl
-entered_same old told after (request.Unit exchanged) (reply.Refused cause) new bay step one apart = refl
-entered_same old told after (request.Insert at name) answer new bay step one apart = refl
-entered_same old told after (request.Blank at name cylinders) answer new bay step one apart = refl
-entered_same old told after (request.BlankDd at name cylinders) answer new bay step one apart = refl
-entered_same old told after (request.Eject at) answer new bay step one apart = refl
-entered_same old told after (request.Ack at) answer new bay step one apart = refl
-entered_same old told after (request.Read at key address) answer new bay step one apart = refl
-entered_same old told after (request.Write at key address) answer new bay step one apart = refl
-entered_same old told after (request.WriteDeleted at key address) answer new bay step one apart = refl
-entered_same old told after (request.Format at c h) answer new bay step one apart = refl
-entered_same old told after (request.Fill address count byte) answer new bay step one apart = refl
-entered_same old told after (request.Dump address count) answer new bay step one apart = refl
-entered_same old told after (request.SetRate at rate) answer new bay step one apart = refl
-entered_same old told after (request.Tries tries) answer new bay step one apart = refl
+entered_same old told after _ _ new bay step one apart = refl
 
 -- one more step, before steps of which this holds
 module _ (bay : ℕ) (is : bay ≤ 1) (old : State) (told mid_told : Option Files) (taken : Taken) (later : List Taken) (new : Counters) (count sum : ℕ) (step : Step taken.asked old told taken.answer taken.after mid_told) (within : count + sum ≤ faults_of old.station.counters bay) where
@@ -142,22 +101,7 @@ spare_all P counters bay (next ∷ later) all more = by_bay (bay == 0)
 
 entered_all : (P : DriveCounts → Type 0) (counters : Counters) (asked : Request) (answer : Reply) → OfAllDrives P counters → OfAllDrives P (entered_by counters asked answer)
 entered_all P counters (request.Unit bay) reply.Done all = spare_all P counters bay counters.spares all all.spares
-entered_all P counters (request.Unit bay) reply.DoneDeleted all = all
-entered_all P counters (request.Unit bay) (reply.Bytes address content) all = all
-entered_all P counters (request.Unit bay) (reply.Refused cause) all = all
-entered_all P counters (request.Insert bay name) answer all = all
-entered_all P counters (request.Blank bay name cylinders) answer all = all
-entered_all P counters (request.BlankDd bay name cylinders) answer all = all
-entered_all P counters (request.Eject bay) answer all = all
-entered_all P counters (request.Ack bay) answer all = all
-entered_all P counters (request.Read bay key address) answer all = all
-entered_all P counters (request.Write bay key address) answer all = all
-entered_all P counters (request.WriteDeleted bay key address) answer all = all
-entered_all P counters (request.Format bay c h) answer all = all
-entered_all P counters (request.Fill address count byte) answer all = all
-entered_all P counters (request.Dump address count) answer all = all
-entered_all P counters (request.SetRate bay rate) answer all = all
-entered_all P counters (request.Tries tries) answer all = all
+entered_all P counters _ _ all = all
 
 spare_stalls : (counters : Counters) (bay : ℕ) (spares : List DriveCounts) → ((with_spare counters bay spares).stalls ≡ counters.stalls) × ((with_spare counters bay spares).stalls_left ≡ counters.stalls_left)
 spare_stalls counters bay [] = (refl, refl)
@@ -166,22 +110,7 @@ spare_stalls counters bay (next ∷ later) = (refl, refl)
 -- the stalls as a step finds them
 entered_stalls : (counters : Counters) (asked : Request) (answer : Reply) → ((entered_by counters asked answer).stalls ≡ counters.stalls) × ((entered_by counters asked answer).stalls_left ≡ counters.stalls_left)
 entered_stalls counters (request.Unit bay) reply.Done = spare_stalls counters bay counters.spares
-entered_stalls counters (request.Unit bay) reply.DoneDeleted = (refl, refl)
-entered_stalls counters (request.Unit bay) (reply.Bytes address content) = (refl, refl)
-entered_stalls counters (request.Unit bay) (reply.Refused cause) = (refl, refl)
-entered_stalls counters (request.Insert bay name) answer = (refl, refl)
-entered_stalls counters (request.Blank bay name cylinders) answer = (refl, refl)
-entered_stalls counters (request.BlankDd bay name cylinders) answer = (refl, refl)
-entered_stalls counters (request.Eject bay) answer = (refl, refl)
-entered_stalls counters (request.Ack bay) answer = (refl, refl)
-entered_stalls counters (request.Read bay key address) answer = (refl, refl)
-entered_stalls counters (request.Write bay key address) answer = (refl, refl)
-entered_stalls counters (request.WriteDeleted bay key address) answer = (refl, refl)
-entered_stalls counters (request.Format bay c h) answer = (refl, refl)
-entered_stalls counters (request.Fill address count byte) answer = (refl, refl)
-entered_stalls counters (request.Dump address count) answer = (refl, refl)
-entered_stalls counters (request.SetRate bay rate) answer = (refl, refl)
-entered_stalls counters (request.Tries tries) answer = (refl, refl)
+entered_stalls counters _ _ = (refl, refl)
 
 -- a property that each drive keeps while its counts change is kept by all drives
 goes_all : (P : DriveCounts → Type 0) → ((old new : DriveCounts) → P old → DriveGoesOn old new → P new) → (old new : Counters) → OfAllDrives P old → GoesOn old new → OfAllDrives P new

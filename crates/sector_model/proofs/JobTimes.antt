@@ -1,27 +1,14 @@
 -- How long the run of a job lasts, and how many port accesses it makes.
 use Rattle.std.proofs.Common.{arith, ◌≡◌, ℕ, ◌+◌, ◌*◌, ◌≤◌, ◌==◌, Bool, true, false, if◌then◌else◌, List, [], ◌∷◌, ◌++◌, sym, ap, subst, Option, Result, Ok, Err}
 use Rattle.std.specs.Prelude.{MatchOption, MatchBool}
-use Rattle.std.proofs.lemmas.List.Sums.{sum_by-cons}
+use Rattle.sector_model.proofs.Common.{sum_by-cons, Counters, CostsUpTo, Files, Code, Status, job_of, Request, Reply, StationState, bay_of, IsRefusedAtOnce, read_refusal, write_refusal, format_refusal, rate_refusal, is_bay, State, IsSame, ChangesMedium, Step, Does, refusal_of, AfterStop, Taken, Run, requests_of, Ends, EndsBay, Stored, Left, EndStopsAt, AtFirst, AtSecond, World, PlaysRequests, Played, Stopped, BrokenOff, EndStopped, PlaysParsed, Plays, There, Missing, TooLong, Faulty, Starved}
 use Rattle.std.proofs.Math.Nat.{mul-le-mul, mul-le-mul_left, mul-le-mul_right}
 use Rattle.flop_base.proofs.Costs.{costs_after, costs_none, costs_twice, costs_within}
-use Rattle.flop_base.specs.Counters.{Counters, CostsUpTo}
-use Rattle.flop_base.specs.Shelf.{Files}
 use Rattle.flop_base.specs.Standard.{sectors_at}
-use Rattle.flop_base.specs.declared.answers.Code.{Code}
 use Rattle.flop_base.specs.declared.answers.Rate.{Rate}
 use Rattle.flop_base.specs.declared.answers.Rate.TheVariants.{R500, R250}
-use Rattle.flop_base.specs.declared.answers.Status.{Status}
-use Rattle.floppy_jobs.specs.Texts.{job_of}
-use Rattle.floppy_jobs.specs.declared.request.Request.{Request}
 use Rattle.floppy_jobs.specs.declared.request.Request.TheVariants as request
-use Rattle.sector_model.specs.declared.reply.Reply.{Reply}
 use Rattle.sector_model.specs.Lasting.{ack_port_accesses, ack_time, format_once_port_accesses, format_steps, format_turns, turn_of}
-use Rattle.sector_model.specs.Stations.{StationState, bay_of}
-use Rattle.sector_model.specs.Orders.{IsRefusedAtOnce, read_refusal, write_refusal, format_refusal, rate_refusal, is_bay}
-use Rattle.sector_model.specs.States.{State, IsSame, ChangesMedium}
-use Rattle.sector_model.specs.Steps.{Step, Does, refusal_of, AfterStop}
-use Rattle.sector_model.specs.Runs.{Taken, Run, requests_of, Ends, EndsBay, Stored, Left, EndStopsAt, AtFirst, AtSecond}
-use Rattle.sector_model.specs.Plays.{World, PlaysRequests, Played, Stopped, BrokenOff, EndStopped, PlaysParsed, Plays, There, Missing, TooLong, Faulty, Starved}
 use Rattle.sector_model.specs.Times.{AreWithin, IsWithin, course_port_accesses, course_time, job_port_accesses, job_time, most_port_accesses, most_time, port_accesses_of, time_of}
 use Rattle.sector_model.proofs.Runs.{run_more}
 use Rattle.sector_model.proofs.Ties.{either}
@@ -186,15 +173,7 @@ time_within turn tries station (request.Format bay c h) within =
     let rate = (bay_of station bay).rate in
     let few = few_sectors rate in
     more_turns station.tries tries (turn_of (bay_of station bay).medium) turn (format_turns rate) 38 (format_steps rate) 5202 within.attempts (turn_within turn tries station bay within) (omega arith) (omega arith)
-time_within turn tries station (request.Insert bay name) within = omega arith
-time_within turn tries station (request.Blank bay name cylinders) within = omega arith
-time_within turn tries station (request.BlankDd bay name cylinders) within = omega arith
-time_within turn tries station (request.Eject bay) within = omega arith
-time_within turn tries station (request.Fill address count byte) within = omega arith
-time_within turn tries station (request.Dump address count) within = omega arith
-time_within turn tries station (request.Unit bay) within = omega arith
-time_within turn tries station (request.SetRate bay rate) within = omega arith
-time_within turn tries station (request.Tries set) within = omega arith
+time_within turn tries station _ within = omega arith
 
 pub course_within : (turn tries : ℕ) (station : StationState) (course : List Taken) → AreWithin turn tries station course → course_time station course ≤ job_time turn tries (requests_of course)
 course_within turn tries station [] within = omega arith
@@ -209,22 +188,13 @@ accesses_within : (tries most p q : ℕ) → tries ≤ most → p ≤ q → 6 + 
 accesses_within tries most p q few less = let many = mul-le-mul few less in omega (arith, many)
 
 port_accesses_within : (turn tries : ℕ) (station : StationState) (asked : Request) → IsWithin turn tries station → port_accesses_of asked station ≤ most_port_accesses tries asked
-port_accesses_within turn tries station (request.Ack bay) within = omega arith
 port_accesses_within turn tries station (request.Read bay key address) within = accesses_within station.tries tries 48 48 within.attempts (omega arith)
 port_accesses_within turn tries station (request.Write bay key address) within = accesses_within station.tries tries 77 77 within.attempts (omega arith)
 port_accesses_within turn tries station (request.WriteDeleted bay key address) within = accesses_within station.tries tries 77 77 within.attempts (omega arith)
 port_accesses_within turn tries station (request.Format bay c h) within =
     let few = few_sectors (bay_of station bay).rate in
     accesses_within station.tries tries (format_once_port_accesses (bay_of station bay).rate) 567 within.attempts (omega arith)
-port_accesses_within turn tries station (request.Insert bay name) within = omega arith
-port_accesses_within turn tries station (request.Blank bay name cylinders) within = omega arith
-port_accesses_within turn tries station (request.BlankDd bay name cylinders) within = omega arith
-port_accesses_within turn tries station (request.Eject bay) within = omega arith
-port_accesses_within turn tries station (request.Fill address count byte) within = omega arith
-port_accesses_within turn tries station (request.Dump address count) within = omega arith
-port_accesses_within turn tries station (request.Unit bay) within = omega arith
-port_accesses_within turn tries station (request.SetRate bay rate) within = omega arith
-port_accesses_within turn tries station (request.Tries set) within = omega arith
+port_accesses_within turn tries station _ within = omega arith
 
 pub course_accesses_within : (turn tries : ℕ) (station : StationState) (course : List Taken) → AreWithin turn tries station course
     → course_port_accesses station course ≤ job_port_accesses tries (requests_of course)

@@ -1,3 +1,4 @@
+mod Common
 mod Counted
 mod Courses
 pub mod JobTimes

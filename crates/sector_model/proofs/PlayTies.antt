@@ -1,19 +1,7 @@
 -- A play ties its counts.
 use Rattle.std.proofs.Common.{arith, ◌≡◌, ℕ, ◌+◌, ◌≤◌, List, [], ◌∷◌, ◌++◌, length, refl, ap, ◌∙◌, sym, subst, Option, Result, Ok, Err}
-use Rattle.std.proofs.lemmas.List.Sums.{sum_by-cons, sum_by-append}
+use Rattle.sector_model.proofs.Common.{sum_by-cons, sum_by-append, Files, file_at, Status, Counters, GoesOn, faults_of, job_of, Request, State, Stop, StopsAt, Taken, Run, requests_of, World, TellsAlone, PlaysRequests, Played, Stopped, BrokenOff, EndStopped, PlaysParsed, Plays, There, Missing, TooLong, Faulty, Starved, IsText, most_job_bytes, TiesCounts, accesses_of, accesses_of_job, IsJob, goes_on_itself}
 use Rattle.std.specs.Prelude.{sum_by, IsSomeAnd, IfSome}
-use Rattle.flop_base.specs.Shelf.{Files, file_at}
-use Rattle.flop_base.specs.declared.answers.Status.{Status}
-use Rattle.flop_base.specs.Counters.{Counters, GoesOn, faults_of}
-use Rattle.floppy_jobs.specs.Texts.{job_of}
-use Rattle.floppy_jobs.specs.declared.request.Request.{Request}
-use Rattle.sector_model.specs.States.{State}
-use Rattle.sector_model.specs.declared.reply.Stop.{Stop}
-use Rattle.sector_model.specs.Steps.{StopsAt}
-use Rattle.sector_model.specs.Runs.{Taken, Run, requests_of}
-use Rattle.sector_model.specs.Plays.{World, TellsAlone, PlaysRequests, Played, Stopped, BrokenOff, EndStopped, PlaysParsed, Plays, There, Missing, TooLong, Faulty, Starved, IsText, most_job_bytes}
-use Rattle.sector_model.specs.Ties.{TiesCounts, accesses_of, accesses_of_job, IsJob}
-use Rattle.flop_base.proofs.Counted.{goes_on_itself}
 use Rattle.sector_model.proofs.Runs.{run_more, requests_more}
 use Rattle.sector_model.proofs.Ties.{Tied, tied_after, tied_more, tied_none, run_tied, run_counters, stop_accesses, stop_tied, ends_tied, end_stop_tied, stop_goes, ends_goes, end_stop_goes}
 use Rattle.sector_model.proofs.Courses.{told_paid, all_tell, since_came, all_undisturbed}

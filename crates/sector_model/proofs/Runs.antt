@@ -1,12 +1,8 @@
 -- One more step at the end of a run.
 use Rattle.std.proofs.Common.{◌≡◌, ℕ, Bool, true, false, List, [], ◌∷◌, ◌++◌, refl, ap, ◌∙◌, sym, subst, append-nil, append_assoc, Option}
 use Rattle.std.specs.Prelude.{◌||◌}
-use Rattle.flop_base.specs.Shelf.{Files}
-use Rattle.floppy_jobs.specs.declared.request.Request.{Request}
-use Rattle.sector_model.specs.States.{State}
-use Rattle.sector_model.specs.Steps.{Step}
+use Rattle.sector_model.proofs.Common.{Files, Request, State, Step, Taken, Run, requests_of, course_lines, has_refusal}
 use Rattle.sector_model.specs.Texts.{reply_lines, is_refusal}
-use Rattle.sector_model.specs.Runs.{Taken, Run, requests_of, course_lines, has_refusal}
 
 pub run_more : (old mid : State) (told mid_told after : Option Files) (course : List Taken) (taken : Taken) → Run old told course mid mid_told → Step taken.asked mid mid_told taken.answer taken.after after → Run old told (course ++ taken ∷ []) taken.after after
 run_more old mid told mid_told after [] taken run step =

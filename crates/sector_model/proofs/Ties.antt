@@ -1,24 +1,9 @@
 -- Each step ties its counts, and so does a run.
 use Rattle.std.proofs.Common.{arith, ◌≡◌, ℕ, ◌+◌, ◌-◌, ◌≤◌, Bool, true, false, List, [], ◌∷◌, refl, sym, ap, subst, Option, Some, None, Result}
-use Rattle.std.proofs.lemmas.List.Sums.{sum_by-cons}
+use Rattle.sector_model.proofs.Common.{sum_by-cons, RoseBy, Files, Code, Counters, GoesOn, IsDriven, IsPastDriver, Request, Reply, Reason, Stop, StationState, IsRefusedAtOnce, read_refusal, write_refusal, format_refusal, rate_refusal, is_bay, State, IsSame, ChangesMedium, Step, Does, refusal_of, StopsAt, AfterStop, Taken, Run, requests_of, Ends, EndsBay, Stored, Left, EndStopsAt, AtFirst, AtSecond, entered_by, accesses_of, counters_after, goes_on_after}
 use Rattle.std.specs.Prelude.{MatchOption, MatchBool, sum_by}
-use Rattle.flop_base.specs.Counts.{RoseBy}
-use Rattle.flop_base.specs.Shelf.{Files}
-use Rattle.flop_base.specs.declared.answers.Code.{Code}
-use Rattle.flop_base.specs.Counters.{Counters, GoesOn, IsDriven, IsPastDriver}
-use Rattle.floppy_jobs.specs.declared.request.Request.{Request}
 use Rattle.floppy_jobs.specs.declared.request.Request.TheVariants as request
-use Rattle.sector_model.specs.declared.reply.Reply.{Reply}
 use Rattle.sector_model.specs.declared.reply.Reply.TheVariants as reply
-use Rattle.sector_model.specs.declared.reply.Reason.{Reason}
-use Rattle.sector_model.specs.declared.reply.Stop.{Stop}
-use Rattle.sector_model.specs.Stations.{StationState}
-use Rattle.sector_model.specs.Orders.{IsRefusedAtOnce, read_refusal, write_refusal, format_refusal, rate_refusal, is_bay}
-use Rattle.sector_model.specs.States.{State, IsSame, ChangesMedium}
-use Rattle.sector_model.specs.Steps.{Step, Does, refusal_of, StopsAt, AfterStop}
-use Rattle.sector_model.specs.Runs.{Taken, Run, requests_of, Ends, EndsBay, Stored, Left, EndStopsAt, AtFirst, AtSecond}
-use Rattle.sector_model.specs.Ties.{entered_by, accesses_of, counters_after}
-use Rattle.flop_base.proofs.Counted.{goes_on_after}
 use Rattle.sector_model.proofs.Counted.{exchange_goes}
 
 -- one of two cases holds, and each gives the fact
@@ -136,14 +121,7 @@ stopped_tied old new (request.Blank bay name cylinders) stopped = tied_more 0 1 
 stopped_tied old new (request.BlankDd bay name cylinders) stopped = tied_more 0 1 _ _ (omega arith) (same_tied old new stopped)
 stopped_tied old new (request.Unit bay) stopped = tied_more 0 1 _ _ (omega arith) (same_tied old new stopped)
 stopped_tied old new (request.Fill address count byte) stopped = tied_more 0 count _ _ (omega arith) (same_tied old new stopped)
-stopped_tied old new (request.Ack bay) stopped = same_tied old new stopped
-stopped_tied old new (request.Read bay key address) stopped = same_tied old new stopped
-stopped_tied old new (request.Write bay key address) stopped = same_tied old new stopped
-stopped_tied old new (request.WriteDeleted bay key address) stopped = same_tied old new stopped
-stopped_tied old new (request.Format bay c h) stopped = same_tied old new stopped
-stopped_tied old new (request.Dump address count) stopped = same_tied old new stopped
-stopped_tied old new (request.SetRate bay rate) stopped = same_tied old new stopped
-stopped_tied old new (request.Tries tries) stopped = same_tied old new stopped
+stopped_tied old new _ stopped = same_tied old new stopped
 
 -- at a stop at most one access goes past the driver: that of an eject, which drops the medium
 stopped_accesses : (old new : State) (asked : Request) → AfterStop asked old new → new.station.counters.direct ≤ old.station.counters.direct + 1
@@ -177,18 +155,12 @@ does_goes old new told after (request.Insert bay name) answer does = does.2.2.co
 does_goes old new told after (request.Blank bay name cylinders) answer does = does.2.counts
 does_goes old new told after (request.BlankDd bay name cylinders) answer does = does.2.counts
 does_goes old new told after (request.Eject bay) answer does = does.1.4.counts
-does_goes old new told after (request.Ack bay) answer does = does.0.counts
-does_goes old new told after (request.Read bay key address) answer does = does.0.counts
-does_goes old new told after (request.Write bay key address) answer does = does.0.counts
-does_goes old new told after (request.WriteDeleted bay key address) answer does = does.0.counts
-does_goes old new told after (request.Format bay c h) answer does = does.0.counts
 does_goes old new told after (request.Fill address count byte) answer does = does.2.counts
 does_goes old new told after (request.Dump address count) answer does = does.2.counts
 does_goes old new told after (request.Unit bay) answer does =
     subst (λ (a : Reply). GoesOn (entered_by old.station.counters (request.Unit bay) a) new.station.counters) (sym does.0)
     (exchange_goes old.station.counters new.station.counters bay does.3.counts does.3.access.no_commands)
-does_goes old new told after (request.SetRate bay rate) answer does = does.0.counts
-does_goes old new told after (request.Tries tries) answer does = does.0.counts
+does_goes old new told after _ answer does = does.0.counts
 
 -- a refused request exchanges no drive
 refused_enters : (counters : Counters) (asked : Request) (cause : Reason) → entered_by counters asked (reply.Refused cause) ≡ counters

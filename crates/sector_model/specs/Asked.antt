@@ -1,8 +1,6 @@
 -- What holds of a request that can be asked for.
 use Rattle.std.specs.Prelude.{ℕ, ◌+◌, ◌≤◌}
-use Rattle.flop_base.specs.declared.key.Chrn.{Chrn}
-use Rattle.flop_base.specs.Memory.{user_bytes}
-use Rattle.track_model.specs.Fields.{IsSizeCode, content_size}
+use Rattle.sector_model.specs.Common.{Chrn, user_bytes, IsSizeCode, content_size}
 
 -- a read or a write of this key, at this address
 pub record IsAsked (bay : ℕ) (key : Chrn) (address : ℕ) : Type 0 where

@@ -1,13 +1,6 @@
 -- The other calls of a station: acknowledgement, rate, attempts, media, drives, memory.
 use Rattle.std.specs.Prelude.{◌≡◌, ℕ, ◌-◌, ◌≤◌, slice_set, Option, Some, None, IsSome, Result, Ok, Err, IsOk, IfErr, MatchOption, MatchBool, Bool, not, ◌⊎◌}
-use Rattle.flop_base.specs.declared.answers.Rate.{Rate}
-use Rattle.flop_base.specs.declared.answers.Rate.TheVariants.{R500, R250}
-use Rattle.flop_base.specs.declared.answers.Code.{Code}
-use Rattle.flop_base.specs.declared.answers.Code.TheVariants.{BadRequest, NotReady}
-use Rattle.raw_image.specs.Disk.{Disk, track_of}
-use Rattle.track_model.specs.Fields.{IsAddress}
-use Rattle.track_model.specs.Sectors.{IsClear}
-use Rattle.flop_base.specs.Counters.{faults_of, FaultsRoseBy, FaultsRoseLess, TakesSpare, IsDriven, IsPastDriver, GoesOn, CostsUpTo}
+use Rattle.sector_model.specs.Common.{Rate, R500, R250, Code, BadRequest, NotReady, Disk, track_of, IsAddress, IsClear, faults_of, FaultsRoseBy, FaultsRoseLess, TakesSpare, IsDriven, IsPastDriver, GoesOn, CostsUpTo}
 use Rattle.sector_model.specs.Stations.{StationState, Becomes, Stays, bay_of, set_bay, fresh_bay}
 use Rattle.sector_model.specs.Lasting.{ack_port_accesses, ack_time}
 use Rattle.sector_model.specs.Orders.{is_bay, is_acknowledged, rate_refusal, IsRefusedAtOnce}

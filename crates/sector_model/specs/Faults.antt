@@ -1,6 +1,6 @@
 -- Faults of the outside, by the count of who had them.
 use Rattle.std.specs.Prelude.{ℕ, ◌≡◌, ◌≤◌}
-use Rattle.flop_base.specs.Counts.{RoseOnce}
+use Rattle.sector_model.specs.Common.{RoseOnce}
 
 -- a count of faults rose by one if an answer blames it, and stays if none does. At most one of many calls failed, and
 -- the answer reports it

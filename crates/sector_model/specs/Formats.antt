@@ -1,12 +1,7 @@
 -- A format of a track.
 use Rattle.std.specs.Prelude.{◌≡◌, ◌≢◌, ◌↔◌, ◌⊎◌, ℕ, ◌+◌, ◌-◌, ◌*◌, ◌≤◌, List, [], ◌∷◌, length, All, Option, Some, None, Result, IsOk, IfErr, MatchOption}
-use Rattle.flop_base.specs.declared.answers.Code.{Code}
-use Rattle.flop_base.specs.declared.answers.Code.TheVariants.{NoMark, NotFound, Overrun, BadCrc, Seek}
-use Rattle.raw_image.specs.Disk.{Disk, HasTrack, track_of}
-use Rattle.flop_base.specs.Standard.{sectors_at}
+use Rattle.sector_model.specs.Common.{Code, NoMark, NotFound, Overrun, BadCrc, Seek, Disk, HasTrack, track_of, sectors_at, RoseBy, IsFaultless, IsUndisturbed, DisturbedLess, FaultsRoseBy, IsDriven, CostsUpTo}
 use Rattle.sector_map.specs.Layings.{Format, Laying, IsLaying, formatted, IsFormattable}
-use Rattle.flop_base.specs.Counts.{RoseBy}
-use Rattle.flop_base.specs.Counters.{IsFaultless, IsUndisturbed, DisturbedLess, FaultsRoseBy, IsDriven, CostsUpTo}
 use Rattle.sector_model.specs.Stations.{StationState, Becomes, bay_of, set_bay}
 use Rattle.sector_model.specs.Lasting.{format_port_accesses, format_time}
 use Rattle.sector_model.specs.Orders.{format_refusal, IsRefusedAtOnce, IsDeviceRefusal}

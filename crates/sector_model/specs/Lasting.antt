@@ -2,10 +2,7 @@
 -- number of port accesses. One port access more may come for each interrupt that is taken, since each watch for the end
 -- of a data command looks at a port once, and a spurious interrupt makes one more watch necessary.
 use Rattle.std.specs.Prelude.{ℕ, zero, suc, ◌+◌, ◌*◌, Option}
-use Rattle.std.specs.Option.{option_map_or}
-use Rattle.flop_base.specs.Standard.{sectors_at}
-use Rattle.flop_base.specs.declared.answers.Rate.{Rate}
-use Rattle.raw_image.specs.Disk.{Disk}
+use Rattle.sector_model.specs.Common.{option_map_or, sectors_at, Rate, Disk}
 use Rattle.sector_model.specs.Stations.{StationState, bay_of}
 
 -- the device steps of one revolution of a medium, or 0 if there is none

@@ -1,3 +1,4 @@
+pub mod Common
 pub mod Stations
 pub mod Lasting
 pub mod Orders

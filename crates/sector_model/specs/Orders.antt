@@ -1,14 +1,6 @@
 -- Which refusal comes before a command reaches a drive: the first line of the order that applies.
 use Rattle.std.specs.Prelude.{◌≡◌, ℕ, ◌+◌, ◌-◌, ◌/◌, ◌==◌, ◌&&◌, Bool, false, not, nat_le, is_some, Option, Some, None, Result, Err, if◌then◌else◌}
-use Rattle.std.specs.Option.{option_map_or}
-use Rattle.flop_base.specs.declared.key.Chrn.{Chrn}
-use Rattle.flop_base.specs.declared.answers.Rate.{Rate}
-use Rattle.flop_base.specs.declared.answers.Rate.TheVariants.{R500, R250}
-use Rattle.flop_base.specs.declared.answers.Code.{Code}
-use Rattle.flop_base.specs.declared.answers.Code.TheVariants.{BadRequest, NoMark, Protected, NotFound, Changed, Overrun, Page, BadCrc, Seek}
-use Rattle.track_model.specs.Fields.{content_size}
-use Rattle.flop_base.specs.Counters.{IsDriven, CostsUpTo}
-use Rattle.flop_base.specs.Memory.{user_bytes}
+use Rattle.sector_model.specs.Common.{option_map_or, Chrn, Rate, R500, R250, Code, BadRequest, NoMark, Protected, NotFound, Changed, Overrun, Page, BadCrc, Seek, content_size, IsDriven, CostsUpTo, user_bytes}
 use Rattle.sector_model.specs.Stations.{StationState, Stays, bay_of}
 
 -- there are bays 0 and 1

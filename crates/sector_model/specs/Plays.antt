@@ -1,12 +1,9 @@
 -- Plays: a job is read and run, and its answers are printed, up to its end or to what stops it, with the status of the
 -- run.
 use Rattle.std.specs.Prelude.{◌≡◌, ◌≤◌, ℕ, Bool, List, [], ◌∷◌, ◌++◌, length, Option, Result, Ok, Err, IfSome, IsSomeAnd, if◌then◌else◌}
-use Rattle.flop_base.specs.Shelf.{Files, file_at}
+use Rattle.sector_model.specs.Common.{Files, file_at, Status, job_of, Request}
 use Rattle.flop_base.specs.Sink.{grown, GrowsByPart}
-use Rattle.flop_base.specs.declared.answers.Status.{Status}
 use Rattle.flop_base.specs.declared.answers.Status.TheVariants as status
-use Rattle.floppy_jobs.specs.Texts.{job_of}
-use Rattle.floppy_jobs.specs.declared.request.Request.{Request}
 use Rattle.sector_model.specs.declared.reply.Stop.{Stop}
 use Rattle.sector_model.specs.States.{State}
 use Rattle.sector_model.specs.Steps.{Step, StopsAt, IsAbsent, IsLonger}

@@ -1,18 +1,7 @@
 -- A read of a sector to memory.
 use Rattle.std.specs.Prelude.{◌≡◌, ◌≢◌, ℕ, ◌+◌, ◌-◌, ◌≤◌, Bool, List, max, Some, Result, IfOk, IfErr, MatchOption, ◌⊎◌}
-use Rattle.flop_base.specs.declared.key.Chrn.{Chrn}
-use Rattle.flop_base.specs.declared.answers.Code.{Code}
-use Rattle.flop_base.specs.declared.answers.Code.TheVariants.{NoMark, NotFound, Overrun, BadCrc, Seek}
-use Rattle.raw_image.specs.Disk.{Disk, HasTrack, track_of}
+use Rattle.sector_model.specs.Common.{Chrn, Code, NoMark, NotFound, Overrun, BadCrc, Seek, Disk, HasTrack, track_of, IsAddressAt, IsDataMark, IsWhole, content_size, HasAddressMark, IsSector, IsLone, RoseBy, IsFaultless, IsUndisturbed, DisturbedLess, FaultsRoseBy, IsDriven, CostsUpTo, with_items, SameOutside, HasNoClearMark, HasClearAddress, HasLook, AllFound}
 use Rattle.track_model.specs.declared.Look.TheVariants as look
-use Rattle.track_model.specs.Fields.{IsAddressAt, IsDataMark, IsWhole, content_size}
-use Rattle.track_model.specs.Looks.{HasAddressMark}
-use Rattle.track_model.specs.Sectors.{IsSector, IsLone}
-use Rattle.flop_base.specs.Counts.{RoseBy}
-use Rattle.flop_base.specs.Counters.{IsFaultless, IsUndisturbed, DisturbedLess, FaultsRoseBy, IsDriven, CostsUpTo}
-use Rattle.flop_base.specs.Lists.{with_items}
-use Rattle.flop_base.specs.Memory.{SameOutside}
-use Rattle.sector_map.specs.Met.{HasNoClearMark, HasClearAddress, HasLook, AllFound}
 use Rattle.sector_model.specs.Stations.{StationState, Becomes, bay_of, met, IsSteady}
 use Rattle.sector_model.specs.Lasting.{read_port_accesses, read_time}
 use Rattle.sector_model.specs.Orders.{read_refusal, IsRefusedAtOnce, IsDeviceRefusal}

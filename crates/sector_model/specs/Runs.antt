@@ -1,8 +1,7 @@
 -- Runs: steps one after the other, with the lines that answer them, and the end of a run, which stores the media that
 -- are left in.
 use Rattle.std.specs.Prelude.{◌≡◌, ℕ, Bool, true, false, ◌||◌, List, [], ◌∷◌, ◌++◌, map, Option, None}
-use Rattle.flop_base.specs.Shelf.{Files}
-use Rattle.floppy_jobs.specs.declared.request.Request.{Request}
+use Rattle.sector_model.specs.Common.{Files, Request}
 use Rattle.sector_model.specs.declared.reply.Reply.{Reply}
 use Rattle.sector_model.specs.declared.reply.Stop.{Stop}
 use Rattle.sector_model.specs.declared.reply.Stop.TheVariants as stop

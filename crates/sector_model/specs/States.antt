@@ -1,8 +1,6 @@
 -- The state of a session: its station, and the names of the media that are in.
 use Rattle.std.specs.Prelude.{◌≡◌, ℕ, List, Option, None, is_some}
-use Rattle.raw_image.specs.Disk.{Disk}
-use Rattle.flop_base.specs.Bays.{Two, both, with_bay}
-use Rattle.flop_base.specs.Counters.{CostsUpTo, GoesOn, IsDriven}
+use Rattle.sector_model.specs.Common.{Disk, Two, both, with_bay, CostsUpTo, GoesOn, IsDriven}
 use Rattle.sector_model.specs.Stations.{StationState, Stays}
 use Rattle.sector_model.specs.Calls.{Exchanges}
 

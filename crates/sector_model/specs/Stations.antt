@@ -1,13 +1,6 @@
 -- A station: two bays with their media, user memory, spare drives, the number of attempts, and counters.
 use Rattle.std.specs.Prelude.{◌≡◌, ℕ, ◌<◌, List, length, Option, Some, None}
-use Rattle.flop_base.specs.Counts.{last_count}
-use Rattle.flop_base.specs.declared.answers.Rate.{Rate}
-use Rattle.flop_base.specs.declared.answers.Rate.TheVariants.{R500}
-use Rattle.raw_image.specs.Disk.{Disk}
-use Rattle.flop_base.specs.Bays.{Two, both, in_bay, with_bay}
-use Rattle.flop_base.specs.Counters.{Counters, TellsLeft, faults_of}
-use Rattle.flop_base.specs.Memory.{user_bytes, zeroes}
-use Rattle.sector_map.specs.Met.{met_in}
+use Rattle.sector_model.specs.Common.{last_count, Rate, R500, Disk, Two, both, in_bay, with_bay, Counters, TellsLeft, faults_of, user_bytes, zeroes, met_in}
 
 -- a bay as the driver knows it
 pub record Bay : Type 0 where

@@ -1,15 +1,7 @@
 -- The step of each request. It leads from a state and files, if these are known, to an answer, a state and files.
 use Rattle.std.specs.Prelude.{◌≡◌, ℕ, ◌+◌, ◌<◌, ◌≤◌, ◌==◌, ◌&&◌, Bool, true, false, nat_le, List, length, replicate, is_some, Option, Some, None, Result, Ok, Err, IfSome, IsSomeAnd, MatchOption, if◌then◌else◌}
-use Rattle.flop_base.specs.Shelf.{Files, file_at, stored}
-use Rattle.flop_base.specs.Standard.{words_at, gap_at, standard_fill}
-use Rattle.flop_base.specs.declared.answers.Rate.{Rate}
-use Rattle.flop_base.specs.declared.answers.Rate.TheVariants.{R500, R250}
-use Rattle.flop_base.specs.declared.answers.Code.{Code}
-use Rattle.flop_base.specs.declared.answers.Code.TheVariants.{BadRequest}
-use Rattle.raw_image.specs.Disk.{Disk, blank_disk}
+use Rattle.sector_model.specs.Common.{Files, file_at, stored, words_at, gap_at, standard_fill, Rate, R500, R250, Code, BadRequest, Disk, blank_disk, ImageError, Request, in_bay, GoesOn, IsPastDriver, with_items, user_bytes, bytes_from}
 use Rattle.raw_image.specs.Image.{image_of, file_of}
-use Rattle.raw_image.specs.declared.error.ImageError.{ImageError}
-use Rattle.floppy_jobs.specs.declared.request.Request.{Request}
 use Rattle.floppy_jobs.specs.declared.request.Request.TheVariants as request
 use Rattle.sector_model.specs.declared.reply.Reply.{Reply}
 use Rattle.sector_model.specs.declared.reply.Reply.TheVariants as reply
@@ -17,10 +9,6 @@ use Rattle.sector_model.specs.declared.reply.Reason.{Reason}
 use Rattle.sector_model.specs.declared.reply.Reason.TheVariants as reason
 use Rattle.sector_model.specs.declared.reply.Stop.{Stop}
 use Rattle.sector_model.specs.declared.reply.Stop.TheVariants as stop
-use Rattle.flop_base.specs.Bays.{in_bay}
-use Rattle.flop_base.specs.Counters.{GoesOn, IsPastDriver}
-use Rattle.flop_base.specs.Lists.{with_items}
-use Rattle.flop_base.specs.Memory.{user_bytes, bytes_from}
 use Rattle.sector_model.specs.Stations.{Becomes, bay_of}
 use Rattle.sector_model.specs.Lasting.{dump_port_accesses}
 use Rattle.sector_model.specs.Orders.{is_bay}

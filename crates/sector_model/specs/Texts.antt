@@ -3,11 +3,9 @@ use Rattle.std.specs.Prelude.{ℕ, ◌+◌, ◌*◌, ◌/◌, Bool, true, false,
 use Rattle.std.specs.Fmt.{decimal}
 use Rattle.std.specs.List.{range_with_len, flat_map}
 use Rattle.flop_base.specs.Numbers.{code_number}
-use Rattle.flop_base.specs.declared.answers.Status.{Status}
+use Rattle.sector_model.specs.Common.{Status, ImageError, Request}
 use Rattle.flop_base.specs.declared.answers.Status.TheVariants as status
-use Rattle.raw_image.specs.declared.error.ImageError.{ImageError}
 use Rattle.raw_image.specs.declared.error.ImageError.TheVariants.{TooShort, BadMagic, BadField, Trailing, NoMemory}
-use Rattle.floppy_jobs.specs.declared.request.Request.{Request}
 use Rattle.floppy_jobs.specs.Spelling.{verb_text, hex2, hex5}
 use Rattle.sector_model.specs.declared.reply.Reply.{Reply}
 use Rattle.sector_model.specs.declared.reply.Reply.TheVariants as reply

@@ -1,12 +1,6 @@
 -- What ties the counts of a run to what the station shows before and after it.
 use Rattle.std.specs.Prelude.{◌≡◌, ℕ, ◌+◌, ◌-◌, ◌<◌, ◌≤◌, ◌==◌, Bool, false, if◌then◌else◌, All, List, [], ◌∷◌, Option, Some, IsSome, Ok, sum_by}
-use Rattle.std.specs.Option.{option_map_or}
-use Rattle.flop_base.specs.Counts.{last_count, RoseBy}
-use Rattle.flop_base.specs.Shelf.{Files, file_at}
-use Rattle.flop_base.specs.Bays.{with_bay}
-use Rattle.flop_base.specs.Counters.{DriveCounts, Counters, faults_of, IsUndisturbed}
-use Rattle.floppy_jobs.specs.Texts.{job_of}
-use Rattle.floppy_jobs.specs.declared.request.Request.{Request}
+use Rattle.sector_model.specs.Common.{option_map_or, last_count, RoseBy, Files, file_at, with_bay, DriveCounts, Counters, faults_of, IsUndisturbed, job_of, Request}
 use Rattle.floppy_jobs.specs.declared.request.Request.TheVariants as request
 use Rattle.sector_model.specs.declared.reply.Reply.{Reply}
 use Rattle.sector_model.specs.declared.reply.Reply.TheVariants as reply

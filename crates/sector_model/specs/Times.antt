@@ -1,6 +1,6 @@
 -- How long requests, and the runs of jobs, last at most, and how many port accesses they make.
 use Rattle.std.specs.Prelude.{ℕ, ◌+◌, ◌*◌, ◌≤◌, List, [], ◌∷◌, sum_by}
-use Rattle.floppy_jobs.specs.declared.request.Request.{Request}
+use Rattle.sector_model.specs.Common.{Request}
 use Rattle.floppy_jobs.specs.declared.request.Request.TheVariants as request
 use Rattle.sector_model.specs.Lasting.{ack_port_accesses, ack_time, dump_port_accesses, format_port_accesses, format_time, read_port_accesses, read_time, turn_of, write_port_accesses, write_time}
 use Rattle.sector_model.specs.Stations.{StationState, bay_of}

@@ -1,25 +1,15 @@
 -- A write of memory to a sector.
 use Rattle.std.specs.Prelude.{◌≡◌, ◌≢◌, ◌↔◌, ℕ, ◌+◌, ◌-◌, ◌*◌, ◌≤◌, Bool, List, [], ◌∷◌, ◌++◌, length, All, Option, Some, None, Result, IsOk, IfErr, MatchOption, ◌⊎◌}
-use Rattle.flop_base.specs.declared.key.Chrn.{Chrn}
-use Rattle.flop_base.specs.declared.answers.Code.{Code}
-use Rattle.flop_base.specs.declared.answers.Code.TheVariants.{NoMark, NotFound, Overrun, BadCrc, Seek}
-use Rattle.raw_image.specs.Disk.{Disk, HasTrack, track_of, IsWithTrack}
+use Rattle.sector_model.specs.Common.{Chrn, Code, NoMark, NotFound, Overrun, BadCrc, Seek, Disk, HasTrack, track_of, IsWithTrack, IsAddressAt, content_size, content_at, LookAt, HasAddressMark, IsSector, IsUnder, IsLone, RoseBy, IsFaultless, FaultsRoseLess, IsUndisturbed, DisturbedLess, FaultsRoseBy, IsDriven, CostsUpTo, bytes_from, HasNoClearMark, HasClearAddress, HasLook}
 use Rattle.track_model.specs.declared.Look.TheVariants as look
-use Rattle.track_model.specs.Fields.{IsAddressAt, content_size, content_at}
-use Rattle.track_model.specs.Looks.{LookAt, HasAddressMark}
-use Rattle.track_model.specs.Sectors.{IsSector, IsUnder, IsLone}
 use Rattle.track_model.specs.Windows.{window_word, window_words, cut_of, IsCuttable, IsTidy}
 use Rattle.track_model.specs.Regular.{IsRegular}
 use Rattle.sector_map.specs.Disks.{IsRegularDisk, Entry, IsOnMap}
-use Rattle.flop_base.specs.Counts.{RoseBy}
-use Rattle.flop_base.specs.Counters.{IsFaultless, FaultsRoseLess, IsUndisturbed, DisturbedLess, FaultsRoseBy, IsDriven, CostsUpTo}
-use Rattle.flop_base.specs.Memory.{bytes_from}
 use Rattle.sector_model.specs.Stations.{StationState, Becomes, bay_of, set_bay, met, IsSteady}
 use Rattle.sector_model.specs.Lasting.{write_port_accesses, write_time}
 use Rattle.sector_model.specs.Orders.{write_refusal, IsRefusedAtOnce, IsDeviceRefusal}
 use Rattle.sector_map.specs.Changes.{Change, Written, window_of, IsChange}
 use Rattle.sector_map.specs.ChangedDisks.{entry_of}
-use Rattle.sector_map.specs.Met.{HasNoClearMark, HasClearAddress, HasLook}
 use Rattle.sector_model.specs.Reads.{spoilable}
 
 -- changes one after the other

@@ -1,8 +1,6 @@
 // What follows from the steps of requests. The bodies are empty.
 ghost use Rattle.std.specs.Prelude.{◌≤◌, ℕ, List, Option};
-ghost use Rattle.flop_base.specs.Counters.{AccessesPortsUpTo, LastsUpTo};
-ghost use Rattle.flop_base.specs.Shelf.{Files};
-ghost use Rattle.flop_base.specs.declared.answers.Status.{Status};
+ghost use Rattle.sector_model.specs.Common.{AccessesPortsUpTo, LastsUpTo, Files, Status};
 ghost use Rattle.sector_model.specs.Plays.{Plays, World};
 ghost use Rattle.sector_model.specs.Runs.{Run, Taken, requests_of};
 ghost use Rattle.sector_model.specs.States.{State};

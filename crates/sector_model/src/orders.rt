@@ -1,6 +1,6 @@
 // What can be asked for, before a station is looked at.
 ghost use Rattle.std.specs.Prelude.{◌≡◌, ◌+◌, ◌≤◌, IsTrue};
-ghost use Rattle.flop_base.specs.Memory.{user_bytes};
+ghost use Rattle.sector_model.specs.Common.{user_bytes};
 ghost use Rattle.sector_model.specs.Orders.{is_place, is_sector_request, crosses_page, most_format_gap};
 ghost use Rattle.sector_model.specs.Asked.{IsAsked};
 

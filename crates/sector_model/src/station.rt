@@ -1,7 +1,6 @@
 // The station that a session works on.
 ghost use Rattle.std.specs.Prelude.{◌≡◌, ◌≤◌, ◌<◌, ◌↔◌, ◌⊎◌, length, slice_index, is_some, IsTrue};
-ghost use Rattle.flop_base.specs.Counters.{GoesOn, faults_of};
-ghost use Rattle.flop_base.specs.Memory.{user_bytes};
+ghost use Rattle.sector_model.specs.Common.{GoesOn, faults_of, user_bytes};
 ghost use Rattle.sector_model.specs.Stations.{StationState, bay_of};
 ghost use Rattle.sector_model.specs.Reads.{Reads};
 ghost use Rattle.sector_model.specs.Writes.{WritesTo};

@@ -1,25 +1,14 @@
 -- A controller whose media are out of its bays, and back.
-use Rattle.std.proofs.Common.{◌≡◌, ◌⊎◌, ℕ, ◌==◌, Bool, true, false, ◌&&◌, List, [], refl, sym, ◌∙◌, ap, subst, inl, inr, eqb}
+use Rattle.std.proofs.Common.{◌≡◌, ◌⊎◌, ℕ, ◌==◌, Bool, true, false, ◌&&◌, List, [], refl, sym, ◌∙◌, ap, subst, inl, inr}
 use Rattle.std.specs.Prelude.{Option, Some, None, Result, Ok, Err, IfOk, MatchBool, if◌then◌else◌}
-use Rattle.std.proofs.lemmas.Bool.{eqb-true, eq-eqb, and_from}
+use Rattle.telwyddus_c.proofs.Common.{eqb-true, eq-eqb, and_from, Disk, same_length, DisketteAdapter, chip_with_drive, Chip, bay_state, BayDrive, ControllerValue, stand_in_for, same_rate, alike, media_alike, medium_in, spelled_bare, BareBytes, HasMedium, HasMedia, IsBared, IsRefilled, RestoresBare, with_writes_at, with_writes_of, held, ControllerFits}
 use mathlib.Core.Bool.{false≢true}
 use Rattle.flop_base.specs.declared.answers.Rate.{Rate}
 use Rattle.flop_base.specs.declared.answers.Rate.TheVariants.{R500, R250}
-use Rattle.raw_image.specs.Disk.{Disk}
-use Rattle.drive_model.specs.Drive.{same_length}
-use Rattle.fdc_sequencer.specs.declared.adapter.DisketteAdapter.{DisketteAdapter}
-use Rattle.fdc_chip.specs.Chips.{chip_with_drive}
-use Rattle.fdc_chip.specs.declared.chip.Chip.{Chip}
-use Rattle.c_bay_drive.specs.Bays.{bay_state}
 use Rattle.c_bay_drive.specs.Joined.{with_writes}
 use Rattle.c_bay_drive.specs.WithMedium.{BayWithMedium}
-use Rattle.c_bay_drive.specs.declared.bay.BayDrive.{BayDrive}
 use Rattle.c_bay_drive.proofs.Exchanges.{one_bay, stays_bay, back_bay, medium_in_bay}
 use Rattle.c_bay_drive.proofs.Joining.{writes_same}
-use Rattle.c_slots.specs.Controllers.{ControllerValue}
-use Rattle.telwyddus_c.specs.Bare.{stand_in_for, same_rate, alike, media_alike, medium_in, spelled_bare, BareBytes, HasMedium, HasMedia, IsBared, IsRefilled, RestoresBare, with_writes_at, with_writes_of}
-use Rattle.telwyddus_c.specs.Drives.{held}
-use Rattle.telwyddus_c.specs.States.{ControllerFits}
 
 -- ---- media that are alike
 
@@ -34,11 +23,6 @@ and_second false b both = absurd (false≢true both)
 same_as_itself : (rate : Rate) → same_rate rate rate ≡ true
 same_as_itself R500 = refl
 same_as_itself R250 = refl
-
--- a stand-in is like its medium, and the other way round
-pub stand_in_alike : (medium : Option Disk) → alike (stand_in_for medium) medium ≡ true
-stand_in_alike None = refl
-stand_in_alike (Some disk) = and_from _ _ (eq-eqb disk.words_per_track disk.words_per_track refl) (same_as_itself disk.rate)
 
 pub alike_stand_in : (medium : Option Disk) → alike medium (stand_in_for medium) ≡ true
 alike_stand_in None = refl
@@ -128,13 +112,6 @@ put_back medium bay old between new out back =
     ∙ ap (λ (drive : BayDrive). chip_with_drive bay drive between) there
     ∙ ap (λ (c : ControllerValue). chip_with_drive bay (held old bay) c) out.whole
     ∙ with_again bay (held between bay) old
-
--- the medium that is out is alike to the stand-in in its place
-pub alike_out : (bay : ℕ) (old between : ControllerValue) (out : Option Disk) → out ≡ medium_in old bay
-    → HasMedium (stand_in_for (medium_in old bay)) bay old between → alike out (medium_in between bay) ≡ true
-alike_out bay old between out is it =
-    let there : medium_in between bay ≡ stand_in_for (medium_in old bay) = medium_in_bay _ (held old bay) (held between bay) it.drive in
-    ap (λ (medium : Option Disk). alike medium (medium_in between bay)) is ∙ ap (alike (medium_in old bay)) there ∙ alike_stand_in (medium_in old bay)
 
 pub back_again : (bay : ℕ) (old between new : ControllerValue) (out : Option Disk) → out ≡ medium_in old bay
     → HasMedium (stand_in_for (medium_in old bay)) bay old between → HasMedium out bay between new → new ≡ old

@@ -1,13 +1,10 @@
 -- Bytes pass the channel one by one.
 use Rattle.std.proofs.Common.{◌≡◌, ℕ, zero, suc, ◌+◌, ◌<◌, true, false, List, length, refl, sym, ◌∙◌, subst, arith}
 use Rattle.std.specs.Prelude.{slice_index, slice_set, Some, None}
-use Rattle.std.proofs.lemmas.Grind.{get_or-set_at}
-use Rattle.std.proofs.lemmas.List.{get_or-set_other, length-set}
+use Rattle.telwyddus_c.proofs.Common.{get_or-set_at, get_or-set_other, length-set, DisketteAdapter, ChipState, TakesSome, TakesBlock, GivesBlock}
 use Rattle.fdc_sequencer.specs.Adapters.{SameDrives}
-use Rattle.fdc_sequencer.specs.declared.adapter.DisketteAdapter.{DisketteAdapter}
-use Rattle.fdc_chip.specs.Chips.{ChipState}
 use Rattle.fdc_chip.specs.Ports.{TakesChip, GivesChip}
-use Rattle.telwyddus_c.specs.Blocks.{TakesFirst, TakesSome, TakesBlock, GivesFirst, GivesBlock}
+use Rattle.telwyddus_c.specs.Blocks.{TakesFirst, GivesFirst}
 
 -- the drives stay, over no calls and over one call more
 pub keeps_none : {D : Type 0} (adapter : DisketteAdapter D) → SameDrives adapter adapter

@@ -2,14 +2,10 @@
 use Rattle.std.proofs.Common.{◌≡◌, ℕ, zero, suc, ◌+◌, ◌-◌, ◌<◌, ◌≤◌, ◌==◌, min, List, Bool, false, nat_lt, if◌then◌else◌, length, refl, sym, ◌∙◌, ap, subst, inl, inr, ⊎_elim, arith, ne_eqb}
 use Rattle.std.specs.Prelude.{slice_index, slice_set}
 use Rattle.std.specs.Fn.{iterate}
-use Rattle.std.proofs.lemmas.Bool.{cases_eq, cases_lt, cond_above, cond_below, cond-false}
-use Rattle.std.proofs.lemmas.Grind.{get_or-set_at}
-use Rattle.std.proofs.lemmas.List.{get_or-set_other}
+use Rattle.telwyddus_c.proofs.Common.{cases_eq, cases_lt, cond_above, cond_below, cond-false, get_or-set_at, get_or-set_other, Board, memory_of, CountsBytes, IsStored, in_user_memory}
 use Rattle.flop_base.specs.Memory.{user_bytes}
 use Rattle.irq_events.specs.Holds.{counted}
-use Rattle.pc_bus.specs.Boards.{Board, memory_of}
 use Rattle.pc_bus.specs.Handling.{byte_set}
-use Rattle.telwyddus_c.specs.Machines.{CountsBytes, IsStored, in_user_memory}
 
 less : (k : ℕ) {i : ℕ} → k < i + 1 → (k ≡ i → ⊥) → k < i
 less k {i} below other = ⊎_elim (λ (low : k < i). low) (λ (high : i ≤ k). absurd (other (omega (arith, below, high)))) (cases_lt k i)

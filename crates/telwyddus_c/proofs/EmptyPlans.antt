@@ -1,10 +1,7 @@
 -- Drives whose list of faults is empty.
 use Rattle.std.proofs.Common.{◌≡◌, List, [], Some, ap}
-use Rattle.c_bay_drive.specs.Bays.{new_in_bay}
-use Rattle.drive_model.specs.Fault.{total_left}
+use Rattle.telwyddus_c.proofs.Common.{new_in_bay, total_left, told, Fault}
 use Rattle.drive_model.specs.Mechanics.{at_rest}
-use Rattle.drive_model.specs.ScriptDrive.{told}
-use Rattle.drive_model.specs.declared.fault.Fault.{Fault}
 
 -- a drive with an empty list of faults is one without faults
 pub none_planned : (faults : List Fault) → faults ≡ [] → new_in_bay (told 0 (total_left faults)) ≡ new_in_bay (Some 0)

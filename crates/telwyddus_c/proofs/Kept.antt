@@ -1,6 +1,6 @@
 -- What stays over two changes of a bay.
 use Rattle.std.proofs.Common.{ap, ◌∙◌}
-use Rattle.fdc_chip.specs.Chips.{ChipState, KeepsChip, with_front}
+use Rattle.telwyddus_c.proofs.Common.{ChipState, KeepsChip, with_front}
 
 pub keeps_twice : (a b c : ChipState) → KeepsChip a b → KeepsChip b c → KeepsChip a c
 keeps_twice a b c first second = record {

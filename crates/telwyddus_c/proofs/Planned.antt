@@ -1,18 +1,7 @@
 -- The drives of a new controller, once faults are planned for them.
-use Rattle.std.proofs.Common.{◌≡◌, ℕ, Bool, true, false, not, List, Option, Some, None, is_some, ◌∙◌, ap}
+use Rattle.std.proofs.Common.{◌≡◌, ℕ, true, false, not, List, Option, Some, None, is_some, ◌∙◌, ap}
 use mathlib.Core.Bool.{false≢true}
-use Rattle.c_bay_drive.specs.Bays.{bay_state, drive_within, faults_by, faults_in_bay, left_by, new_in_bay, state_replanned}
-use Rattle.c_bay_drive.specs.declared.bay.BayDrive.{BayDrive}
-use Rattle.c_bay_drive.specs.declared.cable.Pulled.{Pulled}
-use Rattle.c_slots.specs.Controllers.{ControllerValue}
-use Rattle.drive_model.specs.Drive.{DriveState, with_motor}
-use Rattle.drive_model.specs.Fault.{total_left}
-use Rattle.drive_model.specs.ScriptDrive.{told}
-use Rattle.drive_model.specs.declared.fault.Fault.{Fault}
-use Rattle.fault_plan.specs.Plan.{Plan}
-use Rattle.fdc_chip.specs.Chips.{ChipState, KeepsChip}
-use Rattle.telwyddus_c.specs.Controllers.{IsPlain, state_of}
-use Rattle.telwyddus_c.specs.Drives.{IsPlanned, Replans, held}
+use Rattle.telwyddus_c.proofs.Common.{bay_state, drive_within, faults_by, faults_in_bay, left_by, new_in_bay, state_replanned, BayDrive, Pulled, ControllerValue, DriveState, with_motor, total_left, told, Fault, Plan, ChipState, KeepsChip, IsPlain, state_of, IsPlanned, Replans, held}
 use Rattle.telwyddus_c.proofs.Kept.{keeps_twice}
 
 -- a drive as it is in a new controller

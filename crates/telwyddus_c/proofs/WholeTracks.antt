@@ -1,7 +1,6 @@
 -- A track whose words are all replaced.
 use Rattle.std.proofs.Common.{◌≡◌, ℕ, ◌+◌, ◌≤◌, List, ◌++◌, length, take, drop, ap, subst, ◌∙◌, arith}
-use Rattle.std.proofs.lemmas.List.{append-nil, drop_all}
-use Rattle.raw_image.specs.Disk.{Disk, IsWithTrack, track_of}
+use Rattle.telwyddus_c.proofs.Common.{append-nil, drop_all, Disk, IsWithTrack, track_of}
 
 whole_words : (track words : List ℕ) → length track ≡ length words → take 0 track ++ (words ++ drop (0 + length words) track) ≡ words
 whole_words track words same =

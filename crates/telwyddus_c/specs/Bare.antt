@@ -1,15 +1,7 @@
 -- Saved states of a controller without its media.
 use Rattle.std.specs.Prelude.{◌≡◌, ◌⊎◌, ◌==◌, ◌&&◌, ℕ, Bool, true, false, List, [], ◌∷◌, Option, Some, None, MatchBool}
-use Rattle.c_bay_drive.specs.Bays.{bay_state}
-use Rattle.c_bay_drive.specs.Saving.{spelled_bay}
+use Rattle.telwyddus_c.specs.Common.{bay_state, spelled_bay, BayWithMedium, ControllerValue, chip_with_drive, spelled_chip, Rate, R500, R250, Disk, blank_disk}
 use Rattle.c_bay_drive.specs.Joined.{with_writes}
-use Rattle.c_bay_drive.specs.WithMedium.{BayWithMedium}
-use Rattle.c_slots.specs.Controllers.{ControllerValue}
-use Rattle.fdc_chip.specs.Chips.{chip_with_drive}
-use Rattle.fdc_chip.specs.Saving.{spelled_chip}
-use Rattle.flop_base.specs.declared.answers.Rate.{Rate}
-use Rattle.flop_base.specs.declared.answers.Rate.TheVariants.{R500, R250}
-use Rattle.raw_image.specs.Disk.{Disk, blank_disk}
 use Rattle.telwyddus_c.specs.Buffers.{WritesBytes}
 use Rattle.telwyddus_c.specs.Drives.{held}
 use Rattle.telwyddus_c.specs.States.{behind, ControllerFits, HasBytes, HasNone}

@@ -1,7 +1,6 @@
 -- Media on which nothing is recorded.
 use Rattle.std.specs.Prelude.{◌≡◌, ◌==◌, ◌&&◌, ℕ, nat_le, Option, None, Some, MatchBool, MatchOption, ⊤, if◌then◌else◌}
-use Rattle.c_slots.specs.Trays.{TrayValue}
-use Rattle.flop_base.specs.declared.answers.Rate.{Rate}
+use Rattle.telwyddus_c.specs.Common.{TrayValue, Rate}
 use Rattle.sector_model.specs.Steps.{blank_of}
 use Rattle.telwyddus_c.specs.Rates.{rate_named}
 use Rattle.telwyddus_c.specs.Slots.{FullOr}

@@ -1,7 +1,6 @@
 -- Many bytes that pass the channel in one call.
 use Rattle.std.specs.Prelude.{◌≡◌, ◌≤◌, ◌<◌, ℕ, zero, suc, true, false, List, length, slice_index, Some, None}
-use Rattle.fdc_chip.specs.Chips.{ChipState}
-use Rattle.fdc_chip.specs.Ports.{TakesChip, GivesChip}
+use Rattle.telwyddus_c.specs.Common.{ChipState, TakesChip, GivesChip}
 
 -- the channel takes so many bytes, one after the other, each when it is asked for. They are the first of a list
 unfoldable pub TakesFirst : ℕ → List ℕ → ChipState → ChipState → Type 0

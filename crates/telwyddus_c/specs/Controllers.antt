@@ -1,15 +1,7 @@
 -- Calls on the controller.
 use Rattle.std.specs.Prelude.{◌≤◌, ◌≡◌, ◌↔◌, ◌+◌, ◌-◌, ◌==◌, ℕ, Bool, true, false, Option, Some, None, is_some, IsTrue, IsBitSet, if◌then◌else◌}
-use Rattle.c_bay_drive.specs.Bays.{bay_state, new_in_bay}
-use Rattle.c_slots.specs.Controllers.{ControllerValue}
-use Rattle.c_slots.specs.Trays.{TrayValue}
-use Rattle.drive_model.specs.Drive.{DriveState, forgotten}
-use Rattle.fdc_sequencer.specs.Adapters.{SameDrives, drive_at, selected_at}
-use Rattle.fdc_chip.specs.Chips.{ChipState, chip_state, behind_of, IsNewChip, KeepsChip, interrupts_chip, asks_chip, indexes_chip}
-use Rattle.fdc_chip.specs.Ports.{TakesChip, GivesChip}
+use Rattle.telwyddus_c.specs.Common.{bay_state, new_in_bay, ControllerValue, TrayValue, DriveState, forgotten, SameDrives, drive_at, selected_at, ChipState, chip_state, behind_of, IsNewChip, KeepsChip, interrupts_chip, asks_chip, indexes_chip, TakesChip, GivesChip, dor_of, adapter_of}
 use Rattle.fdc_core.specs.Dma.{to_memory_of}
-use Rattle.fdc_core.specs.State.{dor_of}
-use Rattle.fdc_sequencer.specs.Fronts.{adapter_of}
 use Rattle.telwyddus_c.specs.Media.{Inserts, Ejects}
 use Rattle.telwyddus_c.specs.Slots.{DoneOr}
 

@@ -1,23 +1,19 @@
 -- Calls on a desk for sectors.
 use Rattle.std.specs.Prelude.{◌≡◌, ◌==◌, ◌&&◌, nat_le, ℕ, Bool, List, length, take, drop, Option, None, Some, Result, Ok, Err, MatchBool, MatchOption, MatchResult, if◌then◌else◌}
 use Rattle.c_slots.specs.Disks.{DeskValue}
-use Rattle.c_slots.specs.Trays.{TrayValue}
+use Rattle.telwyddus_c.specs.Common.{TrayValue, Rate, Disk, is_size_code, content_size}
 use Rattle.flop_base.specs.Standard.{gap_at, standard_fill}
 use Rattle.flop_base.specs.declared.answers.Code.{Code}
 use Rattle.flop_base.specs.declared.answers.Code.TheVariants.{BadRequest, NoMark, Protected, NotFound, Changed, Overrun, Page, BadCrc, Seek, NotReady}
-use Rattle.flop_base.specs.declared.answers.Rate.{Rate}
 use Rattle.flop_base.specs.declared.key.Chrn.{Chrn}
-use Rattle.raw_image.specs.Disk.{Disk}
 use Rattle.sector_desk.specs.Desks.{station_of}
 use Rattle.sector_desk.specs.Quiet.{IsCalm}
 use Rattle.sector_desk.specs.Sectors.{ReadsSector, WritesSector}
 use Rattle.sector_model.specs.Calls.{Acks, Ejects, Inserts, RatesTo}
 use Rattle.sector_model.specs.Formats.{FormatsTo}
-use Rattle.sector_model.specs.Orders.{is_size_code}
 use Rattle.sector_model.specs.Stations.{IsFresh, bay_of}
 use Rattle.telwyddus_c.specs.Rates.{rate_named}
 use Rattle.telwyddus_c.specs.Slots.{FullOr}
-use Rattle.track_model.specs.Fields.{content_size}
 
 -- two empty bays
 abbrev pub IsBareDesk : DeskValue → Type 0

@@ -1,16 +1,8 @@
 -- The drives of bays: their cables, their plans, and the tracks that were written.
 use Rattle.std.specs.Prelude.{◌≡◌, ◌-◌, ◌==◌, ◌&&◌, ℕ, Bool, not, List, is_some, Ok, Err, MatchBool, if◌then◌else◌}
-use Rattle.c_bay_drive.specs.Bays.{bay_state, drive_in_bay, drive_within, faults_in_bay, is_attached, new_in_bay, state_replanned, state_with_cable, tracks_in_bay, without_tracks}
+use Rattle.telwyddus_c.specs.Common.{bay_state, drive_in_bay, drive_within, faults_in_bay, is_attached, new_in_bay, state_replanned, state_with_cable, tracks_in_bay, without_tracks, ControllerValue, DriveState, total_left, told, Plan, plan_spelled, drive_held, behind_of, IsNewChip, KeepsChip, adapter_of}
 use Rattle.c_bay_drive.specs.declared.bay.BayDrive.{BayDrive}
-use Rattle.c_slots.specs.Controllers.{ControllerValue}
-use Rattle.drive_model.specs.Drive.{DriveState}
-use Rattle.drive_model.specs.Fault.{total_left}
-use Rattle.drive_model.specs.ScriptDrive.{told}
 use Rattle.drive_model.specs.declared.fault.Fault.{Fault}
-use Rattle.fault_plan.specs.Plan.{Plan, plan_spelled}
-use Rattle.fdc_sequencer.specs.Adapters.{drive_held}
-use Rattle.fdc_chip.specs.Chips.{behind_of, IsNewChip, KeepsChip}
-use Rattle.fdc_sequencer.specs.Fronts.{adapter_of}
 use Rattle.telwyddus_c.specs.Controllers.{drive_of, state_of}
 
 -- the drive of a bay

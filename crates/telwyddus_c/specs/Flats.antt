@@ -1,14 +1,10 @@
 -- Flat sector files in buffers of C.
 use Rattle.std.specs.Prelude.{◌≡◌, ◌==◌, ℕ, List, length, Option, None, Some, Result, Ok, Err, MatchBool, MatchOption, ⊤}
-use Rattle.std.specs.Global.{Vec}
-use Rattle.c_slots.specs.Trays.{TrayValue}
+use Rattle.telwyddus_c.specs.Common.{Vec, TrayValue, GivesFlat, Disk, ImageError}
 use Rattle.sector_map.specs.Flat.{sectors_told}
-use Rattle.flat_files.specs.Files.{GivesFlat}
 use Rattle.flat_files.specs.Flats.{HasFlat}
 use Rattle.flat_files.specs.declared.fault.FlatFault.{FlatFault}
 use Rattle.flat_files.specs.declared.fault.FlatFault.TheVariants.{Shape, Unfit, More, Lacks, NoMemory}
-use Rattle.raw_image.specs.Disk.{Disk}
-use Rattle.raw_image.specs.declared.error.ImageError.{ImageError}
 use Rattle.telwyddus_c.specs.Buffers.{WritesBytes}
 use Rattle.telwyddus_c.specs.Slots.{FullOr}
 

@@ -1,16 +1,11 @@
 -- Flat sector files of any geometry.
 use Rattle.std.specs.Prelude.{◌≡◌, ◌==◌, ℕ, List, length, Option, None, Some, option_map, Result, Ok, Err, MatchBool, MatchOption, ⊤}
-use Rattle.std.specs.Global.{Vec}
-use Rattle.c_slots.specs.Trays.{TrayValue}
-use Rattle.flat_files.specs.Files.{GivesForm}
+use Rattle.telwyddus_c.specs.Common.{Vec, TrayValue, GivesForm, IsFirstCrowded, Disk, narrow_gap}
 use Rattle.flat_files.specs.Forms.{IsForm, file_length}
 use Rattle.flat_files.specs.FormMaking.{HasForm, form_image}
 use Rattle.flat_files.specs.declared.file_fault.FileFault.{FileFault}
 use Rattle.flat_files.specs.declared.file_fault.FileFault.TheVariants.{NoForm, Flat}
 use Rattle.flat_files.specs.declared.form.FlatForm.{FlatForm}
-use Rattle.imagedisk.specs.Made.{IsFirstCrowded}
-use Rattle.raw_image.specs.Disk.{Disk}
-use Rattle.track_format.specs.Gaps.{narrow_gap}
 use Rattle.telwyddus_c.specs.Flats.{TellsFlat}
 use Rattle.telwyddus_c.specs.Rates.{rate_named}
 use Rattle.telwyddus_c.specs.Slots.{FullOr}

@@ -1,7 +1,6 @@
 -- Media in buffers of C.
 use Rattle.std.specs.Prelude.{◌≡◌, ℕ, ◌==◌, List, Option, None, Some, MatchBool, ⊤}
-use Rattle.c_slots.specs.Trays.{TrayValue}
-use Rattle.raw_image.specs.Disk.{Disk}
+use Rattle.telwyddus_c.specs.Common.{TrayValue, Disk}
 use Rattle.raw_image.specs.Image.{Spells, file_of}
 use Rattle.telwyddus_c.specs.Buffers.{WritesOr}
 use Rattle.telwyddus_c.specs.Slots.{FullOr}

@@ -1,16 +1,12 @@
 -- ImageDisk files in buffers of C.
 use Rattle.std.specs.Prelude.{◌≡◌, ◌==◌, ℕ, List, Option, None, Some, Ok, Err, MatchBool}
-use Rattle.c_slots.specs.Trays.{TrayValue}
+use Rattle.telwyddus_c.specs.Common.{TrayValue, MakesDisk, Disk, ImageError, narrow_gap}
 use Rattle.imagedisk.specs.Found.{HasImage}
-use Rattle.imagedisk.specs.Made.{MakesDisk}
 use Rattle.imagedisk.specs.Reading.{image_of}
 use Rattle.imagedisk.specs.Taken.{TakesDisk}
 use Rattle.imagedisk.specs.Writing.{file_of}
 use Rattle.imagedisk.specs.declared.error.ImdError.TheVariants.{Unfit}
 use Rattle.imagedisk.specs.declared.image.ImdImage.{ImdImage}
-use Rattle.raw_image.specs.Disk.{Disk}
-use Rattle.raw_image.specs.declared.error.ImageError.{ImageError}
-use Rattle.track_format.specs.Gaps.{narrow_gap}
 use Rattle.telwyddus_c.specs.Buffers.{WritesBytes}
 use Rattle.telwyddus_c.specs.Slots.{FullOr}
 

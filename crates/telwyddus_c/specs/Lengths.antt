@@ -1,7 +1,6 @@
 -- The most bytes of a controller's state.
 use Rattle.std.specs.Prelude.{◌≡◌, ◌+◌, ◌*◌, ◌≤◌, ℕ, length, Option, None, Some, ⊤}
-use Rattle.c_bay_drive.specs.Bays.{faults_in_bay}
-use Rattle.c_slots.specs.Controllers.{ControllerValue}
+use Rattle.telwyddus_c.specs.Common.{faults_in_bay, ControllerValue}
 use Rattle.telwyddus_c.specs.Drives.{held}
 
 -- the most bytes of a medium's image file: its header, and 16,384 words of 2 bytes on each track of 80 cylinders and 2

@@ -1,18 +1,11 @@
 -- Calls on the machine.
 use Rattle.std.specs.Prelude.{◌≡◌, ◌≤◌, ◌<◌, ◌+◌, ◌-◌, ◌==◌, ◌⊎◌, ℕ, min, false, List, [], length, slice_index, Option, Some, MatchBool, if◌then◌else◌}
 use Rattle.std.specs.Fn.{iterate}
-use Rattle.c_slots.specs.Machines.{MachineValue}
-use Rattle.c_slots.specs.Trays.{TrayValue}
-use Rattle.drive_model.specs.Fault.{total_left}
+use Rattle.telwyddus_c.specs.Common.{MachineValue, TrayValue, total_left, script_state, told, Plan, Board, board, drive_in, latch_of, memory_of, IsNew, Touches, RunsToIrq}
 use Rattle.drive_model.specs.Mechanics.{at_rest}
-use Rattle.drive_model.specs.ScriptDrive.{script_state, told}
-use Rattle.fault_plan.specs.Plan.{Plan}
 use Rattle.flop_base.specs.Memory.{user_bytes}
 use Rattle.irq_events.specs.Holds.{counted}
 use Rattle.irq_events.specs.declared.pace.Pace.{Pace}
-use Rattle.pc_bus.specs.Boards.{Board, board, drive_in, latch_of, memory_of, IsNew}
-use Rattle.pc_bus.specs.Handling.{Touches}
-use Rattle.pc_bus.specs.Steps.{RunsToIrq}
 use Rattle.telwyddus_c.specs.Media.{Inserts, Ejects}
 
 -- the chips and the states of both drives

@@ -1,8 +1,6 @@
 -- Media between a tray and a drive.
 use Rattle.std.specs.Prelude.{◌≡◌, ℕ, ◌==◌, Option, None, Some, IsSome, MatchBool}
-use Rattle.c_slots.specs.Trays.{TrayValue}
-use Rattle.drive_model.specs.Drive.{DriveState, loaded, unloaded}
-use Rattle.raw_image.specs.Disk.{Disk}
+use Rattle.telwyddus_c.specs.Common.{TrayValue, DriveState, loaded, unloaded, Disk}
 use Rattle.telwyddus_c.specs.Slots.{FullOr}
 
 -- the medium of a tray goes into a drive: code 0. If the drive has one in, 6, or if the tray has none, 7, both stay as

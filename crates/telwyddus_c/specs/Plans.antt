@@ -1,6 +1,6 @@
 -- What is made by the text of a plan.
 use Rattle.std.specs.Prelude.{◌≡◌, ◌==◌, ℕ, List, Option, None, Ok, Err, MatchBool}
-use Rattle.fault_plan.specs.Plan.{Plan, plan_spelled}
+use Rattle.telwyddus_c.specs.Common.{Plan, plan_spelled}
 use Rattle.telwyddus_c.specs.Slots.{Fills}
 
 -- a text spells a plan, and this is what the plan makes

@@ -1,7 +1,6 @@
 -- Rates by their numbers.
 use Rattle.std.specs.Prelude.{ℕ, ◌==◌, Option, None, Some, if◌then◌else◌}
-use Rattle.flop_base.specs.declared.answers.Rate.{Rate}
-use Rattle.flop_base.specs.declared.answers.Rate.TheVariants.{R500, R250}
+use Rattle.telwyddus_c.specs.Common.{Rate, R500, R250}
 
 -- the rate of so many kbit/s, 500 or 250
 abbrev pub rate_named : ℕ → Option Rate

@@ -1,8 +1,6 @@
 -- What a medium is, except for its cells.
 use Rattle.std.specs.Prelude.{◌≡◌, ℕ, Option, None, Some, if◌then◌else◌}
-use Rattle.flop_base.specs.declared.answers.Rate.{Rate}
-use Rattle.flop_base.specs.declared.answers.Rate.TheVariants.{R500, R250}
-use Rattle.raw_image.specs.Disk.{Disk}
+use Rattle.telwyddus_c.specs.Common.{Rate, R500, R250, Disk}
 use Rattle.telwyddus_c.specs.declared.shape.MediumShape.{MediumShape}
 
 -- a rate in kbit/s

@@ -4,10 +4,9 @@ use Rattle.std.specs.Str.{IsUtf8}
 use Rattle.archive_commands.specs.Files.{Outside}
 use Rattle.c_slots.specs.Shelves.{ShelfValue}
 use Rattle.flop_base.specs.Numbers.{status_number}
-use Rattle.flop_base.specs.Shelf.{no_files, stored}
+use Rattle.telwyddus_c.specs.Common.{no_files, stored, files_in, report_in, RanPlain}
 use Rattle.flop_base.specs.Sink.{joined}
 use Rattle.flop_base.specs.declared.answers.Status.{Status}
-use Rattle.memory_files.specs.Shelves.{files_in, report_in, RanPlain}
 use Rattle.memory_files.specs.Words.{words_in}
 use Rattle.telwyddus_c.specs.Buffers.{WritesOr, WritesBytes}
 

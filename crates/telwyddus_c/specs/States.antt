@@ -1,11 +1,7 @@
 -- Saved states in buffers of C.
 use Rattle.std.specs.Prelude.{◌≡◌, ℕ, ◌==◌, List, [], ◌∷◌, ◌++◌, Option, Some, Result, Ok, Err, MatchBool, ⊤}
-use Rattle.std.specs.Global.{Box}
-use Rattle.c_bay_drive.specs.Saving.{spelled_bay, BayFits}
-use Rattle.c_slots.specs.Controllers.{ControllerValue}
-use Rattle.c_slots.specs.Machines.{MachineValue}
+use Rattle.telwyddus_c.specs.Common.{Box, spelled_bay, BayFits, ControllerValue, MachineValue, spelled_chip, ChipFits}
 use Rattle.drive_model.specs.Saving.{spelled_script_drive}
-use Rattle.fdc_chip.specs.Saving.{spelled_chip, ChipFits}
 use Rattle.pc_bus.specs.Saving.{spelled_machine, MachineFits}
 use Rattle.saved_state.specs.declared.whole.RestoreError.{RestoreError}
 use Rattle.saved_state.specs.declared.whole.RestoreError.TheVariants.{NoState, NoMemory}

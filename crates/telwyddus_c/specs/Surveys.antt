@@ -1,7 +1,7 @@
 -- What stands on a medium, in bytes.
 use Rattle.std.specs.Prelude.{◌≡◌, ◌/◌, ◌%◌, ◌==◌, ℕ, false, true, List, [], ◌∷◌, Option, None, Some, MatchBool, if◌then◌else◌}
 use Rattle.std.specs.List.{flat_map}
-use Rattle.raw_image.specs.Disk.{Disk}
+use Rattle.telwyddus_c.specs.Common.{Disk}
 use Rattle.remaster.specs.Survey.{IsSurvey, names_size}
 use Rattle.remaster.specs.declared.lines.SurveyLine.{SurveyLine}
 use Rattle.track_model.specs.declared.Look.{Look}

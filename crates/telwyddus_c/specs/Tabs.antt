@@ -1,9 +1,6 @@
 -- Media whose write-protect tab is moved.
 use Rattle.std.specs.Prelude.{◌≡◌, ℕ, Bool, Some, is_some, MatchOption, if◌then◌else◌}
-use Rattle.c_slots.specs.Controllers.{ControllerValue}
-use Rattle.c_slots.specs.Trays.{TrayValue}
-use Rattle.drive_model.specs.Drive.{with_protection}
-use Rattle.raw_image.specs.Disk.{tabbed}
+use Rattle.telwyddus_c.specs.Common.{ControllerValue, TrayValue, with_protection, tabbed}
 use Rattle.telwyddus_c.specs.Controllers.{drive_of, state_of, KeepsBeside}
 
 -- the tab of the medium in a tray is moved: code 0. If there is no medium, the code is 7

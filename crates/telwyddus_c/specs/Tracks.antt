@@ -1,7 +1,6 @@
 -- The words of one track.
 use Rattle.std.specs.Prelude.{◌≡◌, ℕ, List, length, Option, None, Some, MatchOption}
-use Rattle.c_slots.specs.Trays.{TrayValue}
-use Rattle.raw_image.specs.Disk.{Disk, HasTrack, IsWithTrack, track_of}
+use Rattle.telwyddus_c.specs.Common.{TrayValue, Disk, HasTrack, IsWithTrack, track_of}
 use Rattle.telwyddus_c.specs.Buffers.{WritesBytes}
 use Rattle.telwyddus_c.specs.Slots.{DoneOr}
 

@@ -1,10 +1,7 @@
 // A controller whose media are out of its bays, and back.
 ghost use Rattle.std.specs.Prelude.{◌≡◌, ◌≤◌, ◌-◌, true, Some, IfOk, IfErr};
 ghost use Rattle.std.specs.Bool.{OnTrue, OnFalse};
-ghost use Rattle.std.specs.Option.{option_copied};
-ghost use Rattle.c_bay_drive.specs.Bays.{bay_state};
-ghost use Rattle.c_bay_drive.specs.WithMedium.{BayWithMedium};
-ghost use Rattle.drive_model.specs.Drive.{same_length};
+ghost use Rattle.telwyddus_c.specs.Common.{option_copied, bay_state, BayWithMedium, same_length};
 ghost use Rattle.telwyddus_c.specs.Bare.{stand_in, stand_in_for as stand_in_of, alike as alike_of, media_alike, medium_in, BareBytes, HasMedium, IsBared, IsRefilled};
 ghost use Rattle.telwyddus_c.specs.Bare.{same_rate as same_rate_of, with_writes_at, with_writes_of};
 ghost use Rattle.telwyddus_c.specs.Drives.{held};

@@ -1,6 +1,6 @@
 // Flat sector files in buffers of C.
 ghost use Rattle.std.specs.Prelude.{◌≡◌};
-ghost use Rattle.std.specs.Option.{option_copied};
+ghost use Rattle.telwyddus_c.specs.Common.{option_copied};
 ghost use Rattle.telwyddus_c.specs.Flats.{ReadsFlat, TellsFault, WritesFlat, WritesSectors, place_of as place_of_fault};
 ghost use Rattle.telwyddus_c.specs.Slots.{Serves};
 

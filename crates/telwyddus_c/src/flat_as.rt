@@ -1,6 +1,6 @@
 // Flat sector files of any geometry in buffers of C.
 ghost use Rattle.std.specs.Prelude.{◌≡◌, None};
-ghost use Rattle.std.specs.Option.{option_copied};
+ghost use Rattle.telwyddus_c.specs.Common.{option_copied};
 ghost use Rattle.telwyddus_c.specs.Forms.{FillsForm, ReadsForm, WritesForm, WritesFormOf, WritesNamed, form_named as form_named_by};
 ghost use Rattle.telwyddus_c.specs.Slots.{Serves};
 

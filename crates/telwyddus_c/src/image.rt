@@ -1,5 +1,5 @@
 // Image files in buffers of C.
-ghost use Rattle.std.specs.Option.{option_copied};
+ghost use Rattle.telwyddus_c.specs.Common.{option_copied};
 ghost use Rattle.telwyddus_c.specs.Images.{WritesImage};
 
 use crate::buffer::write_bytes;

@@ -1,6 +1,6 @@
 // ImageDisk files in buffers of C.
 ghost use Rattle.std.specs.Prelude.{◌≡◌, None};
-ghost use Rattle.std.specs.Option.{option_copied};
+ghost use Rattle.telwyddus_c.specs.Common.{option_copied};
 ghost use Rattle.imagedisk.specs.Images.{IsImdImage};
 ghost use Rattle.telwyddus_c.specs.Imds.{MakesTray, ReadsImd, WritesImd};
 ghost use Rattle.telwyddus_c.specs.Slots.{Serves};

@@ -1,6 +1,6 @@
 // What follows from the calls. The bodies are empty.
 ghost use Rattle.std.specs.Prelude.{◌≡◌, ◌⊎◌, ℕ, List};
-ghost use Rattle.c_slots.specs.Controllers.{ControllerValue};
+ghost use Rattle.telwyddus_c.specs.Common.{ControllerValue};
 ghost use Rattle.telwyddus_c.specs.Bare.{BareBytes, IsBared, RestoresBare};
 
 /// What was saved without its media, and is restored onto the same media, is the controller that was saved. Restoring

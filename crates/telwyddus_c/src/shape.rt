@@ -1,6 +1,6 @@
 // What a medium is, except for its cells.
 ghost use Rattle.std.specs.Prelude.{◌≡◌};
-ghost use Rattle.std.specs.Option.{option_copied};
+ghost use Rattle.telwyddus_c.specs.Common.{option_copied};
 ghost use Rattle.telwyddus_c.specs.Slots.{Serves};
 
 use crate::code::{DONE, EMPTY, NO_MEDIUM};

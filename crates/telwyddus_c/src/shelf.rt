@@ -1,7 +1,6 @@
 // The program over files in memory.
 ghost use Rattle.std.specs.Prelude.{◌≡◌, ⊤};
-ghost use Rattle.flop_base.specs.Shelf.{file_at};
-ghost use Rattle.memory_files.specs.Shelves.{outside_in, files_in};
+ghost use Rattle.telwyddus_c.specs.Common.{file_at, outside_in, files_in};
 ghost use Rattle.telwyddus_c.specs.Shelves.{IsBare, Puts, Gets, RunsWords, HandsOut};
 ghost use Rattle.telwyddus_c.specs.Slots.{Fills, Frees, Moves, Serves};
 

@@ -1,6 +1,6 @@
 // What stands on a medium.
 ghost use Rattle.std.specs.Prelude.{◌≡◌, ◌++◌, IfOk, OnOk};
-ghost use Rattle.std.specs.Option.{option_copied};
+ghost use Rattle.telwyddus_c.specs.Common.{option_copied};
 ghost use Rattle.telwyddus_c.specs.Slots.{Serves};
 ghost use Rattle.telwyddus_c.specs.Surveys.{WritesSurvey, line_bytes, look_sign, survey_bytes as survey_bytes_of};
 

@@ -1,6 +1,6 @@
 // The words of one track, out of a medium and into one.
 ghost use Rattle.std.specs.Prelude.{◌≡◌, ⊤};
-ghost use Rattle.std.specs.Option.{option_copied};
+ghost use Rattle.telwyddus_c.specs.Common.{option_copied};
 ghost use Rattle.telwyddus_c.specs.Buffers.{WritesBytes};
 ghost use Rattle.telwyddus_c.specs.Slots.{Serves};
 ghost use Rattle.telwyddus_c.specs.Tracks.{ReplacesTrack, SetsTrack, WritesTrack};

@@ -1,28 +1,11 @@
 -- Formats of the bench.
 use Rattle.std.proofs.Common.{◌≡◌, ℕ, ◌+◌, ◌≤◌, ◌↔◌, ◌++◌, List, length, take, drop, Option, Some, None, Result, Ok, Err, IsOk, IfErr, MatchOption, refl, sym, ap, ◌∙◌, subst, arith}
-use Rattle.std.proofs.lemmas.Bool.{false≢true}
-use Rattle.std.proofs.lemmas.List.{take_all}
-use Rattle.flop_base.specs.declared.answers.Code.{Code}
-use Rattle.flop_base.specs.declared.answers.Code.TheVariants.{NoMark}
+use Rattle.test_driver.proofs.Common.{false≢true, take_all, Code, NoMark, Disk, HasTrack, IsWithTrack, track_of, Fits, lay, laid_words, Two, in_bay, with_bay, track_keys, Format, formatted, Laying, IsLaying, format_keys, MeetsTrack, one_met, Rig, SendsWrite, FormatsTrack, LaysMedium, HasTrackUnder, IsFormatMiss, BenchCounts, BenchDrive, HasSent, SameDrive, rig_of}
 use Rattle.flop_base.specs.Standard.{standard_code, sectors_at}
-use Rattle.raw_image.specs.Disk.{Disk, HasTrack, IsWithTrack, track_of}
-use Rattle.track_model.specs.Layouts.{Fits, lay, laid_words}
 use Rattle.flop_base.specs.Lists.{with_items}
-use Rattle.flop_base.specs.Bays.{Two, in_bay, with_bay}
-use Rattle.sector_map.specs.Standard.{track_keys}
-use Rattle.sector_map.specs.Layings.{Format, formatted, Laying, IsLaying, format_keys}
 use Rattle.sector_map.specs.LaidDisks.{laying_at}
-use Rattle.sector_map.specs.MetTracks.{MeetsTrack}
 use Rattle.sector_map.proofs.Laid.{format_fits, length-formatted}
-use Rattle.sector_map.proofs.MetTracks.{one_met}
-use Rattle.floppy_driver.specs.Rigs.{Rig}
-use Rattle.floppy_driver.specs.Writing.{SendsWrite, FormatsTrack, LaysMedium, HasTrackUnder, IsFormatMiss}
-use Rattle.test_driver.specs.declared.counts.BenchCounts.{BenchCounts}
-use Rattle.test_driver.specs.declared.drive.BenchDrive.{BenchDrive}
-use Rattle.test_driver.specs.Counted.{HasSent}
-use Rattle.test_driver.specs.Drives.{SameDrive}
 use Rattle.test_driver.specs.Laid.{HasTrackOn, CanFormatOn, LaidOn, FormatsOn}
-use Rattle.test_driver.specs.Shown.{rig_of}
 use Rattle.test_driver.proofs.WriteSteps.{written_on}
 
 -- ---- the medium has no such track

@@ -1,3 +1,4 @@
+mod Common
 mod FormatSteps
 mod Putting
 mod ReadSteps

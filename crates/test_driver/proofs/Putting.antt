@@ -1,11 +1,7 @@
 -- A window put on a track.
 use Rattle.std.proofs.Common.{◌≡◌, ℕ, ◌+◌, ◌-◌, ◌≤◌, ◌==◌, Bool, true, false, MatchBool, List, ◌++◌, length, take, drop, min, refl, ap, subst, arith, inr}
-use Rattle.std.proofs.lemmas.Bool.{eqb-true, eqb-false}
-use Rattle.raw_image.specs.Disk.{Disk, IsDisk, HasTrack, IsWithTrack, track_of}
+use Rattle.test_driver.proofs.Common.{eqb-true, eqb-false, Disk, IsDisk, HasTrack, IsWithTrack, track_of, window_word, cut_of, length-track_of, IsCutTo, PutsWindow}
 use Rattle.flop_base.specs.Lists.{with_items}
-use Rattle.track_model.specs.Windows.{window_word, cut_of}
-use Rattle.sector_map.proofs.RegularTracks.{length-track_of}
-use Rattle.test_driver.specs.Put.{IsCutTo, PutsWindow}
 
 match_bool : (b : Bool) (P Q : Type 0) → (b ≡ true → P) → (b ≡ false → Q) → MatchBool b P Q
 match_bool true P Q at_true at_false = at_true refl

@@ -1,33 +1,13 @@
 -- Reads of the bench.
 use Rattle.std.proofs.Common.{◌≡◌, ℕ, ◌+◌, ◌-◌, ◌<◌, ◌≤◌, ◌++◌, Bool, true, false, List, length, take, drop, get_or, Option, None, MatchOption, Result, Ok, Err, IfOk, IfErr, refl, sym, ap, ◌∙◌, subst, arith, inl, inr}
 use Rattle.std.specs.Prelude.{◌==◌, if◌then◌else◌}
-use Rattle.std.proofs.lemmas.List.{get_or_append_left, get_or-append-add, get_or-take, get_or-drop, length-append, length-take, length-drop, drop-drop}
+use Rattle.test_driver.proofs.Common.{get_or_append_left, get_or-append-add, get_or-take, get_or-drop, length-append, length-take, length-drop, drop-drop, Chrn, Rate, Code, NoMark, Overrun, Disk, track_of, Look, IsAddressAt, content_size, content_at, LookFor, Two, in_bay, Counters, SameOutside, drive_same, met_in, nothing_from, Rig, track_under, BenchCounts, BenchDrive, HasSent, FindsOn, RefusedAs, IsMissedOn, rig_of}
 use borrow.Rule.Slice.PartMut.{put_mid}
-use Rattle.flop_base.specs.declared.key.Chrn.{Chrn}
-use Rattle.flop_base.specs.declared.answers.Rate.{Rate}
-use Rattle.flop_base.specs.declared.answers.Code.{Code}
-use Rattle.flop_base.specs.declared.answers.Code.TheVariants.{NoMark, Overrun}
-use Rattle.raw_image.specs.Disk.{Disk, track_of}
-use Rattle.track_model.specs.declared.Look.{Look}
 use Rattle.track_model.specs.declared.Look.TheVariants as look
-use Rattle.track_model.specs.Fields.{IsAddressAt, content_size, content_at}
-use Rattle.track_model.specs.Looks.{LookFor}
 use Rattle.track_model.specs.Sectors.{IsSector}
 use Rattle.track_model.proofs.Sectored.{found_sector, sector_under}
-use Rattle.flop_base.specs.Bays.{Two, in_bay}
-use Rattle.flop_base.specs.Counters.{Counters}
 use Rattle.flop_base.specs.Lists.{with_items}
-use Rattle.flop_base.specs.Memory.{SameOutside}
-use Rattle.flop_base.proofs.Counted.{drive_same}
-use Rattle.sector_map.specs.Met.{met_in}
-use Rattle.sector_map.proofs.MetTracks.{nothing_from}
-use Rattle.floppy_driver.specs.Rigs.{Rig, track_under}
 use Rattle.floppy_driver.specs.Reading.{SendsRead, FindsField, IsReadCode, IsReadReason, IsReadMiss, ReadsData, ReadsBack, ReadsId}
-use Rattle.test_driver.specs.declared.counts.BenchCounts.{BenchCounts}
-use Rattle.test_driver.specs.declared.drive.BenchDrive.{BenchDrive}
-use Rattle.test_driver.specs.Counted.{HasSent}
-use Rattle.test_driver.specs.Found.{FindsOn, RefusedAs, IsMissedOn}
-use Rattle.test_driver.specs.Shown.{rig_of}
 
 -- ---- memory of which a part is written over
 
@@ -84,11 +64,8 @@ at_bay drives bay drive P is fact = drive_at (bay == 0) drives.first drives.seco
 
 -- a look that found nothing is a reason to refuse a read
 refused_code : (looked : Look) (code : Code) → RefusedAs looked code → IsReadCode code × (code ≡ Overrun → ⊥)
-refused_code look.NoMark code is = (subst IsReadCode (sym is) tt, λ e. cc (is, e))
-refused_code look.NoData code is = (subst IsReadCode (sym is) tt, λ e. cc (is, e))
-refused_code look.NoSector code is = (subst IsReadCode (sym is) tt, λ e. cc (is, e))
-refused_code look.BadCrc code is = (subst IsReadCode (sym is) tt, λ e. cc (is, e))
 refused_code (look.Found deleted place) code is = absurd is
+refused_code _ code is = (subst IsReadCode (sym is) tt, λ e. cc (is, e))
 
 reason_of : (track : List ℕ) (key : Chrn) (looked : Look) (code : Code) → LookFor track key looked → RefusedAs looked code → IsReadReason track key code
 reason_of track key look.NoMark code is refused = subst (IsReadReason track key) (sym refused) (inl (nothing_from track is).clear_marks)

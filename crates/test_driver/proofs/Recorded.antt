@@ -1,17 +1,6 @@
 -- The track under a head of a drive, and where nothing is recorded.
 use Rattle.std.proofs.Common.{◌≡◌, ℕ, Option, Some, None, IsSome, IfSome, MatchOption, ◌↔◌, List, length, refl, sym, ap, subst, ◌∙◌, arith, Bor}
-use Rattle.std.proofs.lemmas.Bool.{false≢true}
-use Rattle.flop_base.specs.declared.key.Chrn.{Chrn}
-use Rattle.flop_base.specs.declared.answers.Code.{Code}
-use Rattle.raw_image.specs.Disk.{Disk, IsDisk, HasTrack, track_of}
-use Rattle.track_model.specs.declared.Look.{Look}
-use Rattle.track_model.specs.Looks.{LookFor}
-use Rattle.sector_map.specs.Met.{met_in}
-use Rattle.sector_map.specs.MetTracks.{MeetsTrack, HasNothing}
-use Rattle.sector_map.proofs.RegularTracks.{length-track_of}
-use Rattle.sector_map.proofs.MetTracks.{nothing_there, met_track}
-use Rattle.flop_base.specs.declared.answers.Rate.{Rate}
-use Rattle.test_driver.specs.Found.{IsUnderHead, RefusedAs, IsMissedOn}
+use Rattle.test_driver.proofs.Common.{false≢true, Chrn, Code, Disk, IsDisk, HasTrack, track_of, Look, LookFor, met_in, MeetsTrack, HasNothing, length-track_of, nothing_there, met_track, Rate, IsUnderHead, RefusedAs, IsMissedOn}
 
 recorded : (medium : Option Disk) (rate : Rate) (c h : ℕ) (disk : Disk) (track : List ℕ) → IsDisk disk → MeetsTrack medium rate c h disk → track ≡ track_of disk c h → IsUnderHead medium rate c h track
 recorded medium rate c h disk track valid meets is =

@@ -1,35 +1,9 @@
 -- Writes of the bench.
 use Rattle.std.proofs.Common.{◌≡◌, ℕ, zero, suc, ◌+◌, ◌-◌, ◌≤◌, true, false, List, length, take, drop, Option, Some, None, Result, Ok, Err, IfErr, MatchOption, refl, sym, ap, ◌∙◌, subst, arith, inl, inr}
-use Rattle.std.proofs.lemmas.Bool.{false≢true}
-use Rattle.flop_base.specs.declared.key.Chrn.{Chrn}
-use Rattle.flop_base.specs.declared.answers.Rate.{Rate}
-use Rattle.flop_base.specs.declared.answers.Code.{Code}
-use Rattle.flop_base.specs.declared.answers.Code.TheVariants.{NoMark}
-use Rattle.raw_image.specs.Disk.{Disk, IsDisk, track_of}
-use Rattle.track_model.specs.Fields.{IsAddressAt}
-use Rattle.track_model.specs.Windows.{window_word, window_words}
-use Rattle.flop_base.specs.Bays.{Two, in_bay, with_bay}
-use Rattle.flop_base.specs.Counters.{GoesOn, IsDriven}
-use Rattle.flop_base.specs.Memory.{bytes_from}
-use Rattle.flop_base.proofs.Counted.{drive_same}
-use Rattle.sector_map.specs.Met.{met_in}
-use Rattle.sector_map.specs.MetTracks.{MeetsTrack}
-use Rattle.sector_map.specs.Changes.{Change, Written, window_of, IsChange}
-use Rattle.sector_map.specs.ChangedDisks.{change_at}
-use Rattle.sector_map.proofs.Writable.{FitsKey}
+use Rattle.test_driver.proofs.Common.{false≢true, Chrn, Rate, Code, NoMark, Disk, IsDisk, track_of, IsAddressAt, window_word, window_words, Two, in_bay, with_bay, GoesOn, IsDriven, bytes_from, drive_same, met_in, MeetsTrack, Change, Written, window_of, IsChange, change_at, FitsKey, nothing_from, met_track, one_met, length-track_of, Rig, track_under, SendsWrite, WritesData, ChangesMedium, IsWriteMiss, HasWindowOut, BenchCounts, BenchDrive, HasSent, SameDrive, IsCutTo, PutsWindow, HasFieldOn, IsAbsent, ChangesOn, IsWriteRefusal, WritesOn, rig_of}
 use Rattle.sector_map.specs.KeptDisks.{KeepsTracks}
-use Rattle.sector_map.proofs.MetTracks.{nothing_from, met_track, one_met}
 use Rattle.sector_map.proofs.KeptTracks.{still_meets, length-alike}
-use Rattle.sector_map.proofs.RegularTracks.{length-track_of}
 use Rattle.sector_map.proofs.Changed.{length-window_of, change_keeps_tracks, change_keeps_address}
-use Rattle.floppy_driver.specs.Rigs.{Rig, track_under}
-use Rattle.floppy_driver.specs.Writing.{SendsWrite, WritesData, ChangesMedium, IsWriteMiss, HasWindowOut}
-use Rattle.test_driver.specs.declared.counts.BenchCounts.{BenchCounts}
-use Rattle.test_driver.specs.declared.drive.BenchDrive.{BenchDrive}
-use Rattle.test_driver.specs.Counted.{HasSent}
-use Rattle.test_driver.specs.Drives.{SameDrive}
-use Rattle.test_driver.specs.Put.{IsCutTo, PutsWindow, HasFieldOn, IsAbsent, ChangesOn, IsWriteRefusal, WritesOn}
-use Rattle.test_driver.specs.Shown.{rig_of}
 
 -- ---- no address field of the key
 

@@ -1,6 +1,6 @@
 -- How the counts of a bench rise.
 use Rattle.std.specs.Prelude.{◌≡◌, ℕ, ◌+◌, ◌≤◌}
-use Rattle.flop_base.specs.Counts.{last_count, RoseBy}
+use Rattle.test_driver.specs.Common.{last_count, RoseBy}
 use Rattle.test_driver.specs.declared.counts.BenchCounts.{BenchCounts}
 
 -- a count rises by one, unless it is at its last value

@@ -1,6 +1,6 @@
 -- What movements and faults make of a drive.
 use Rattle.std.specs.Prelude.{◌≡◌, ◌≢◌, ℕ, ◌+◌, ◌-◌, ◌≤◌, Bool, true, false, IsSome, None, ◌⊎◌}
-use Rattle.flop_base.specs.Counts.{RoseBy, RoseLess}
+use Rattle.test_driver.specs.Common.{RoseBy, RoseLess}
 use Rattle.test_driver.specs.declared.drive.BenchDrive.{BenchDrive}
 
 -- the heads of the drive were moved, or not

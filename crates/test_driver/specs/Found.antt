@@ -1,17 +1,9 @@
 -- What is found on the track under a head.
 use Rattle.std.specs.Prelude.{◌≡◌, ℕ, Bool, List, Option}
-use Rattle.flop_base.specs.declared.key.Chrn.{Chrn}
-use Rattle.flop_base.specs.declared.answers.Rate.{Rate}
-use Rattle.flop_base.specs.declared.answers.Code.{Code}
+use Rattle.test_driver.specs.Common.{Chrn, Rate, Code, Disk, track_of, IsTrackSized, content_at, LookFor, met_in, MeetsTrack}
 use Rattle.flop_base.specs.declared.answers.Code.TheVariants as code
-use Rattle.raw_image.specs.Disk.{Disk, track_of}
 use Rattle.track_model.specs.declared.Look.{Look}
 use Rattle.track_model.specs.declared.Look.TheVariants as look
-use Rattle.track_model.specs.Cells.{IsTrackSized}
-use Rattle.track_model.specs.Fields.{content_at}
-use Rattle.track_model.specs.Looks.{LookFor}
-use Rattle.sector_map.specs.Met.{met_in}
-use Rattle.sector_map.specs.MetTracks.{MeetsTrack}
 
 -- a track that the medium has at the rate, under the head
 pub record IsUnderHead (medium : Option Disk) (rate : Rate) (cylinder head : ℕ) (track : List ℕ) : Type 0 where

@@ -1,13 +1,7 @@
 -- What a format makes of a medium.
 use Rattle.std.specs.Prelude.{◌≡◌, ℕ, Option, Some, Result, IsOk, IfErr, MatchOption}
 use Rattle.flop_base.specs.Standard.{standard_code}
-use Rattle.flop_base.specs.declared.answers.Rate.{Rate}
-use Rattle.flop_base.specs.declared.answers.Code.{Code}
-use Rattle.flop_base.specs.declared.answers.Code.TheVariants.{NoMark}
-use Rattle.raw_image.specs.Disk.{Disk}
-use Rattle.track_model.specs.Layouts.{Fits}
-use Rattle.sector_map.specs.MetTracks.{MeetsTrack}
-use Rattle.sector_map.specs.Layings.{Format, Laying, IsLaying, format_keys}
+use Rattle.test_driver.specs.Common.{Rate, Code, NoMark, Disk, Fits, MeetsTrack, Format, Laying, IsLaying, format_keys}
 
 -- the medium has the track under the head, at the rate
 abbrev pub HasTrackOn : Option Disk → Rate → ℕ → ℕ → Type 0

@@ -1,16 +1,8 @@
 -- A window that is put on a track, and what a write makes of a medium.
 use Rattle.std.specs.Prelude.{◌≡◌, ℕ, ◌+◌, ◌≤◌, Bool, List, length, Option, Some, Result, IsOk, IfErr, MatchBool, MatchOption, ◌⊎◌}
-use Rattle.flop_base.specs.declared.key.Chrn.{Chrn}
-use Rattle.flop_base.specs.declared.answers.Rate.{Rate}
-use Rattle.flop_base.specs.declared.answers.Code.{Code}
+use Rattle.test_driver.specs.Common.{Chrn, Rate, Code, Disk, IsWithTrack, track_of, IsAddressAt, HasAddressMark, met_in, Change, Written, window_of, IsChange, IsWriteCode, IsWriteReason}
 use Rattle.flop_base.specs.declared.answers.Code.TheVariants as code
-use Rattle.raw_image.specs.Disk.{Disk, IsWithTrack, track_of}
-use Rattle.track_model.specs.Fields.{IsAddressAt}
-use Rattle.track_model.specs.Looks.{HasAddressMark}
 use Rattle.track_model.specs.Windows.{window_word, window_words, cut_of, IsCuttable}
-use Rattle.sector_map.specs.Met.{met_in}
-use Rattle.sector_map.specs.Changes.{Change, Written, window_of, IsChange}
-use Rattle.floppy_driver.specs.Writing.{IsWriteCode, IsWriteReason}
 use Rattle.test_driver.specs.Found.{IsUnderHead}
 
 -- the medium has the first k of these words at the window's place of the address field at p

@@ -1,11 +1,6 @@
 -- Data commands that fail.
 use Rattle.std.specs.Prelude.{◌≡◌, ℕ}
-use Rattle.flop_base.specs.Counts.{RoseBy}
-use Rattle.flop_base.specs.declared.answers.Code.{Code}
-use Rattle.flop_base.specs.declared.answers.Code.TheVariants.{Overrun}
-use Rattle.flop_base.specs.Counters.{IsFaultless, IsUndisturbed, FaultsRoseBy}
-use Rattle.floppy_driver.specs.Rigs.{Rig}
-use Rattle.floppy_driver.specs.Reading.{SendsRead}
+use Rattle.test_driver.specs.Common.{RoseBy, Code, Overrun, IsFaultless, IsUndisturbed, FaultsRoseBy, Rig, SendsRead}
 
 -- a data command changed no memory, and nothing else except counters
 pub record Fails (old new : Rig) : Type 0 where

@@ -1,9 +1,6 @@
 -- What a bench shows of itself.
 use Rattle.std.specs.Prelude.{ℕ, ◌-◌, [], List, None}
-use Rattle.flop_base.specs.Bays.{Two}
-use Rattle.flop_base.specs.Counts.{last_count}
-use Rattle.flop_base.specs.Counters.{DriveCounts, Counters}
-use Rattle.floppy_driver.specs.Rigs.{Rig}
+use Rattle.test_driver.specs.Common.{Two, last_count, DriveCounts, Counters, Rig}
 use Rattle.test_driver.specs.declared.counts.BenchCounts.{BenchCounts}
 use Rattle.test_driver.specs.declared.drive.BenchDrive.{BenchDrive}
 use Rattle.test_driver.specs.declared.bench.Bench.{Bench}

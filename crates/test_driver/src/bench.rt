@@ -1,12 +1,7 @@
 // A bench: a machine in memory, and what is done to it.
 ghost use Rattle.std.specs.Prelude.{◌≡◌, ◌≤◌, ◌<◌, ◌^◌, ℕ, length, slice_index, IfOk};
-ghost use Rattle.flop_base.specs.declared.answers.Code.{Code};
-ghost use Rattle.flop_base.specs.Memory.{user_bytes};
-ghost use Rattle.floppy_driver.specs.Rigs.{IsSound};
-ghost use Rattle.floppy_driver.specs.Reading.{IsReadCode};
-ghost use Rattle.floppy_driver.specs.Writing.{IsWriteCode, IsFormatCode};
+ghost use Rattle.test_driver.specs.Common.{Code, user_bytes, IsSound, IsReadCode, IsWriteCode, IsFormatCode, IsAttached, CanSetUp};
 ghost use Rattle.floppy_driver.specs.declared.driver.Driver.{Driver};
-ghost use Rattle.floppy_driver.specs.Attached.{IsAttached, CanSetUp};
 ghost use Rattle.test_driver.specs.Sent.{HasFault, IsDisturbed};
 
 use crate::counts::BenchCounts;

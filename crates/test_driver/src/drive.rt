@@ -1,11 +1,7 @@
 // A drive of the bench, and the medium in it.
 ghost use Rattle.std.specs.Prelude.{◌≡◌, ◌+◌, ◌*◌, ◌-◌, ◌≤◌, ◌≢◌, ◌⊎◌, ◌↔◌, IsTrue, ℕ, true, false, length, IsSome, IfOk, IfErr, MatchOption};
 ghost use Rattle.std.specs.Option.{option_map_or, ForSome};
-ghost use Rattle.raw_image.specs.Disk.{IsDisk};
-ghost use Rattle.track_model.specs.Cells.{IsTrackSized, IsInside};
-ghost use Rattle.track_model.specs.Fields.{IsSizeCode, IsAddressAt, content_size, content_at};
-ghost use Rattle.sector_map.specs.Met.{met_in};
-ghost use Rattle.sector_map.specs.MetTracks.{HasNothing};
+ghost use Rattle.test_driver.specs.Common.{IsDisk, IsTrackSized, IsInside, IsSizeCode, IsAddressAt, content_size, content_at, met_in, HasNothing};
 
 use flop_base::{Chrn, Code, NoMemory, Rate};
 use raw_image::Medium;

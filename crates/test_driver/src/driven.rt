@@ -1,7 +1,6 @@
 // A driver on its bench: calls of the driver, and what the bench then shows.
 ghost use Rattle.std.specs.Prelude.{◌≤◌, ◌<◌};
-ghost use Rattle.flop_base.specs.Memory.{user_bytes};
-ghost use Rattle.floppy_driver.specs.Attached.{IsAttached};
+ghost use Rattle.test_driver.specs.Common.{user_bytes, IsAttached};
 ghost use Rattle.test_driver.specs.Shown.{rig_shown};
 
 use crate::bench::Bench;

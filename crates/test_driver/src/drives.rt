@@ -1,6 +1,6 @@
 // The two drives of a bench.
 ghost use Rattle.std.specs.Prelude.{◌≡◌};
-ghost use Rattle.flop_base.specs.Bays.{in_bay, with_bay};
+ghost use Rattle.test_driver.specs.Common.{in_bay, with_bay};
 
 use crate::drive::BenchDrive;
 use flop_base::Two;

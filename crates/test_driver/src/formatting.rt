@@ -1,9 +1,7 @@
 // Formats of a bench.
 ghost use Rattle.std.specs.Prelude.{◌≡◌, ◌+◌, ◌*◌, ◌≤◌, ◌↔◌, IsTrue, IsOk, IfErr, length, Option};
-ghost use Rattle.track_model.specs.Layouts.{lay, laid_words};
+ghost use Rattle.test_driver.specs.Common.{lay, laid_words, Laying, FormatsTrack};
 ghost use Rattle.sector_map.specs.Standard.{track_keys};
-ghost use Rattle.sector_map.specs.Layings.{Laying};
-ghost use Rattle.floppy_driver.specs.Writing.{FormatsTrack};
 ghost use Rattle.test_driver.specs.Laid.{HasTrackOn, FormatsOn};
 
 use crate::bench::Bench;

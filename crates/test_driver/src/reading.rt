@@ -1,8 +1,6 @@
 // Reads of a bench.
 ghost use Rattle.std.specs.Prelude.{◌≡◌, ◌≤◌, ◌+◌};
-ghost use Rattle.flop_base.specs.Memory.{user_bytes};
-ghost use Rattle.track_model.specs.Fields.{IsSizeCode, content_size};
-ghost use Rattle.floppy_driver.specs.Reading.{ReadsId, ReadsData, ReadsBack};
+ghost use Rattle.test_driver.specs.Common.{user_bytes, IsSizeCode, content_size, ReadsId, ReadsData, ReadsBack};
 
 use crate::bench::Bench;
 use crate::script::CommandTrouble;

@@ -1,11 +1,6 @@
 // Writes of a bench.
 ghost use Rattle.std.specs.Prelude.{◌≡◌, ◌+◌, ◌≤◌, length, Option, MatchResult};
-ghost use Rattle.raw_image.specs.Disk.{IsDisk, HasTrack, track_of};
-ghost use Rattle.track_model.specs.Fields.{IsAddressAt, IsSizeCode, content_size};
-ghost use Rattle.flop_base.specs.Memory.{user_bytes, bytes_from};
-ghost use Rattle.sector_map.specs.Met.{met_in};
-ghost use Rattle.sector_map.specs.Changes.{Change};
-ghost use Rattle.floppy_driver.specs.Writing.{WritesData};
+ghost use Rattle.test_driver.specs.Common.{IsDisk, HasTrack, track_of, IsAddressAt, IsSizeCode, content_size, user_bytes, bytes_from, met_in, Change, WritesData};
 ghost use Rattle.test_driver.specs.Put.{PutsWindow, HasFieldOn, IsAbsent, WritesOn};
 
 use crate::bench::Bench;

@@ -3,25 +3,14 @@ use Rattle.std.proofs.Common.{arith, ◌≡◌, ℕ, zero, suc, ◌+◌, ◌*◌
 use Rattle.std.proofs.lemmas.List.Sums.{sum_by-cons}
 use Rattle.std.specs.Prelude.{MatchOption, MatchBool, sum_by, map}
 use Rattle.std.specs.List.{range_with_len}
-use Rattle.flop_base.specs.Shelf.{Files}
+use Rattle.text_commands.proofs.Common.{Files, Request, Reply, is_bay, is_acknowledged, read_refusal, write_refusal, IsRefusedAtOnce, State, IsSame, Step, Does, refusal_of, Taken, Run, requests_of, run_more, requests_more, Kind, Read, Write, Verify, Work, Answer, Changed, Move, MovesRecords, All, UpToOne, MovesIn, AcksAlone, DoesWork, record_request, put_request}
 use Rattle.flop_base.specs.declared.key.Chrn.{Chrn}
 use Rattle.flop_base.specs.declared.answers.Code.{Code}
-use Rattle.floppy_jobs.specs.declared.request.Request.{Request}
 use Rattle.floppy_jobs.specs.declared.request.Request.TheVariants as request
-use Rattle.sector_model.specs.declared.reply.Reply.{Reply}
 use Rattle.sector_model.specs.Stations.{StationState}
-use Rattle.sector_model.specs.Orders.{is_bay, is_acknowledged, read_refusal, write_refusal, IsRefusedAtOnce}
 use Rattle.sector_model.specs.Reads.{ReadsDrive}
 use Rattle.sector_model.specs.Calls.{AcksDrive}
-use Rattle.sector_model.specs.States.{State, IsSame}
-use Rattle.sector_model.specs.Steps.{Step, Does, refusal_of}
-use Rattle.sector_model.specs.Runs.{Taken, Run, requests_of}
-use Rattle.sector_model.proofs.Runs.{run_more, requests_more}
-use Rattle.bios_int13.specs.declared.work.Kind.{Kind}
-use Rattle.bios_int13.specs.declared.work.Kind.TheVariants.{Read, Write, Verify}
-use Rattle.bios_int13.specs.declared.work.Work.{Work}
-use Rattle.bios_int13.specs.declared.work.Work.TheVariants.{Answer, Changed, Move}
-use Rattle.bios_int13.specs.Services.{MovesRecords, All, UpToOne, MovesIn, AcksAlone, DoesWork, record_request, record_requests, put_requests, put_request}
+use Rattle.bios_int13.specs.Services.{record_requests, put_requests}
 use Rattle.text_commands.specs.CallCounts.{commands_of, bytes_put, CountsCourse}
 
 either : {A : Type 0} {P R : Type 0} {Q : A → Type 0} (value : Option A) → MatchOption value P Q → (P → R) → ((x : A) → Q x → R) → R
@@ -97,15 +86,7 @@ does_counts old new told after (request.Fill address count byte) answer of does 
   put = does.2.access.accesses;
 }
 does_counts old new told after (request.Dump address count) answer of does = same_counts old new does.2
-does_counts old new told after (request.Insert bay name) answer of does = absurd of
-does_counts old new told after (request.Blank bay name cylinders) answer of does = absurd of
-does_counts old new told after (request.BlankDd bay name cylinders) answer of does = absurd of
-does_counts old new told after (request.Eject bay) answer of does = absurd of
-does_counts old new told after (request.WriteDeleted bay key address) answer of does = absurd of
-does_counts old new told after (request.Format bay c h) answer of does = absurd of
-does_counts old new told after (request.Unit bay) answer of does = absurd of
-does_counts old new told after (request.SetRate bay rate) answer of does = absurd of
-does_counts old new told after (request.Tries tries) answer of does = absurd of
+does_counts old new told after _ answer of does = absurd of
 
 more : (n m : ℕ) (old new : StationState) → Counts 0 0 old new → Counts n m old new
 more n m old new counts = record { tries = counts.tries; sent = omega (arith, counts.sent); put = omega (arith, counts.put) }
@@ -172,12 +153,11 @@ parts_of [] second = refl
 parts_of (taken ∷ later) second = ap (λ (r : List Request). taken.asked ∷ r) (parts_of later second)
 
 in_of : (kind : Kind) (address : ℕ) (asked : List Request) (old new : State) (told : Option Files) (course : List Taken) (code moved : ℕ) → AllOfCall asked → MovesIn kind address asked old told course code moved new → AllOfCall (requests_of course)
-in_of Read address asked old new told course code moved all p = moved_of asked old new told course code moved all p
-in_of Write address asked old new told course code moved all p = moved_of asked old new told course code moved all p
 in_of Verify address asked old new told course code moved all p =
     subst (λ (c : List Taken). AllOfCall (requests_of c)) (sym p.course_is)
     (subst AllOfCall (sym (parts_of p.reads p.puts))
     (joined (requests_of p.reads) (requests_of p.puts) (moved_of asked old p.mid told p.reads code moved all p.moves) (subst AllOfCall (sym p.puts_back.asked) (puts_of address _))))
+in_of _ address asked old new told course code moved all p = moved_of asked old new told course code moved all p
 
 goes_of : (b : Bool) (kind : Kind) (bay address : ℕ) (asked : List Request) (old new : State) (told : Option Files) (course : List Taken) (code moved : ℕ) → AllOfCall asked → MatchBool b (MovesIn kind address asked old told course code moved new) (AcksAlone bay old told course code moved new) → AllOfCall (requests_of course)
 goes_of true kind bay address asked old new told course code moved all goes = in_of kind address asked old new told course code moved all goes
@@ -207,9 +187,8 @@ records_run asked old new told course code moved (All done many fine) = done.run
 records_run asked old new told course code moved (UpToOne p) = at_course old new told told course _ p.course_is (run_more old p.mid told told told p.before _ p.done_well.run p.step)
 
 in_run : (kind : Kind) (address : ℕ) (asked : List Request) (old new : State) (told : Option Files) (course : List Taken) (code moved : ℕ) → MovesIn kind address asked old told course code moved new → Run old told course new told
-in_run Read address asked old new told course code moved moves = records_run asked old new told course code moved moves
-in_run Write address asked old new told course code moved moves = records_run asked old new told course code moved moves
 in_run Verify address asked old new told course code moved p = at_course old new told told course _ p.course_is (run_join old p.mid new told told told p.reads p.puts (records_run asked old p.mid told p.reads code moved p.moves) p.puts_back.run)
+in_run _ address asked old new told course code moved moves = records_run asked old new told course code moved moves
 
 goes_run : (b : Bool) (kind : Kind) (bay address : ℕ) (asked : List Request) (old new : State) (told : Option Files) (course : List Taken) (code moved : ℕ) → MatchBool b (MovesIn kind address asked old told course code moved new) (AcksAlone bay old told course code moved new) → Run old told course new told
 goes_run true kind bay address asked old new told course code moved goes = in_run kind address asked old new told course code moved goes

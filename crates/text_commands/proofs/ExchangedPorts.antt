@@ -1,14 +1,8 @@
 -- How a line that exchanges media, or the end of a run, stops.
 use Rattle.std.proofs.Common.{rules, ◌≡◌, ℕ, ◌≤◌, List, Option, None, Result, Ok, Err, false, ap, sym, arith}
-use Rattle.flop_base.specs.Shelf.{Files}
+use Rattle.text_commands.proofs.Common.{Files, Board, StopCause, Stop, Bench, Names, is_loaded, EndsBay, BayGoes, EndGoes, AtSecond, StopsAt, insert_refusal}
 use Rattle.floppy_jobs.specs.declared.request.Request.TheVariants as request
 use Rattle.floppy_jobs.specs.declared.ports.PortLine.TheVariants as line
-use Rattle.pc_bus.specs.Boards.{Board}
-use Rattle.sector_model.specs.Steps.{StopCause}
-use Rattle.sector_model.specs.declared.reply.Stop.{Stop}
-use Rattle.text_commands.specs.Benches.{Bench, Names, is_loaded}
-use Rattle.text_commands.specs.PortCourses.{EndsBay, BayGoes, EndGoes, AtSecond}
-use Rattle.text_commands.specs.PortLines.{StopsAt, insert_refusal}
 
 free_bay : (names : Names) (bay : ℕ) → bay ≤ 1 → is_loaded names bay ≡ false → insert_refusal names bay ≡ None
 free_bay names bay low empty = grind (arith, rules)

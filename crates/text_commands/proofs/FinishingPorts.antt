@@ -1,8 +1,7 @@
 -- Every line is a course of the machine, and what runs at its beginning finishes in time.
 use Rattle.std.proofs.Common.{◌≡◌, ℕ, ◌+◌, ◌≤◌, List, [], ◌∷◌, Option, Some, None, sym, subst, arith}
-use Rattle.std.specs.Option.{MatchOption}
+use Rattle.text_commands.proofs.Common.{MatchOption, PortLine, Board, IsInRange, Touches, irq_taken, Reason, LineAnswer, Bench, PortRun, waits_of, DoesLine, LoadsMedium, StoresMedium, IsRefused, insert_refusal, eject_refusal, waits_in}
 use Rattle.flop_base.specs.Counts.{RoseBy}
-use Rattle.floppy_jobs.specs.declared.ports.PortLine.{PortLine}
 use Rattle.floppy_jobs.specs.declared.ports.PortLine.TheVariants as line
 use Rattle.irq_events.specs.Entries.{next_entry}
 use Rattle.laws_machine.specs.OnSteps.Moves.{Acts, Goes}
@@ -10,15 +9,9 @@ use Rattle.laws_machine.proofs.OnSteps.Counted.{goes_counted}
 use Rattle.laws_machine.proofs.OnSteps.DataEnds.{data_over}
 use Rattle.laws_machine.proofs.OnSteps.Moves.{input_goes, output_goes, wait_goes, goes_on}
 use Rattle.laws_machine.proofs.OnSteps.SeekEnds.{seek_ends_in_time}
-use Rattle.pc_bus.specs.Boards.{Board, IsInRange}
-use Rattle.pc_bus.specs.Handling.{Touches, irq_taken}
-use Rattle.sector_model.specs.declared.reply.Reason.{Reason}
-use Rattle.text_commands.specs.declared.ports.answer.LineAnswer.{LineAnswer}
 use Rattle.text_commands.specs.declared.ports.answer.LineAnswer.TheVariants as answer
-use Rattle.text_commands.specs.Benches.{Bench}
-use Rattle.text_commands.specs.PortCourses.{Taken, PortRun, waits_of}
+use Rattle.text_commands.specs.PortCourses.{Taken}
 use Rattle.text_commands.specs.PortFinishes.{FinishesIn, EndInTime}
-use Rattle.text_commands.specs.PortLines.{DoesLine, LoadsMedium, StoresMedium, IsRefused, insert_refusal, eject_refusal, waits_in}
 
 -- ---- lines as courses
 

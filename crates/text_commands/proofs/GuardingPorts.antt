@@ -1,31 +1,15 @@
 -- Protected media over lines, and what holds of every run, however far it came.
 use Rattle.std.proofs.Common.{◌≡◌, ℕ, zero, suc, ◌-◌, ◌≤◌, ◌==◌, nat_le, not, Bool, true, false, List, [], ◌∷◌, Option, Some, None, Result, Ok, Err, if◌then◌else◌, refl, sym, ap, subst, arith}
-use Rattle.std.specs.Option.{MatchOption}
+use Rattle.text_commands.proofs.Common.{MatchOption, Files, Status, ports_of, PortLine, Steady, inputs, outputs, wait, guarding, Board, IsInRange, drive_in, Touches, Inputs, Outputs, stirred, Reason, Stop, LineAnswer, Bench, Names, no_names, PortRun, waits_of, EndsBay, Stored, Left, EndStopsAt, AtFirst, AtSecond, SameMedia, GuardsBay, GuardsLine, GuardsCourse, RunsPorts, DoesLine, StopsAt, LoadsMedium, StoresMedium, IsRefused, insert_refusal, eject_refusal, PlaysLines, Stopped, BrokenOff, IsIdle, PlaysParsed, Plays}
 use Rattle.std.proofs.lemmas.Bool.{false≢true}
 use Rattle.std.proofs.lemmas.Bool.Decides.{nat_tests}
-use Rattle.flop_base.specs.Shelf.{Files}
-use Rattle.flop_base.specs.declared.answers.Status.{Status}
 use Rattle.flop_base.specs.declared.answers.Status.TheVariants as status
 use Rattle.drive_model.specs.Drive.{DriveState, is_protected}
-use Rattle.floppy_jobs.specs.Texts.{ports_of}
-use Rattle.floppy_jobs.specs.declared.ports.PortLine.{PortLine}
 use Rattle.floppy_jobs.specs.declared.ports.PortLine.TheVariants as line
-use Rattle.laws_machine.specs.OnSteps.Steady.{Steady}
-use Rattle.laws_machine.proofs.OnSteps.Runs.{inputs, outputs, wait}
-use Rattle.laws_machine.proofs.OnWrites.Guards.{guarding}
-use Rattle.pc_bus.specs.Boards.{Board, IsInRange, drive_in}
-use Rattle.pc_bus.specs.Handling.{Touches}
-use Rattle.pc_bus.specs.Ports.{Inputs, Outputs}
-use Rattle.pc_bus.specs.Steps.{Runs, stirred}
-use Rattle.sector_model.specs.declared.reply.Reason.{Reason}
-use Rattle.sector_model.specs.declared.reply.Stop.{Stop}
-use Rattle.text_commands.specs.declared.ports.answer.LineAnswer.{LineAnswer}
+use Rattle.pc_bus.specs.Steps.{Runs}
 use Rattle.text_commands.specs.declared.ports.answer.LineAnswer.TheVariants as answer
-use Rattle.text_commands.specs.Benches.{Bench, Names, no_names}
-use Rattle.text_commands.specs.PortCourses.{Taken, PortRun, waits_of, EndsBay, Stored, Left, EndStopsAt, AtFirst, AtSecond}
-use Rattle.text_commands.specs.PortGuards.{SameMedia, GuardsBay, GuardsLine, GuardsCourse, RunsPorts}
-use Rattle.text_commands.specs.PortLines.{DoesLine, StopsAt, LoadsMedium, StoresMedium, IsRefused, insert_refusal, eject_refusal}
-use Rattle.text_commands.specs.PortPlays.{World, PlaysLines, Played, Stopped, BrokenOff, EndStopped, IsIdle, PlaysParsed, Plays, There, Missing, TooLong, Faulty, Starved}
+use Rattle.text_commands.specs.PortCourses.{Taken}
+use Rattle.text_commands.specs.PortPlays.{World, Played, EndStopped, There, Missing, TooLong, Faulty, Starved}
 use Rattle.text_commands.proofs.FinishingPorts.{Passes, course_passes, ends_in_time, handles, passes_on, passes_rise, stays}
 use Rattle.text_commands.proofs.NamedPorts.{write_same}
 use Rattle.text_commands.proofs.PortRounds.{run_more, world_with}
@@ -58,13 +42,12 @@ wait_guards n old new runs bay covered = wait (KeepsBay bay old) (kept bay old c
 
 -- the bay that isn't touched is the other one
 other_same : (touched bay : ℕ) (old new : Board) → touched ≤ 1 → bay ≤ 1 → not (touched == bay) ≡ true → drive_in new (1 - touched) ≡ drive_in old (1 - touched) → drive_in new bay ≡ drive_in old bay
-other_same zero zero old new low within differs same = absurd (false≢true differs)
 other_same zero (suc zero) old new low within differs same = same
 other_same zero (suc (suc n)) old new low within differs same = absurd (omega (arith, within))
 other_same (suc zero) zero old new low within differs same = same
-other_same (suc zero) (suc zero) old new low within differs same = absurd (false≢true differs)
 other_same (suc zero) (suc (suc n)) old new low within differs same = absurd (omega (arith, within))
 other_same (suc (suc n)) bay old new low within differs same = absurd (omega (arith, low))
+other_same _ _ old new low within differs same = absurd (false≢true differs)
 
 bay_low : (bay : ℕ) → nat_le bay 1 ≡ true → bay ≤ 1
 bay_low bay is = grind (arith, nat_tests)
@@ -125,10 +108,7 @@ end_stops_behind old new (AtSecond mid first drops) = on old mid new (ends_behin
 stops_behind : (old new : Bench) (asked : PortLine) (cause : Stop) → StopsAt asked old cause new → Passes 0 old.board new.board
 stops_behind old new (line.Insert bay name) cause (free, because, same) = stays old new same
 stops_behind old new (line.Eject bay) cause (free, only, drops) = handles bay old.board new.board drops.takes.touches
-stops_behind old new (line.In port) cause stops = absurd stops
-stops_behind old new (line.Out port value) cause stops = absurd stops
-stops_behind old new (line.Wait steps) cause stops = absurd stops
-stops_behind old new line.Irq cause stops = absurd stops
+stops_behind old new _ cause stops = absurd stops
 
 lines_reach : (old new : World) (asked_for : List PortLine) (course : List Taken) (ended : Status) → PlaysLines asked_for old course new ended → Reaches old.bench course new.bench
 lines_reach old new asked_for course ended (Played played) = record {

@@ -1,37 +1,15 @@
 -- Requests that were run, and whose answers were printed, one after the other.
 use Rattle.std.proofs.Common.{◌≡◌, ℕ, ◌+◌, ◌<◌, ◌≤◌, suc, Bool, false, List, [], ◌∷◌, ◌++◌, length, take, drop, get_or, refl, ap, ◌∙◌, sym, subst, drop-cons, Option, Some, None}
 use Rattle.std.specs.Prelude.{◌||◌}
-use Rattle.std.proofs.lemmas.List.{take-append-drop, take_more}
+use Rattle.text_commands.proofs.Common.{take-append-drop, take_more, Files, grown, GrowsByPart, Status, Global, Loads, LoadError, ReadsText, parsed_of, JobError, Request, IsRequest, HasTries, Reply, State, Step, reply_lines, stop_lines, stop_status, bad_line_text, is_refusal, Taken, course_lines, has_refusal, World, PlaysRequests, Played, Prints, Tells, IsText, whole_status, world, HasRun, HasPlayed, PlaysOrStarves, EndsAs, InWhole, AtStore, run_more, requests_more, text_more, refusal_more, MissesText, AsksOne, PutsLines, LoadsText, grown-twice, grown-nothing}
 use Rattle.flop_base.specs.declared.answers.Status.TheVariants as status
-use Rattle.flop_base.specs.Shelf.{Files}
-use Rattle.flop_base.specs.Sink.{grown, GrowsByPart}
-use Rattle.flop_base.specs.declared.answers.Status.{Status}
 use Rattle.std.specs.Prelude.{Vec, IfSome, IsSomeAnd, Result, Ok, Err}
-use Rattle.std.specs.declared.alloc.Global.{Global}
-use Rattle.flop_base.specs.Shelf.{Loads}
-use Rattle.flop_base.specs.declared.answers.LoadError.{LoadError}
 use Rattle.flop_base.specs.declared.answers.LoadError.TheVariants as load
-use Rattle.floppy_jobs.specs.LinesRead.{ReadsText}
-use Rattle.floppy_jobs.specs.Texts.{job_of as parsed_of}
-use Rattle.floppy_jobs.specs.declared.lines.JobError.{JobError}
 use Rattle.floppy_jobs.specs.declared.lines.JobError.TheVariants as lines
-use Rattle.floppy_jobs.specs.declared.request.Request.{Request}
 use Rattle.floppy_jobs.specs.declared.request.Request.TheVariants as request
-use Rattle.floppy_jobs.specs.Valid.{IsRequest}
-use Rattle.floppy_session.specs.Tries.{HasTries}
-use Rattle.sector_model.specs.declared.reply.Reply.{Reply}
-use Rattle.sector_model.specs.States.{State}
-use Rattle.sector_model.specs.Steps.{Step}
-use Rattle.sector_model.specs.Texts.{reply_lines, stop_lines, stop_status, bad_line_text, is_refusal}
-use Rattle.sector_model.specs.Runs.{Taken, course_lines, has_refusal}
-use Rattle.sector_model.specs.Plays.{World, PlaysRequests, PlaysParsed, Played, Stopped, BrokenOff, EndStopped, Prints, Tells, IsText, Plays, There, Missing, TooLong, Faulty, Starved, whole_status}
-use Rattle.text_commands.specs.JobRounds.{world, IsRound, HasRun, HasPlayed, Breaks, AtStop, AtPut, PlaysOrStarves, AsParsed, Starving}
-use Rattle.text_commands.specs.Ending.{EndsAs, InWhole, AtStore}
-use Rattle.sector_model.proofs.Runs.{run_more, requests_more, text_more, refusal_more}
+use Rattle.sector_model.specs.Plays.{PlaysParsed, Stopped, BrokenOff, EndStopped, Plays, There, Missing, TooLong, Faulty, Starved}
+use Rattle.text_commands.specs.JobRounds.{IsRound, Breaks, AtStop, AtPut, AsParsed, Starving}
 use Rattle.flop_base.specs.declared.answers.NoMemory.{NoMemory}
-use Rattle.commands.specs.Texts.{MissesText}
-use Rattle.commands.specs.Leading.{AsksOne, PutsLines, LoadsText}
-use Rattle.commands.proofs.DumpLines.{grown-twice, grown-nothing}
 
 -- ---- One request.
 
@@ -155,19 +133,7 @@ run-ends old mid new requests refused ended so_far report (AtStore cause only st
 -- a parser gives a number of attempts from 1 to 10
 has_tries : (asked : Request) → IsRequest asked → HasTries asked
 has_tries (request.Tries tries) valid = valid
-has_tries (request.Insert bay name) valid = tt
-has_tries (request.Blank bay name cylinders) valid = tt
-has_tries (request.BlankDd bay name cylinders) valid = tt
-has_tries (request.Eject bay) valid = tt
-has_tries (request.Ack bay) valid = tt
-has_tries (request.Read bay key address) valid = tt
-has_tries (request.Write bay key address) valid = tt
-has_tries (request.WriteDeleted bay key address) valid = tt
-has_tries (request.Format bay c h) valid = tt
-has_tries (request.Fill address length byte) valid = tt
-has_tries (request.Dump address length) valid = tt
-has_tries (request.Unit bay) valid = tt
-has_tries (request.SetRate bay rate) valid = tt
+has_tries _ valid = tt
 
 -- how a text is played that spells requests
 pub parsed_plays : (old new : World) (text : List ℕ) (given requests : List Request) (ended : Status) → parsed_of text ≡ Ok requests → given ≡ requests → HasPlayed given old new ended → PlaysOrStarves text old new ended

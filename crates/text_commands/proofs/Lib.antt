@@ -1,3 +1,4 @@
+mod Common
 mod CallCounting
 pub mod ParsedCalls
 pub mod RanCalls

@@ -1,16 +1,10 @@
 -- A bay has a name as long as it has a medium.
 use Rattle.std.proofs.Common.{◌≡◌, ℕ, Option, is_some, sym, ap, ◌∙◌, inl, inr}
 use Rattle.raw_image.specs.Disk.{Disk}
-use Rattle.laws_machine.specs.OnSteps.Steady.{Steady}
+use Rattle.text_commands.proofs.Common.{Steady, inputs, outputs, wait, step_guards, Board, WritesPort, Inputs, Outputs, stirred, Names, AreNamed, SameMedia}
 use Rattle.laws_machine.specs.OnWrites.Guards.{IsGuarded}
-use Rattle.laws_machine.proofs.OnSteps.Runs.{inputs, outputs, wait}
-use Rattle.laws_machine.proofs.OnWrites.Guards.{step_guards}
-use Rattle.pc_bus.specs.Boards.{Board}
-use Rattle.pc_bus.specs.Ports.{WritesPort, Inputs, Outputs}
-use Rattle.pc_bus.specs.Steps.{Runs, stirred}
+use Rattle.pc_bus.specs.Steps.{Runs}
 use Rattle.fdc_core.proofs.drives.FollowedWrites.{write_leaves}
-use Rattle.text_commands.specs.Benches.{Names, AreNamed}
-use Rattle.text_commands.specs.PortGuards.{SameMedia}
 
 -- a write of a port leaves the media
 pub write_same : (port value : ℕ) (old between : Board) → WritesPort port value old between → SameMedia old between

@@ -6,30 +6,14 @@ use Rattle.floppy_jobs.specs.Numbers.{register_of}
 use Rattle.floppy_jobs.specs.Requests.{request_of}
 use Rattle.floppy_jobs.specs.Calls.{call_of, is_shared_verb, call_line_of}
 use Rattle.floppy_jobs.specs.Texts.{calls_of}
-use Rattle.floppy_jobs.specs.Valid.{IsRequest}
-use Rattle.floppy_jobs.specs.declared.calls.CallLine.{CallLine}
+use Rattle.text_commands.proofs.Common.{IsRequest, CallLine, Request, HasTries, LineHasTries}
 use Rattle.floppy_jobs.specs.declared.calls.CallLine.TheVariants as call
-use Rattle.floppy_jobs.specs.declared.request.Request.{Request}
 use Rattle.floppy_jobs.specs.declared.request.Request.TheVariants as request
 use Rattle.floppy_jobs.proofs.ValidLemmas.{request-valid, text-valid}
-use Rattle.floppy_session.specs.Tries.{HasTries}
-use Rattle.text_commands.specs.CallLines.{LineHasTries}
 
 has_tries : (asked : Request) → IsRequest asked → HasTries asked
 has_tries (request.Tries tries) valid = valid
-has_tries (request.Insert bay name) valid = tt
-has_tries (request.Blank bay name cylinders) valid = tt
-has_tries (request.BlankDd bay name cylinders) valid = tt
-has_tries (request.Eject bay) valid = tt
-has_tries (request.Ack bay) valid = tt
-has_tries (request.Read bay key address) valid = tt
-has_tries (request.Write bay key address) valid = tt
-has_tries (request.WriteDeleted bay key address) valid = tt
-has_tries (request.Format bay c h) valid = tt
-has_tries (request.Fill address length byte) valid = tt
-has_tries (request.Dump address length) valid = tt
-has_tries (request.Unit bay) valid = tt
-has_tries (request.SetRate bay rate) valid = tt
+has_tries _ valid = tt
 
 bound : {A B : Type 0} (P : B → Type 0) (o : Option A) (f : A → Option B) → ((x : A) (y : B) → f x ≡ Some y → P y) → (y : B) → option_and_then f o ≡ Some y → P y
 bound P None f g y h = cc

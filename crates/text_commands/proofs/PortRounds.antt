@@ -1,28 +1,13 @@
 -- Lines that were done, and whose answers were printed, one after the other.
 use Rattle.std.proofs.Common.{◌≡◌, ℕ, ◌+◌, ◌<◌, ◌≤◌, suc, Bool, true, false, List, [], ◌∷◌, ◌++◌, length, take, drop, get_or, refl, ap, ◌∙◌, sym, subst, drop-cons, append-nil, append_assoc, Option, Some, None}
 use Rattle.std.specs.Prelude.{◌||◌, Vec, IfSome, IsSomeAnd, Result, Ok, Err}
-use Rattle.std.specs.declared.alloc.Global.{Global}
-use Rattle.std.proofs.lemmas.List.{take-append-drop, take_more}
-use Rattle.flop_base.specs.Shelf.{Files, Loads}
-use Rattle.flop_base.specs.Sink.{grown, GrowsByPart}
-use Rattle.flop_base.specs.declared.answers.LoadError.{LoadError}
+use Rattle.text_commands.proofs.Common.{Global, take-append-drop, take_more, Files, Loads, grown, GrowsByPart, LoadError, Status, ReadsText, ports_of, JobError, PortLine, grown-twice, grown-nothing, stop_lines, stop_status, bad_line_text, Prints, IsText, whole_status, Board, MissesText, Bench, Names, PortRun, DoesLine, PlaysLines, Stopped, BrokenOff, PlaysParsed, Plays}
 use Rattle.flop_base.specs.declared.answers.LoadError.TheVariants as load
-use Rattle.flop_base.specs.declared.answers.Status.{Status}
 use Rattle.flop_base.specs.declared.answers.Status.TheVariants as status
-use Rattle.floppy_jobs.specs.LinesRead.{ReadsText}
-use Rattle.floppy_jobs.specs.Texts.{ports_of}
-use Rattle.floppy_jobs.specs.declared.lines.JobError.{JobError}
 use Rattle.floppy_jobs.specs.declared.lines.JobError.TheVariants as lines
-use Rattle.floppy_jobs.specs.declared.ports.PortLine.{PortLine}
-use Rattle.commands.proofs.DumpLines.{grown-twice, grown-nothing}
-use Rattle.sector_model.specs.Texts.{stop_lines, stop_status, bad_line_text}
-use Rattle.sector_model.specs.Plays.{Prints, IsText, whole_status}
-use Rattle.pc_bus.specs.Boards.{Board}
-use Rattle.commands.specs.Texts.{MissesText}
-use Rattle.text_commands.specs.Benches.{Bench, Names}
-use Rattle.text_commands.specs.PortCourses.{Taken, PortRun, lines_of, course_lines, has_refusal}
-use Rattle.text_commands.specs.PortLines.{DoesLine, is_refusal}
-use Rattle.text_commands.specs.PortPlays.{World, IsRound, Breaks, AtStop, AtPut, HasRun, HasPlayed, PlaysLines, Played, Stopped, BrokenOff, EndStopped, EndsAs, InWhole, AtStore, Tells, PlaysParsed, PlaysOrStarves, AsParsed, Starving, Plays, There, Missing, TooLong, Faulty, Starved}
+use Rattle.text_commands.specs.PortCourses.{Taken, lines_of, course_lines, has_refusal}
+use Rattle.text_commands.specs.PortLines.{is_refusal}
+use Rattle.text_commands.specs.PortPlays.{World, IsRound, Breaks, AtStop, AtPut, HasRun, HasPlayed, Played, EndStopped, EndsAs, InWhole, AtStore, Tells, PlaysOrStarves, AsParsed, Starving, There, Missing, TooLong, Faulty, Starved}
 use Rattle.text_commands.specs.PortTexts.{answer_lines}
 
 -- ---- one line more at the end of a course

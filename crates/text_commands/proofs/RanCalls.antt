@@ -1,28 +1,11 @@
 -- The requests that calls run are a run, and have its counts.
 use Rattle.std.proofs.Common.{◌≡◌, ℕ, Bool, true, false, List, [], ◌∷◌, ◌++◌, refl, sym, subst, append-nil, Option, None, Result, Ok, Err}
 use Rattle.std.specs.Prelude.{MatchBool}
-use Rattle.flop_base.specs.Shelf.{Files}
-use Rattle.flop_base.specs.declared.answers.Status.{Status}
-use Rattle.floppy_jobs.specs.Texts.{calls_of}
-use Rattle.floppy_jobs.specs.declared.calls.CallLine.{CallLine}
+use Rattle.text_commands.proofs.Common.{Files, Status, calls_of, CallLine, Request, State, is_acknowledged, Taken, Run, requests_of, has_refusal, World, Played, PlayEndStopped, whole_status, stop_status, run_more, Kind, Verify, Work, Answer, Changed, Move, MovesRecords, All, UpToOne, MovesIn, AcksAlone, DoesWork, Runs, Round, AreRounds, course_of, Breaks, AtStop, AtPut, ServesLines, Through, Broken, EndStopped, ServesParsed, ServesCalls, There, Missing, TooLong, Faulty, Starved}
 use Rattle.floppy_jobs.specs.declared.calls.CallLine.TheVariants as call
-use Rattle.floppy_jobs.specs.declared.request.Request.{Request}
-use Rattle.sector_model.specs.States.{State}
-use Rattle.sector_model.specs.Orders.{is_acknowledged}
-use Rattle.sector_model.specs.Runs.{Taken, Run, requests_of, has_refusal}
-use Rattle.sector_model.specs.Plays.{World, Played, EndStopped as PlayEndStopped, whole_status}
-use Rattle.sector_model.specs.Texts.{stop_status}
 use Rattle.sector_model.specs.Ties.{TiesCounts}
-use Rattle.sector_model.proofs.Runs.{run_more}
 use Rattle.sector_model.proofs.PlayTies.{requests_tied, ran_ties, stopped_ties, alone_ties}
-use Rattle.bios_int13.specs.declared.work.Kind.{Kind}
-use Rattle.bios_int13.specs.declared.work.Kind.TheVariants.{Read, Write, Verify}
-use Rattle.bios_int13.specs.declared.work.Work.{Work}
-use Rattle.bios_int13.specs.declared.work.Work.TheVariants.{Answer, Changed, Move}
-use Rattle.bios_int13.specs.Services.{MovesRecords, All, UpToOne, MovesIn, AcksAlone, DoesWork}
-use Rattle.commands.specs.Leading.{Runs}
-use Rattle.text_commands.specs.CallRounds.{Round, DoesLine, AreRounds, course_of, Breaks, AtStop, AtPut}
-use Rattle.text_commands.specs.CallCourses.{ServesLines, Through, Broken, EndStopped, ServesParsed, ServesCalls, There, Missing, TooLong, Faulty, Starved}
+use Rattle.text_commands.specs.CallRounds.{DoesLine}
 
 -- two runs, one after the other, are one
 run_join : (old mid new : State) (told mid_told after : Option Files) (first second : List Taken) → Run old told first mid mid_told → Run mid mid_told second new after → Run old told (first ++ second) new after
@@ -39,9 +22,8 @@ records_run asked old new told course code moved (All done many fine) = done.run
 records_run asked old new told course code moved (UpToOne p) = at_course old new told told course _ p.course_is (run_more old p.mid told told told p.before _ p.done_well.run p.step)
 
 in_run : (kind : Kind) (address : ℕ) (asked : List Request) (old new : State) (told : Option Files) (course : List Taken) (code moved : ℕ) → MovesIn kind address asked old told course code moved new → Run old told course new told
-in_run Read address asked old new told course code moved moves = records_run asked old new told course code moved moves
-in_run Write address asked old new told course code moved moves = records_run asked old new told course code moved moves
 in_run Verify address asked old new told course code moved p = at_course old new told told course _ p.course_is (run_join old p.mid new told told told p.reads p.puts (records_run asked old p.mid told p.reads code moved p.moves) p.puts_back.run)
+in_run _ address asked old new told course code moved moves = records_run asked old new told course code moved moves
 
 goes_run : (b : Bool) (kind : Kind) (bay address : ℕ) (asked : List Request) (old new : State) (told : Option Files) (course : List Taken) (code moved : ℕ) → MatchBool b (MovesIn kind address asked old told course code moved new) (AcksAlone bay old told course code moved new) → Run old told course new told
 goes_run true kind bay address asked old new told course code moved goes = in_run kind address asked old new told course code moved goes

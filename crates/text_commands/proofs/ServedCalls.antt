@@ -1,39 +1,14 @@
 -- Lines that were served, and whose answers were printed, one after the other.
 use Rattle.std.proofs.Common.{◌≡◌, ℕ, ◌+◌, ◌<◌, ◌≤◌, suc, Bool, true, false, List, [], ◌∷◌, ◌++◌, length, take, drop, get_or, refl, ap, ◌∙◌, sym, subst, drop-cons, append-nil, append_assoc, Option, Some, None}
 use Rattle.std.specs.Prelude.{◌||◌, Vec, IfSome, IsSomeAnd, Result, Ok, Err}
-use Rattle.std.specs.declared.alloc.Global.{Global}
-use Rattle.std.proofs.lemmas.List.{take-append-drop, take_more}
-use Rattle.flop_base.specs.Shelf.{Files, Loads}
-use Rattle.flop_base.specs.Sink.{grown, GrowsByPart}
-use Rattle.flop_base.specs.declared.answers.Status.{Status}
+use Rattle.text_commands.proofs.Common.{Global, take-append-drop, take_more, Files, Loads, grown, GrowsByPart, Status, LoadError, ReadsText, calls_of, JobError, CallLine, Request, Reply, Stop, State, Step, reply_lines, stop_lines, stop_status, is_refusal, bad_line_text, Taken, World, Prints, Tells, IsText, IsPutFault, whole_status, grown-twice, grown-nothing, Serves, MissesText, PutsLines, LoadsText, RoundGoes, AtRequest, AtAnswer, call_text, Round, AreRounds, lines_of, course_of, rounds_lines, has_refused, IsRound, Breaks, AtStop, AtPut, Through, Broken, EndStopped, ServesLines, ServesParsed, ServesCalls, There, Missing, TooLong, Faulty, Starved, IsCallOf, LineGoes, HasServed, HasBroken, Serving, ServesOrStarves, AsParsed, Starving, EndsAs, InWhole, AtStore}
 use Rattle.flop_base.specs.declared.answers.Status.TheVariants as status
-use Rattle.flop_base.specs.declared.answers.LoadError.{LoadError}
 use Rattle.flop_base.specs.declared.answers.LoadError.TheVariants as load
-use Rattle.floppy_jobs.specs.LinesRead.{ReadsText}
-use Rattle.floppy_jobs.specs.Texts.{calls_of}
-use Rattle.floppy_jobs.specs.declared.lines.JobError.{JobError}
 use Rattle.floppy_jobs.specs.declared.lines.JobError.TheVariants as error
-use Rattle.floppy_jobs.specs.declared.calls.CallLine.{CallLine}
 use Rattle.floppy_jobs.specs.declared.calls.CallLine.TheVariants as call
-use Rattle.floppy_jobs.specs.declared.request.Request.{Request}
-use Rattle.sector_model.specs.declared.reply.Reply.{Reply}
-use Rattle.sector_model.specs.declared.reply.Stop.{Stop}
-use Rattle.sector_model.specs.States.{State}
-use Rattle.sector_model.specs.Steps.{Step, StopsAt}
-use Rattle.sector_model.specs.Texts.{reply_lines, stop_lines, stop_status, is_refusal, bad_line_text}
-use Rattle.sector_model.specs.Runs.{Taken}
-use Rattle.sector_model.specs.Plays.{World, Prints, Tells, IsText, IsPutFault, whole_status}
-use Rattle.commands.proofs.DumpLines.{grown-twice, grown-nothing}
+use Rattle.sector_model.specs.Steps.{StopsAt}
 use Rattle.bios_int13.specs.declared.regs.Regs.{Regs}
-use Rattle.bios_int13.specs.Services.{Serves}
-use Rattle.commands.specs.Texts.{MissesText}
-use Rattle.commands.specs.Leading.{PutsLines, LoadsText}
-use Rattle.text_commands.specs.JobRounds.{RoundGoes, AtStop as AtRequest, AtPut as AtAnswer}
-use Rattle.text_commands.specs.CallTexts.{call_text}
-use Rattle.text_commands.specs.CallRounds.{Round, DoesLine, AreRounds, lines_of, course_of, rounds_lines, has_refused, IsRound, Breaks, AtStop, AtPut}
-use Rattle.text_commands.specs.CallCourses.{Through, Broken, EndStopped, ServesLines, ServesParsed, ServesCalls, There, Missing, TooLong, Faulty, Starved}
-use Rattle.text_commands.specs.CallLines.{IsCallOf, LineGoes, HasServed, HasBroken, Serving, ServesOrStarves, AsParsed, Starving}
-use Rattle.text_commands.specs.Ending.{EndsAs, InWhole, AtStore}
+use Rattle.text_commands.specs.CallRounds.{DoesLine}
 
 -- ---- One line.
 

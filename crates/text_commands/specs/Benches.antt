@@ -1,10 +1,6 @@
 -- A machine on a bench, with no driver: its board, the name of the file that each medium came from, and the files.
 use Rattle.std.specs.Prelude.{◌≡◌, ℕ, Bool, List, Option, None, is_some}
-use Rattle.flop_base.specs.Bays.{Two, in_bay}
-use Rattle.flop_base.specs.Shelf.{Files}
-use Rattle.drive_model.specs.Drive.{DriveState}
-use Rattle.pc_bus.specs.Boards.{Board, board}
-use Rattle.pc_bus.specs.declared.machine.MachineOf.{MachineOf}
+use Rattle.text_commands.specs.Common.{Two, in_bay, Files, DriveState, Board, board, MachineOf}
 
 -- the names of the media that are in, one for each bay
 abbrev pub Names : Type 0

@@ -1,9 +1,8 @@
 -- What the requests of a call count.
 use Rattle.std.specs.Prelude.{ℕ, ◌+◌, ◌*◌, ◌≤◌, List, sum_by}
-use Rattle.floppy_jobs.specs.declared.request.Request.{Request}
+use Rattle.text_commands.specs.Common.{Request, Taken, requests_of}
 use Rattle.floppy_jobs.specs.declared.request.Request.TheVariants as request
 use Rattle.sector_model.specs.Stations.{StationState}
-use Rattle.sector_model.specs.Runs.{Taken, requests_of}
 
 -- the most data commands of a request that a call runs, with so many attempts
 abbrev pub commands_of : ℕ → Request → ℕ

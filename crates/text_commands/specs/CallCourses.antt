@@ -1,14 +1,7 @@
 -- How a text of calls is served, up to its end or to what stops it, with the status of the run.
 use Rattle.std.specs.Prelude.{◌≡◌, ℕ, List, [], ◌∷◌, ◌++◌, Result, Ok, Err}
-use Rattle.flop_base.specs.declared.answers.Status.{Status}
+use Rattle.text_commands.specs.Common.{Status, calls_of, CallLine, Stop, IsAbsent, IsLonger, stop_status, bad_line_text, absent_text, Taken, Ends, EndStopsAt, IsEndStop, World, TellsAlone, IsIdle, IsText, most_job_bytes, whole_status}
 use Rattle.flop_base.specs.declared.answers.Status.TheVariants as status
-use Rattle.floppy_jobs.specs.Texts.{calls_of}
-use Rattle.floppy_jobs.specs.declared.calls.CallLine.{CallLine}
-use Rattle.sector_model.specs.declared.reply.Stop.{Stop}
-use Rattle.sector_model.specs.Steps.{IsAbsent, IsLonger}
-use Rattle.sector_model.specs.Texts.{stop_status, bad_line_text, absent_text}
-use Rattle.sector_model.specs.Runs.{Taken, Ends, EndStopsAt, IsEndStop}
-use Rattle.sector_model.specs.Plays.{World, TellsAlone, IsIdle, IsText, most_job_bytes, whole_status}
 use Rattle.text_commands.specs.CallRounds.{Round, AreServed, Breaks, course_of, has_refused}
 
 -- all lines were done and printed, and the media that were left in were stored

@@ -1,14 +1,8 @@
 -- What the calls of a text do, part by part.
 use Rattle.std.specs.Prelude.{◌≡◌, ℕ, Bool, List, Result, Ok, Err}
-use Rattle.flop_base.specs.declared.answers.Status.{Status}
+use Rattle.text_commands.specs.Common.{Status, calls_of, CallLine, Taken, World, IsIdle, HasTries, Regs}
 use Rattle.flop_base.specs.declared.answers.Status.TheVariants as status
-use Rattle.floppy_jobs.specs.Texts.{calls_of}
-use Rattle.floppy_jobs.specs.declared.calls.CallLine.{CallLine}
 use Rattle.floppy_jobs.specs.declared.calls.CallLine.TheVariants as call
-use Rattle.sector_model.specs.Runs.{Taken}
-use Rattle.sector_model.specs.Plays.{World, IsIdle}
-use Rattle.floppy_session.specs.Tries.{HasTries}
-use Rattle.bios_int13.specs.declared.regs.Regs.{Regs}
 use Rattle.text_commands.specs.CallTexts.{registers}
 use Rattle.text_commands.specs.CallRounds.{Round, AreServed, has_refused, IsRound, Breaks}
 use Rattle.text_commands.specs.CallCourses.{IsBroken, ServesLines, ServesParsed}

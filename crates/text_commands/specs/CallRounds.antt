@@ -1,20 +1,7 @@
 -- The lines of a text of calls, one after the other: what each runs, and what it prints.
 use Rattle.std.specs.Prelude.{◌≡◌, ℕ, Bool, false, ◌||◌, List, [], ◌∷◌, ◌++◌, map, Option}
-use Rattle.flop_base.specs.Shelf.{Files}
-use Rattle.flop_base.specs.Sink.{grown, GrowsByPart}
-use Rattle.flop_base.specs.declared.answers.Status.{Status}
-use Rattle.floppy_jobs.specs.declared.calls.CallLine.{CallLine}
+use Rattle.text_commands.specs.Common.{Files, grown, GrowsByPart, Status, CallLine, Request, Reply, Stop, State, Step, StopsAt, reply_lines, stop_lines, stop_status, is_refusal, Taken, World, Prints, IsPutFault, Regs, Serves}
 use Rattle.floppy_jobs.specs.declared.calls.CallLine.TheVariants as call
-use Rattle.floppy_jobs.specs.declared.request.Request.{Request}
-use Rattle.sector_model.specs.declared.reply.Reply.{Reply}
-use Rattle.sector_model.specs.declared.reply.Stop.{Stop}
-use Rattle.sector_model.specs.States.{State}
-use Rattle.sector_model.specs.Steps.{Step, StopsAt}
-use Rattle.sector_model.specs.Texts.{reply_lines, stop_lines, stop_status, is_refusal}
-use Rattle.sector_model.specs.Runs.{Taken}
-use Rattle.sector_model.specs.Plays.{World, Prints, IsPutFault}
-use Rattle.bios_int13.specs.declared.regs.Regs.{Regs}
-use Rattle.bios_int13.specs.Services.{Serves}
 use Rattle.text_commands.specs.CallTexts.{registers, call_text}
 
 -- a line that was done: the requests that it ran, what it prints, whether this counts as a refusal, and the state after

@@ -1,7 +1,6 @@
 -- The registers of a call, and the line that prints the registers after it.
 use Rattle.std.specs.Prelude.{ℕ, ◌/◌, Bool, false, List, ◌++◌, codes, if◌then◌else◌}
-use Rattle.floppy_jobs.specs.Spelling.{hex_digit}
-use Rattle.bios_int13.specs.declared.regs.Regs.{Regs}
+use Rattle.text_commands.specs.Common.{hex_digit, Regs}
 
 -- the registers of a call; the carry is clear before it
 abbrev pub registers : ℕ → ℕ → ℕ → ℕ → ℕ → Regs

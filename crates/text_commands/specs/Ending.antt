@@ -1,12 +1,6 @@
 -- How a text ends if all its lines were done.
 use Rattle.std.specs.Prelude.{◌≡◌, Bool, Option}
-use Rattle.flop_base.specs.Shelf.{Files}
-use Rattle.flop_base.specs.declared.answers.Status.{Status}
-use Rattle.sector_model.specs.declared.reply.Stop.{Stop}
-use Rattle.sector_model.specs.States.{State}
-use Rattle.sector_model.specs.Texts.{stop_status}
-use Rattle.sector_model.specs.Runs.{Ends, EndStopsAt, IsEndStop}
-use Rattle.sector_model.specs.Plays.{World, whole_status}
+use Rattle.text_commands.specs.Common.{Files, Status, Stop, State, stop_status, Ends, EndStopsAt, IsEndStop, World, whole_status}
 
 -- the end of a run: what was left in was stored, or storing a file stopped the run
 pub data EndsAs (refused : Bool) (old : State) (files : Option Files) (new : State) (after : Option Files) (ended : Status) : Type 0 where

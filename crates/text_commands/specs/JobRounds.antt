@@ -1,18 +1,7 @@
 -- One request of a batch job: it is run, and its answer is printed.
 use Rattle.std.specs.Prelude.{◌≡◌, ℕ, Bool, List, Option, Result, Ok, Err}
-use Rattle.flop_base.specs.Shelf.{Files}
-use Rattle.flop_base.specs.Sink.{grown, GrowsByPart}
-use Rattle.flop_base.specs.declared.answers.Status.{Status}
+use Rattle.text_commands.specs.Common.{Files, grown, GrowsByPart, Status, job_of, Request, Reply, Stop, State, Step, StopsAt, reply_lines, stop_lines, stop_status, is_refusal, Taken, Run, requests_of, course_lines, has_refusal, World, Prints, IsPutFault, IsIdle, PlaysRequests, PlaysParsed, Plays}
 use Rattle.flop_base.specs.declared.answers.Status.TheVariants as status
-use Rattle.floppy_jobs.specs.Texts.{job_of}
-use Rattle.floppy_jobs.specs.declared.request.Request.{Request}
-use Rattle.sector_model.specs.declared.reply.Reply.{Reply}
-use Rattle.sector_model.specs.declared.reply.Stop.{Stop}
-use Rattle.sector_model.specs.States.{State}
-use Rattle.sector_model.specs.Steps.{Step, StopsAt}
-use Rattle.sector_model.specs.Texts.{reply_lines, stop_lines, stop_status, is_refusal}
-use Rattle.sector_model.specs.Runs.{Taken, Run, requests_of, course_lines, has_refusal}
-use Rattle.sector_model.specs.Plays.{World, Prints, IsPutFault, IsIdle, PlaysRequests, PlaysParsed, Plays}
 
 -- the world of a play: all that it may change
 abbrev pub world : State → Option Files → Option (List (List ℕ)) → World

@@ -1,9 +1,6 @@
 -- Lines done one after the other, with the lines that print their answers; and the end, which stores what is left in.
 use Rattle.std.specs.Prelude.{◌≡◌, ℕ, ◌+◌, Bool, true, false, ◌||◌, List, [], ◌∷◌, ◌++◌, map, Result, Ok, Err}
-use Rattle.floppy_jobs.specs.declared.ports.PortLine.{PortLine}
-use Rattle.pc_bus.specs.Boards.{IsInRange}
-use Rattle.sector_model.specs.declared.reply.Stop.{Stop}
-use Rattle.sector_model.specs.Runs.{IsEndStop}
+use Rattle.text_commands.specs.Common.{PortLine, IsInRange, Stop, IsEndStop}
 use Rattle.text_commands.specs.declared.ports.answer.LineAnswer.{LineAnswer}
 use Rattle.text_commands.specs.Benches.{Bench, is_loaded}
 use Rattle.text_commands.specs.PortLines.{DoesLine, StoresMedium, DropsMedium, is_refusal, waits_in}

@@ -1,13 +1,8 @@
 -- What a call did to a machine on a bench, with the faults that file store (shelf) and output (sink) counted.
 use Rattle.std.specs.Prelude.{◌≡◌, ◌≢◌, ℕ, Bool, List, Option, Result, Err, IsErrOf}
-use Rattle.flop_base.specs.Shelf.{Files}
-use Rattle.flop_base.specs.declared.answers.Status.{Status}
+use Rattle.text_commands.specs.Common.{Files, Status, DriveState, MachineOf, Stop, Blames}
 use Rattle.flop_base.specs.declared.answers.Status.TheVariants as status
-use Rattle.drive_model.specs.Drive.{DriveState}
-use Rattle.pc_bus.specs.declared.machine.MachineOf.{MachineOf}
-use Rattle.sector_model.specs.declared.reply.Stop.{Stop}
 use Rattle.sector_model.specs.declared.reply.Stop.TheVariants as stop
-use Rattle.sector_model.specs.Faults.{Blames}
 use Rattle.text_commands.specs.Benches.{AreNamed, Bench, Names, bench_of}
 use Rattle.text_commands.specs.PortPlays.{World, world_of}
 

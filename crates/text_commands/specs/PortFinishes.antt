@@ -2,7 +2,7 @@
 use Rattle.std.specs.Prelude.{◌≡◌, ◌≤◌, ℕ, false, List, [], ◌∷◌}
 use Rattle.fdc_core.specs.Listening.{is_executing}
 use Rattle.laws_machine.specs.OnSteps.Ends.{RunsNoSeek, IsOver, Meets, seeks}
-use Rattle.pc_bus.specs.Boards.{Board, controller_of}
+use Rattle.text_commands.specs.Common.{Board, controller_of}
 use Rattle.text_commands.specs.Benches.{Bench}
 use Rattle.text_commands.specs.PortCourses.{Taken, waits_of}
 

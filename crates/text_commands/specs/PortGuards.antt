@@ -2,15 +2,12 @@
 -- steps.
 use Rattle.std.specs.Prelude.{◌≡◌, ◌≤◌, ℕ, true, List, [], ◌∷◌}
 use Rattle.flop_base.specs.Counts.{RoseBy}
-use Rattle.flop_base.specs.declared.answers.Status.{Status}
-use Rattle.drive_model.specs.Drive.{is_protected}
-use Rattle.pc_bus.specs.Boards.{Board, drive_in}
+use Rattle.text_commands.specs.Common.{Status, is_protected, Board, drive_in, PortLine}
 use Rattle.text_commands.specs.Benches.{Bench, Names}
 use Rattle.text_commands.specs.PortCourses.{Taken, waits_of}
 use Rattle.text_commands.specs.PortFinishes.{EndInTime}
 use Rattle.text_commands.specs.PortLines.{leaves_bay}
 use Rattle.text_commands.specs.PortPlays.{World, Plays}
-use Rattle.floppy_jobs.specs.declared.ports.PortLine.{PortLine}
 
 -- both media are as they were
 pub record SameMedia (old new : Board) : Type 0 where

@@ -1,23 +1,15 @@
 -- What each line does, by its call to the machine.
 use Rattle.std.specs.Prelude.{◌≡◌, ℕ, Bool, true, false, not, ◌==◌, List, Option, Some, None, Result, Ok, Err, if◌then◌else◌}
 use Rattle.std.specs.Option.{MatchOption}
-use Rattle.flop_base.specs.Bays.{in_bay, with_bay}
-use Rattle.flop_base.specs.Shelf.{stored}
+use Rattle.text_commands.specs.Common.{in_bay, with_bay, stored, loaded, unloaded, PortLine, Stop, IsImageOf, StopCause, IsEndStop, Board, drive_in, latch_of, Touches, irq_taken}
 use Rattle.flop_base.specs.declared.answers.Code.TheVariants.{BadRequest}
 use Rattle.raw_image.specs.Disk.{Disk}
 use Rattle.raw_image.specs.Image.{file_of}
-use Rattle.drive_model.specs.Drive.{loaded, unloaded}
-use Rattle.floppy_jobs.specs.declared.ports.PortLine.{PortLine}
 use Rattle.floppy_jobs.specs.declared.ports.PortLine.TheVariants as line
 use Rattle.floppy_jobs.specs.declared.request.Request.TheVariants as request
 use Rattle.sector_model.specs.declared.reply.Reason.{Reason}
 use Rattle.sector_model.specs.declared.reply.Reason.TheVariants as reason
-use Rattle.sector_model.specs.declared.reply.Stop.{Stop}
 use Rattle.sector_model.specs.Orders.{is_bay}
-use Rattle.sector_model.specs.Steps.{IsImageOf, StopCause}
-use Rattle.sector_model.specs.Runs.{IsEndStop}
-use Rattle.pc_bus.specs.Boards.{Board, drive_in, latch_of}
-use Rattle.pc_bus.specs.Handling.{Touches, irq_taken}
 use Rattle.pc_bus.specs.Ports.{Inputs, Outputs}
 use Rattle.pc_bus.specs.Steps.{Runs, stirred}
 use Rattle.text_commands.specs.declared.ports.answer.LineAnswer.{LineAnswer}

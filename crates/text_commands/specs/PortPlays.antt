@@ -1,20 +1,8 @@
 -- How a text of port accesses is played: read, done and printed, up to its end or to what stops it, with the status of
 -- the run.
 use Rattle.std.specs.Prelude.{◌≡◌, ◌≢◌, ℕ, Bool, List, [], ◌∷◌, ◌++◌, Option, Result, Ok, Err}
-use Rattle.flop_base.specs.Shelf.{Files}
-use Rattle.flop_base.specs.Sink.{grown, GrowsByPart}
-use Rattle.flop_base.specs.declared.answers.Status.{Status}
+use Rattle.text_commands.specs.Common.{Files, grown, GrowsByPart, Status, ports_of, PortLine, DriveState, IsInRange, MachineOf, Stop, IsAbsent, IsLonger, stop_lines, stop_status, bad_line_text, absent_text, IsEndStop, Prints, IsPutFault, IsText, most_job_bytes, whole_status}
 use Rattle.flop_base.specs.declared.answers.Status.TheVariants as status
-use Rattle.floppy_jobs.specs.Texts.{ports_of}
-use Rattle.floppy_jobs.specs.declared.ports.PortLine.{PortLine}
-use Rattle.drive_model.specs.Drive.{DriveState}
-use Rattle.pc_bus.specs.Boards.{IsInRange}
-use Rattle.pc_bus.specs.declared.machine.MachineOf.{MachineOf}
-use Rattle.sector_model.specs.declared.reply.Stop.{Stop}
-use Rattle.sector_model.specs.Steps.{IsAbsent, IsLonger}
-use Rattle.sector_model.specs.Texts.{stop_lines, stop_status, bad_line_text, absent_text}
-use Rattle.sector_model.specs.Runs.{IsEndStop}
-use Rattle.sector_model.specs.Plays.{Prints, IsPutFault, IsText, most_job_bytes, whole_status}
 use Rattle.text_commands.specs.declared.ports.answer.LineAnswer.{LineAnswer}
 use Rattle.text_commands.specs.declared.ports.answer.LineAnswer.TheVariants as answer
 use Rattle.text_commands.specs.Benches.{Bench, Names, bench_of}

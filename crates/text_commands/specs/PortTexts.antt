@@ -1,9 +1,7 @@
 -- What a line of port accesses prints.
 use Rattle.std.specs.Prelude.{ℕ, ◌/◌, Bool, true, false, List, [], ◌∷◌, ◌++◌, codes, nat_lt, if◌then◌else◌}
-use Rattle.floppy_jobs.specs.Spelling.{hex_digit, hex2}
-use Rattle.floppy_jobs.specs.declared.ports.PortLine.{PortLine}
+use Rattle.text_commands.specs.Common.{hex_digit, hex2, PortLine, reason_text, line_end}
 use Rattle.floppy_jobs.specs.declared.ports.PortLine.TheVariants as line
-use Rattle.sector_model.specs.Texts.{reason_text, line_end}
 use Rattle.text_commands.specs.declared.ports.answer.LineAnswer.{LineAnswer}
 use Rattle.text_commands.specs.declared.ports.answer.LineAnswer.TheVariants as answer
 

@@ -1,6 +1,6 @@
 // The end of a text, if all its lines were done: whether one was refused, and what is left in the bays.
 ghost use Rattle.std.specs.Prelude.{◌≡◌, ◌||◌};
-ghost use Rattle.commands.specs.Leading.{Ran};
+ghost use Rattle.text_commands.specs.Common.{Ran};
 ghost use Rattle.text_commands.specs.Ending.{EndsQuietly};
 
 use commands::{AnyRun, whole_status};

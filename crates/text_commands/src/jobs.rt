@@ -1,7 +1,6 @@
 // The subcommand `play JOB`: a batch job is read and run to its end, or up to what stops it.
 ghost use Rattle.std.specs.Prelude.{All};
-ghost use Rattle.floppy_session.specs.Tries.{HasTries};
-ghost use Rattle.commands.specs.Leading.{Ran, RanPart};
+ghost use Rattle.text_commands.specs.Common.{HasTries, Ran, RanPart};
 ghost use Rattle.text_commands.specs.JobRounds.{RoundGoes, RoundsGo, PlaysJob, PlaysOrStarves};
 
 use crate::ending::{either, finish};

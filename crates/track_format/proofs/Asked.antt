@@ -1,14 +1,8 @@
 -- The bytes of keys that a track asks for, one after the other.
 use Rattle.std.proofs.Common.{◌≡◌, ℕ, zero, suc, ◌+◌, ◌-◌, ◌*◌, ◌/◌, ◌<◌, ◌≤◌, Bool, false, List, [], ◌∷◌, ◌++◌, length, get_or, drop, take, replicate, refl, sym, ap, ◌∙◌, append_assoc, arith}
-use Rattle.std.proofs.lemmas.List.{length-append, get_or_append_left, get_or-append_right, get_or_past, get_or-drop, drop-drop, append-nil}
-use Rattle.std.specs.List.{flat_map}
-use Rattle.flop_base.specs.declared.key.Chrn.{Chrn}
-use Rattle.track_model.specs.declared.symbol.Symbol.{Symbol}
-use Rattle.track_model.specs.declared.symbol.Symbol.TheVariants.{Byte, Key, Mark}
-use Rattle.track_model.specs.Layouts.{gap, check_symbols, word_after, symbol_bit, recorded, field_symbols, before_sectors, address_content, data_content, sector_symbols, sectors_symbols, track_symbols, next_symbol, lay}
-use Rattle.track_model.specs.Fields.{content_size}
-use Rattle.track_format.specs.Keys.{key_bytes, asked_in}
-use Rattle.track_format.specs.Streams.{filled, AsksKey}
+use Rattle.track_format.proofs.Common.{length-append, get_or_append_left, get_or-append_right, get_or_past, get_or-drop, drop-drop, append-nil, flat_map, Chrn, Symbol, Byte, Key, Mark, gap, check_symbols, word_after, symbol_bit, address_content, data_content, sector_symbols, track_symbols, next_symbol, content_size, key_bytes, filled, AsksKey}
+use Rattle.track_model.specs.Layouts.{recorded, field_symbols, before_sectors, sectors_symbols, lay}
+use Rattle.track_format.specs.Keys.{asked_in}
 use Rattle.track_format.proofs.Parts.{filler}
 
 pub length-key_bytes : (keys : List Chrn) → length (flat_map key_bytes keys) ≡ 4 * length keys
@@ -90,26 +84,21 @@ asked-track keys n gap3 fill =
 -- the next byte that is asked for is the first of them
 pub asked_first : (left : List Symbol) (key : ℕ) → next_symbol left ≡ Key key → asked_in left ≡ key ∷ asked_in (drop 1 left)
 unfolding asked_in
-asked_first [] key e = absurd (cc e)
-asked_first (Byte byte ∷ rest) key e = absurd (cc e)
 asked_first (Key byte ∷ rest) key e = let f : byte ≡ key = cc e in ap (λ b. b ∷ asked_in rest) f
-asked_first (Mark cells ∷ rest) key e = absurd (cc e)
+asked_first _ key e = absurd (cc e)
 
 pub asked_same : (left : List Symbol) → (AsksKey left → ⊥) → asked_in (drop 1 left) ≡ asked_in left
 unfolding asked_in
-asked_same [] h = refl
-asked_same (Byte byte ∷ rest) h = refl
 asked_same (Key byte ∷ rest) h = absurd (h (byte, refl))
-asked_same (Mark cells ∷ rest) h = refl
+asked_same _ h = refl
 
 -- ---- the next symbols, with 4E behind the last
 
 filled_enough : (left : List Symbol) (m a b : ℕ) → m ≤ a → m ≤ b → take m (left ++ gap a) ≡ take m (left ++ gap b)
 filled_enough left zero a b h l = refl
-filled_enough [] (suc m) zero b h l = absurd (omega arith)
-filled_enough [] (suc m) (suc a) zero h l = absurd (omega arith)
 filled_enough [] (suc m) (suc a) (suc b) h l = ap (λ xs. filler ∷ xs) (filled_enough [] m a b (omega arith) (omega arith))
 filled_enough (symbol ∷ left) (suc m) a b h l = ap (λ xs. symbol ∷ xs) (filled_enough left m a b (omega arith) (omega arith))
+filled_enough [] (suc m) _ _ h l = absurd (omega arith)
 
 pub filled_more : (left : List Symbol) (m : ℕ) → filled (suc m) left ≡ next_symbol left ∷ filled m (drop 1 left)
 filled_more [] m = refl

@@ -1,22 +1,7 @@
 -- The fields of a formatted track, and what a look at each finds.
 use Rattle.std.proofs.Common.{◌≡◌, ℕ, suc, ◌+◌, ◌-◌, ◌*◌, ◌<◌, ◌≤◌, Bool, false, List, length, get_or, refl, sym, ap, subst, ◌∙◌, arith, inl, inr}
-use Rattle.std.proofs.lemmas.List.{get_or_default}
-use Rattle.std.proofs.lemmas.Bool.{cases_lt, cases_order}
-use Rattle.flop_base.specs.declared.key.Chrn.{Chrn}
-use Rattle.track_model.specs.declared.symbol.Symbol.TheVariants.{Byte}
-use Rattle.track_model.specs.declared.Look.TheVariants.{Found}
-use Rattle.track_model.specs.Bytes.{byte_at}
-use Rattle.track_model.specs.Marks.{IsRun, IsAddressMark}
-use Rattle.track_model.specs.Fields.{IsAddressAt, IsDataMark, IsSizeCode, content_size, data_cells}
-use Rattle.track_model.specs.Looks.{LookAt}
-use Rattle.track_model.specs.Sectors.{IsPlain, IsLone}
+use Rattle.track_format.proofs.Common.{get_or_default, cases_lt, cases_order, Chrn, Byte, Found, byte_at, IsRun, IsAddressMark, IsAddressAt, IsDataMark, IsSizeCode, content_size, data_cells, LookAt, IsPlain, IsLone, span_cells, HasSizes, HasSpans, HasCleanGaps, HasCleanEnds, IsSpaced, IsRegular, IsKey, data_content, address_content, one_key, IsParted, no_mark_in_bytes}
 use Rattle.track_model.specs.Cells.{IsInside}
-use Rattle.track_model.specs.Regular.{span_cells, HasSizes, HasSpans, HasCleanGaps, HasCleanEnds, IsSpaced, IsRegular}
-use Rattle.track_model.specs.LaidFields.{IsKey}
-use Rattle.track_model.specs.Layouts.{data_content, address_content}
-use Rattle.track_model.proofs.Unique.{one_key}
-use Rattle.track_model.proofs.Parted.{IsParted}
-use Rattle.track_model.proofs.Recorded.{no_mark_in_bytes}
 use Rattle.track_format.proofs.Parts.{filler, in_sync, in_gap}
 use Rattle.track_format.proofs.Steps.{length-data_content}
 use Rattle.track_format.proofs.Tracked.{sector_words, sector_ends, sectors_apart, at_end_gap}

@@ -1,18 +1,11 @@
 -- A regular formatted track is Aligned. So a Laid track is Tidy for each write.
 use Rattle.std.proofs.Common.{◌≡◌, ◌↔◌, ℕ, suc, ◌+◌, ◌*◌, ◌%◌, ◌<◌, ◌≤◌, Bool, false, List, eqb, length, get_or, sym, ap, subst, ◌∙◌, refl, arith}
-use Rattle.std.proofs.lemmas.List.{get_or_default}
-use Rattle.flop_base.specs.declared.key.Chrn.{Chrn}
-use Rattle.track_model.specs.declared.symbol.Symbol.TheVariants.{Byte}
-use Rattle.track_model.specs.Bytes.{byte_at, last_bit}
-use Rattle.track_model.specs.Fields.{IsAddressAt, content_size}
+use Rattle.track_format.proofs.Common.{get_or_default, Chrn, Byte, byte_at, last_bit, IsAddressAt, content_size, IsSpaced, IsRegular, IsKey, word_after, address_content, one_key, symbol_behind, get_or-recorded, byte_word_bit}
 use Rattle.track_model.specs.Windows.{window_word, window_words, HasFieldFor, IsTidy}
-use Rattle.track_model.specs.Regular.{IsSpaced, IsRegular}
-use Rattle.track_model.specs.LaidFields.{IsKey}
-use Rattle.track_model.specs.Layouts.{lay, word_after, address_content}
+use Rattle.track_model.specs.Layouts.{lay}
 use Rattle.track_model.specs.Laid.{IsRegularLay, IsLaid}
 use Rattle.track_model.specs.Torn.{IsTorn}
-use Rattle.track_model.proofs.Unique.{one_key}
-use Rattle.track_model.proofs.Recorded.{bit_behind, symbol_behind, get_or-recorded, byte_word_bit}
+use Rattle.track_model.proofs.Recorded.{bit_behind}
 use Rattle.track_model.proofs.Seams.{IsAlignedAt, IsSeam, IsAligned, unstopped}
 use Rattle.track_model.proofs.Aligned.{aligned_tidy}
 use Rattle.track_model.proofs.Torn.{whole_writes, whole_torn, torn_aligned, torn_addresses, torn_regular}

@@ -1,3 +1,4 @@
+mod Common
 pub mod Asked
 mod Found
 pub mod Laid

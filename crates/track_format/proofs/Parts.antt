@@ -1,13 +1,7 @@
 -- The symbols of a field by their place.
-use Rattle.std.proofs.Common.{◌≡◌, ℕ, zero, suc, ◌+◌, ◌-◌, ◌/◌, ◌%◌, ◌^◌, ◌<◌, ◌≤◌, List, ◌∷◌, ◌++◌, length, get_or, map, drop, refl, sym, ap, ◌∙◌, arith}
-use Rattle.std.proofs.lemmas.List.{length-append, length-replicate, get_or_append_left, get_or-append_right, get_or-replicate, get_or-map, drop_more, drop_all, length-map}
-use Rattle.track_model.specs.declared.symbol.Symbol.{Symbol}
-use Rattle.track_model.specs.declared.symbol.Symbol.TheVariants.{Byte, Mark}
-use Rattle.track_model.specs.Crc.{crc, crc_from}
-use Rattle.track_model.specs.Fields.{after_marks}
-use Rattle.track_model.specs.Layouts.{gap, sync, marks, symbol_byte, check_symbols, field_symbols, before_sectors}
-use Rattle.track_model.proofs.CrcSteps.{crc_from_none}
-use Rattle.track_format.specs.Streams.{GoesOn}
+use Rattle.std.proofs.Common.{◌≡◌, ℕ, suc, ◌+◌, ◌-◌, ◌/◌, ◌%◌, ◌^◌, ◌<◌, ◌≤◌, List, ◌∷◌, ◌++◌, length, get_or, map, drop, refl, sym, ap, ◌∙◌, arith}
+use Rattle.track_format.proofs.Common.{length-append, length-replicate, get_or_append_left, get_or-append_right, get_or-replicate, get_or-map, drop_more, drop_all, length-map, Symbol, Byte, Mark, crc, crc_from, after_marks, gap, sync, marks, symbol_byte, check_symbols, crc_from_none, GoesOn}
+use Rattle.track_model.specs.Layouts.{field_symbols, before_sectors}
 
 abbrev pub filler : Symbol
 filler = Byte 0x4E
@@ -19,9 +13,8 @@ past first rest n place left e f =
     get_or-append_right first rest n place filler e (omega arith) ∙ ap (λ k. get_or rest k filler) g
 
 pub gap_is : (count place : ℕ) → get_or (gap count) place filler ≡ filler
-gap_is zero place = refl
-gap_is (suc count) zero = refl
 gap_is (suc count) (suc place) = gap_is count place
+gap_is _ _ = refl
 
 module _ (symbols : List Symbol) (behind : ℕ) where
   abbrev field : List Symbol

@@ -1,19 +1,8 @@
 -- What is read on a formatted track.
 use Rattle.std.proofs.Common.{◌≡◌, ℕ, zero, suc, ◌+◌, ◌-◌, ◌*◌, ◌/◌, ◌%◌, ◌<◌, ◌≤◌, false, List, ◌∷◌, length, get_or, map, replicate, refl, sym, ap, subst, ◌∙◌, lit<, arith}
-use Rattle.std.proofs.lemmas.List.{get_or_default, get_or-replicate, length-replicate}
+use Rattle.track_format.proofs.Common.{get_or_default, get_or-replicate, length-replicate, Chrn, Symbol, Byte, Key, Mark, byte_at, crc, IsSound, IsRun, IsAddressMark, HasCheck, after_marks, address_bytes, IsAddressAt, content_size, content_at, IsKey, word_after, symbol_byte, field_symbols, address_content, data_content, crc_below, get_or-recorded, symbol_behind, byte_at-recorded, word_some}
 use Rattle.std.proofs.lemmas.List.FromFn.{fill_by_all}
-use Rattle.flop_base.specs.declared.key.Chrn.{Chrn}
-use Rattle.track_model.specs.declared.symbol.Symbol.{Symbol}
-use Rattle.track_model.specs.declared.symbol.Symbol.TheVariants.{Byte, Key, Mark}
-use Rattle.track_model.specs.Bytes.{byte_at}
-use Rattle.track_model.specs.Crc.{crc}
-use Rattle.track_model.specs.Marks.{IsSound, IsRun, IsAddressMark}
-use Rattle.track_model.specs.Fields.{HasCheck, after_marks, address_bytes, IsAddressAt, content_size, content_at}
-use Rattle.track_model.specs.LaidFields.{IsKey}
-use Rattle.track_model.specs.Layouts.{word_after, symbol_byte, field_symbols, address_content, data_content}
-use Rattle.track_model.proofs.CrcSteps.{crc_below}
 use Rattle.track_model.proofs.Places.{cells_at-word}
-use Rattle.track_model.proofs.Recorded.{get_or-recorded, symbol_behind, byte_at-recorded, word_some}
 use Rattle.track_format.proofs.Parts.{filler, in_marks, in_symbols, in_high, in_low, in_gap, check_of}
 use Rattle.track_format.proofs.Steps.{length-data_content}
 use Rattle.track_format.proofs.Tracked.{sector_words, length-all, sector_ends}

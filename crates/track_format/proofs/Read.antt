@@ -1,24 +1,10 @@
 -- What a read finds on a formatted track: laws over the definition of a layout.
 use Rattle.std.proofs.Common.{◌≡◌, ◌≢◌, ℕ, ◌+◌, ◌<◌, ◌≤◌, false, List, ◌++◌, All, length, take, get_or, replicate, arith, sym, ap, subst, ◌∙◌, inl, inr}
-use Rattle.std.specs.List.{AllPairs, Contains}
-use Rattle.std.proofs.lemmas.Bool.{cases_order}
-use Rattle.std.proofs.lemmas.List.{length-append, length-replicate, length-take}
+use Rattle.track_format.proofs.Common.{AllPairs, Contains, cases_order, length-append, length-replicate, length-take, Chrn, Found, Byte, IsAddressMark, IsAddressAt, IsSizeCode, content_size, content_at, LookAt, IsPlain, IsLone, IsSpaced, IsRegular, gap, track_symbols, Fits, sector_place, content_place, HasLaidFields, IsKey, HasEndRoom, one_key, one_deleted, IsParted, length-recorded}
 use Rattle.std.proofs.lemmas.List.Elements.{Contains-get_or}
-use Rattle.flop_base.specs.declared.key.Chrn.{Chrn}
-use Rattle.track_model.specs.declared.Look.TheVariants.{Found}
-use Rattle.track_model.specs.declared.symbol.Symbol.TheVariants.{Byte}
-use Rattle.track_model.specs.Marks.{IsAddressMark}
-use Rattle.track_model.specs.Fields.{IsAddressAt, IsSizeCode, content_size, content_at}
-use Rattle.track_model.specs.Looks.{LookAt}
-use Rattle.track_model.specs.Sectors.{IsPlain, IsLone}
-use Rattle.track_model.specs.Regular.{IsSpaced, IsRegular}
-use Rattle.track_model.specs.Layouts.{gap, track_symbols, lay, Fits}
-use Rattle.track_model.specs.LaidFields.{sector_place, content_place, HasLaidFields, IsKey, HasEndRoom}
-use Rattle.track_model.proofs.Unique.{one_key, one_deleted}
+use Rattle.track_model.specs.Layouts.{lay}
 use Rattle.track_model.proofs.Sectored.{plain_clear}
-use Rattle.track_model.proofs.Parted.{IsParted}
 use Rattle.track_model.proofs.Sizes.{content_size_least}
-use Rattle.track_model.proofs.Recorded.{length-recorded}
 use Rattle.track_format.specs.Reads.{HasClearField, AllFilled, HoldsFill}
 use Rattle.track_format.proofs.Placed.{address_is, content_is}
 use Rattle.track_format.proofs.Found.{plain, look, lone, only, parted, spaced, regular}

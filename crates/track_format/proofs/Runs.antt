@@ -1,33 +1,23 @@
 -- Where the runs of a formatted track are.
 use Rattle.std.proofs.Common.{◌≡◌, ℕ, zero, suc, ◌+◌, ◌-◌, ◌*◌, ◌/◌, ◌%◌, ◌<◌, ◌≤◌, Bool, true, false, cond, eqb, List, [], ◌∷◌, ◌++◌, length, get_or, take, replicate, refl, sym, ap, ◌∙◌, ◌⊎◌, arith, inl, inr}
-use Rattle.std.proofs.lemmas.List.{get_or_past, get_or_default}
-use Rattle.std.proofs.lemmas.Bool.{cases_lt, cases_eq, ne_eqb, cond-false, false≢true}
-use Rattle.std.proofs.Math.Nat.{mul-le-mul_right}
-use Rattle.std.specs.List.{flat_map}
-use Rattle.flop_base.specs.declared.key.Chrn.{Chrn}
-use Rattle.track_model.specs.declared.symbol.Symbol.{Symbol}
-use Rattle.track_model.specs.declared.symbol.Symbol.TheVariants.{Byte, Key, Mark}
-use Rattle.track_model.specs.Marks.{IsRun}
-use Rattle.track_model.specs.Layouts.{gap, sync, marks, check_symbols, recorded, field_symbols, before_sectors, address_content, data_content, sector_symbols, sectors_symbols}
-use Rattle.track_model.proofs.Recorded.{AreMarks, AreWords, Nowhere, run_at_word, recorded_words, length-recorded, get_or-recorded, symbol_behind, mark_symbol}
+use Rattle.track_format.proofs.Common.{get_or_past, get_or_default, cases_lt, cases_eq, ne_eqb, cond-false, false≢true, mul-le-mul_right, flat_map, Chrn, Symbol, Byte, Key, Mark, IsRun, gap, sync, marks, check_symbols, recorded, address_content, data_content, sector_symbols, AreMarks, AreWords, Nowhere, run_at_word, recorded_words, length-recorded, get_or-recorded, symbol_behind, mark_symbol}
+use Rattle.track_model.specs.Layouts.{field_symbols, before_sectors, sectors_symbols}
 use Rattle.track_format.proofs.Parts.{filler, in_sync, in_symbols, in_high, in_low, in_gap, start_gap_4a, start_sync, start_marks, start_byte, start_gap_1}
 use Rattle.track_format.proofs.Tracked.{sector_words, all_symbols, length-all, at_start, at_end_gap, at_address, at_data}
 
 -- ---- marks of a field
 
 pub is_mark : Symbol → Bool
-is_mark (Byte byte) = false
-is_mark (Key byte) = false
 is_mark (Mark cells) = true
+is_mark _ = false
 
 abbrev HasNoMarks : List Symbol → Type 0
 HasNoMarks symbols = (j : ℕ) → is_mark (get_or symbols j filler) ≡ false
 
 no_mark_bytes : (size fill j : ℕ) → is_mark (get_or (replicate size (Byte fill)) j filler) ≡ false
 unfolding is_mark
-no_mark_bytes zero fill j = refl
-no_mark_bytes (suc size) fill zero = refl
 no_mark_bytes (suc size) fill (suc j) = no_mark_bytes size fill j
+no_mark_bytes _ fill _ = refl
 
 no_mark_data : (size fill : ℕ) → HasNoMarks (data_content size fill)
 unfolding is_mark
@@ -77,9 +67,8 @@ field_mark symbols count j cells none e =
     ]
 
 cells_of : Symbol → ℕ
-cells_of (Byte byte) = 0
-cells_of (Key byte) = 0
 cells_of (Mark cells) = cells
+cells_of _ = 0
 
 other_mark : Mark 0x5224 ≡ Mark 0x4489 → ⊥
 unfolding cells_of
@@ -111,9 +100,8 @@ no_filler e = clash filler filler 0x4489 e refl filler_no_mark
 -- ---- all marks are A1 or C2
 
 pub is_other : Symbol → Bool
-is_other (Byte byte) = false
-is_other (Key byte) = false
 is_other (Mark cells) = cond (eqb cells 0x4489) false (cond (eqb cells 0x5224) false true)
+is_other _ = false
 
 abbrev HasNoOthers : List Symbol → Type 0
 HasNoOthers symbols = (j : ℕ) → is_other (get_or symbols j (Byte 0)) ≡ false
@@ -141,10 +129,9 @@ others-replicate (suc count) symbol h = others-cons symbol (replicate count symb
 
 others-take : (count : ℕ) (symbols : List Symbol) → HasNoOthers symbols → HasNoOthers (take count symbols)
 unfolding is_other
-others-take zero symbols h j = refl
-others-take (suc count) [] h j = refl
 others-take (suc count) (symbol ∷ rest) h zero = h 0
 others-take (suc count) (symbol ∷ rest) h (suc j) = others-take count rest (λ k. h (suc k)) j
+others-take _ _ h j = refl
 
 others-field : (symbols : List Symbol) (count : ℕ) → HasNoOthers symbols → HasNoOthers (field_symbols symbols count)
 unfolding is_other field_symbols

@@ -1,15 +1,9 @@
 -- One word more of a part of the track.
 use Rattle.std.proofs.Common.{◌≡◌, ℕ, zero, suc, ◌+◌, ◌-◌, ◌/◌, ◌%◌, ◌<◌, ◌≤◌, Bool, true, false, IsTrue, ◌↔◌, List, [], ◌∷◌, ◌++◌, length, get_or, drop, replicate, refl, sym, ap, ◌∙◌, append_assoc, ◌⊎◌, arith, inl, inr}
-use Rattle.std.proofs.lemmas.List.{length-replicate, get_or-replicate, drop_more, drop_all}
-use Rattle.std.proofs.lemmas.Bool.{cases_lt, cases_eq, false≢true}
-use Rattle.std.specs.List.{flat_map}
-use Rattle.flop_base.specs.declared.key.Chrn.{Chrn}
-use Rattle.track_model.specs.declared.symbol.Symbol.{Symbol}
-use Rattle.track_model.specs.declared.symbol.Symbol.TheVariants.{Byte, Key, Mark}
-use Rattle.track_model.specs.Layouts.{gap, sync, marks, check_symbols, field_symbols, before_sectors, address_content, data_content, sector_symbols, sectors_symbols, next_symbol}
+use Rattle.track_format.proofs.Common.{length-replicate, get_or-replicate, drop_more, drop_all, cases_lt, cases_eq, false≢true, flat_map, Chrn, Symbol, Byte, Key, Mark, gap, sync, marks, check_symbols, address_content, data_content, sector_symbols, next_symbol, GoesOn, AsksKey, KeyIs, IsInAddress, IsInData, HasSectors, IsInPart, words_of_part}
+use Rattle.track_model.specs.Layouts.{field_symbols, before_sectors, sectors_symbols}
 use Rattle.track_format.specs.declared.stream.TrackPart.{TrackPart}
 use Rattle.track_format.specs.declared.stream.TrackPart.TheVariants.{Start, Address, Data, End}
-use Rattle.track_format.specs.Streams.{GoesOn, AsksKey, KeyIs, IsInAddress, IsInData, HasSectors, IsInPart, words_of_part}
 use Rattle.track_format.proofs.Parts.{filler, check_of, length-field, in_sync, in_marks, in_symbols, in_high, in_low, in_gap}
 
 module _ (part more left : List Symbol) (given : ℕ) (within : given < length part) (left_is : left ≡ drop given part ++ more) where
@@ -54,11 +48,8 @@ sectors-cons size gap3 fill key keys =
 -- the bytes of a key
 pub key_at : (key : Chrn) (j : ℕ) → 1 ≤ j → j < 5 → get_or (address_content key) j filler ≡ Key (get_or (key.c ∷ key.h ∷ key.r ∷ key.n ∷ []) (j - 1) 0)
 key_at key zero low high = absurd (omega arith)
-key_at key (suc zero) low high = refl
-key_at key (suc (suc zero)) low high = refl
-key_at key (suc (suc (suc zero))) low high = refl
-key_at key (suc (suc (suc (suc zero)))) low high = refl
 key_at key (suc (suc (suc (suc (suc j))))) low high = absurd (omega arith)
+key_at key _ low high = refl
 
 -- what the code takes for the symbol of an address field
 pub address_inner : (key : Chrn) (more left : List Symbol) (place byte : ℕ) → place < 44 → left ≡ drop place (field_symbols (address_content key) 22) ++ more → KeyIs left byte → (place ≡ 15 → ⊥) → 15 ≤ place → place < 20 → Key byte ≡ get_or (address_content key) (place - 15) filler
@@ -85,9 +76,8 @@ data_inner size fill place other low high =
 -- ---- which symbols are bytes of a key
 
 pub is_key : Symbol → Bool
-is_key (Byte byte) = false
 is_key (Key byte) = true
-is_key (Mark cells) = false
+is_key _ = false
 
 abbrev HasNoKeys : List Symbol → Type 0
 HasNoKeys symbols = (j : ℕ) → is_key (get_or symbols j filler) ≡ false
@@ -205,10 +195,8 @@ left_some Data sectors size gap3 fill place check left within h other =
 left_some End sectors size gap3 fill place check left within h other = absurd (other refl)
 
 pub asked : (part : TrackPart) (sectors size gap3 fill place check : ℕ) (left : List Symbol) → part ≡ Address → 15 < place → place < 20 → IsInPart part sectors size gap3 fill place check left → AsksKey left
-asked Start sectors size gap3 fill place check left is low high h = absurd (cc is)
 asked Address sectors size gap3 fill place check left is low high h = address_asked h.key _ left place h.left_is low high
-asked Data sectors size gap3 fill place check left is low high h = absurd (cc is)
-asked End sectors size gap3 fill place check left is low high h = absurd (cc is)
+asked _ sectors size gap3 fill place check left is low high h = absurd (cc is)
 
 pub only_asked : (part : TrackPart) (sectors size gap3 fill place check : ℕ) (left : List Symbol) → (part ≡ Address → 15 < place → place < 20 → ⊥) → place < words_of_part part size gap3 → IsInPart part sectors size gap3 fill place check left → AsksKey left → ⊥
 only_asked Start sectors size gap3 fill place check left other within h =
@@ -247,7 +235,6 @@ behind_sector Data sectors size gap3 fill place check left a b all h =
 behind_sector End sectors size gap3 fill place check left a b all h = absurd (b refl)
 
 pub behind_address : (part : TrackPart) (sectors size gap3 fill place check : ℕ) (left : List Symbol) → part ≡ Address → words_of_part part size gap3 ≤ place + 1 → IsInPart part sectors size gap3 fill (place + 1) check left → IsInData sectors size gap3 fill 0 check left
-behind_address Start sectors size gap3 fill place check left is all h = absurd (cc is)
 behind_address Address sectors size gap3 fill place check left is all h =
     let past : length (field_symbols (address_content h.key) 22) ≤ place + 1 = omega (arith, length-address h.key) in
     record {
@@ -256,14 +243,11 @@ behind_address Address sectors size gap3 fill place check left is all h =
       checked = λ low. absurd (omega arith);
       left_is = behind_is (field_symbols (address_content h.key) 22) _ left (place + 1) past h.left_is;
     }
-behind_address Data sectors size gap3 fill place check left is all h = absurd (cc is)
-behind_address End sectors size gap3 fill place check left is all h = absurd (cc is)
+behind_address _ sectors size gap3 fill place check left is all h = absurd (cc is)
 
 pub at_end : (part : TrackPart) (sectors size gap3 fill place check : ℕ) (left : List Symbol) → part ≡ End → IsInPart part sectors size gap3 fill place check left → left ≡ []
-at_end Start sectors size gap3 fill place check left is h = absurd (cc is)
-at_end Address sectors size gap3 fill place check left is h = absurd (cc is)
-at_end Data sectors size gap3 fill place check left is h = absurd (cc is)
 at_end End sectors size gap3 fill place check left is h = h
+at_end _ sectors size gap3 fill place check left is h = absurd (cc is)
 
 -- ---- the symbol that the code takes, and the CRC after it
 
@@ -286,12 +270,9 @@ pub symbol_in_start : (part : TrackPart) (sectors size gap3 fill place check : �
 symbol_in_start Start sectors size gap3 fill place check left result is within h e =
     let short : place < length before_sectors = omega (arith, length-start) in
     e ∙ sym (first_is before_sectors _ left place short h.left_is)
-symbol_in_start Address sectors size gap3 fill place check left result is within h e = absurd (cc is)
-symbol_in_start Data sectors size gap3 fill place check left result is within h e = absurd (cc is)
-symbol_in_start End sectors size gap3 fill place check left result is within h e = absurd (cc is)
+symbol_in_start _ sectors size gap3 fill place check left result is within h e = absurd (cc is)
 
 pub symbol_in_address : (part : TrackPart) (sectors size gap3 fill place check byte : ℕ) (left : List Symbol) (inner result : Symbol) → part ≡ Address → place < words_of_part part size gap3 → IsInPart part sectors size gap3 fill place check left → KeyIs left byte → ((place ≡ 15) × (inner ≡ Byte 0xFE)) ⊎ ((place ≡ 15 → ⊥) × (inner ≡ Key byte)) → IsFieldSymbol result place 5 inner check → result ≡ next_symbol left
-symbol_in_address Start sectors size gap3 fill place check byte left inner result is within h key cases e = absurd (cc is)
 symbol_in_address Address sectors size gap3 fill place check byte left inner result is within h key cases e =
     let field = field_symbols (address_content h.key) 22 in
     let short : place < length field = omega (arith, length-address h.key) in
@@ -303,12 +284,9 @@ symbol_in_address Address sectors size gap3 fill place check byte left inner res
     ])
     h.checked
     ∙ sym (first_is field _ left place short h.left_is)
-symbol_in_address Data sectors size gap3 fill place check byte left inner result is within h key cases e = absurd (cc is)
-symbol_in_address End sectors size gap3 fill place check byte left inner result is within h key cases e = absurd (cc is)
+symbol_in_address _ sectors size gap3 fill place check byte left inner result is within h key cases e = absurd (cc is)
 
 pub symbol_in_data : (part : TrackPart) (sectors size gap3 fill place check count inner : ℕ) (left : List Symbol) (result : Symbol) → part ≡ Data → count ≡ size + 1 → place < words_of_part part size gap3 → IsInPart part sectors size gap3 fill place check left → ((place ≡ 15) × (inner ≡ 0xFB)) ⊎ ((place ≡ 15 → ⊥) × (inner ≡ fill)) → IsFieldSymbol result place count (Byte inner) check → result ≡ next_symbol left
-symbol_in_data Start sectors size gap3 fill place check count inner left result is counted within h cases e = absurd (cc is)
-symbol_in_data Address sectors size gap3 fill place check count inner left result is counted within h cases e = absurd (cc is)
 symbol_in_data Data sectors size gap3 fill place check count inner left result is counted within h cases e =
     let field = field_symbols (data_content size fill) gap3 in
     let short : place < length field = omega (arith, length-data size gap3 fill) in
@@ -320,10 +298,9 @@ symbol_in_data Data sectors size gap3 fill place check count inner left result i
     ])
     h.checked
     ∙ sym (first_is field _ left place short h.left_is)
-symbol_in_data End sectors size gap3 fill place check count inner left result is counted within h cases e = absurd (cc is)
+symbol_in_data _ sectors size gap3 fill place check count inner left result is counted within h cases e = absurd (cc is)
 
 pub check_in_address : (part : TrackPart) (sectors size gap3 fill place check : ℕ) (left : List Symbol) (symbol : Symbol) (result : ℕ) → part ≡ Address → place < words_of_part part size gap3 → IsInPart part sectors size gap3 fill place check left → symbol ≡ next_symbol left → IsCheckBehind result place 5 symbol check → IsInPart part sectors size gap3 fill (place + 1) result (drop 1 left)
-check_in_address Start sectors size gap3 fill place check left symbol result is within h next e = absurd (cc is)
 check_in_address Address sectors size gap3 fill place check left symbol result is within h next e =
     let field = field_symbols (address_content h.key) 22 in
     let short : place < length field = omega (arith, length-address h.key) in
@@ -334,12 +311,9 @@ check_in_address Address sectors size gap3 fill place check left symbol result i
       checked = e (address_content h.key) 22 refl (next ∙ first_is field _ left place short h.left_is) h.checked;
       left_is = rest_is field _ left place short h.left_is;
     }
-check_in_address Data sectors size gap3 fill place check left symbol result is within h next e = absurd (cc is)
-check_in_address End sectors size gap3 fill place check left symbol result is within h next e = absurd (cc is)
+check_in_address _ sectors size gap3 fill place check left symbol result is within h next e = absurd (cc is)
 
 pub check_in_data : (part : TrackPart) (sectors size gap3 fill place check count : ℕ) (left : List Symbol) (symbol : Symbol) (result : ℕ) → part ≡ Data → count ≡ size + 1 → place < words_of_part part size gap3 → IsInPart part sectors size gap3 fill place check left → symbol ≡ next_symbol left → IsCheckBehind result place count symbol check → IsInPart part sectors size gap3 fill (place + 1) result (drop 1 left)
-check_in_data Start sectors size gap3 fill place check count left symbol result is counted within h next e = absurd (cc is)
-check_in_data Address sectors size gap3 fill place check count left symbol result is counted within h next e = absurd (cc is)
 check_in_data Data sectors size gap3 fill place check count left symbol result is counted within h next e =
     let field = field_symbols (data_content size fill) gap3 in
     let short : place < length field = omega (arith, length-data size gap3 fill) in
@@ -349,15 +323,14 @@ check_in_data Data sectors size gap3 fill place check count left symbol result i
       checked = e (data_content size fill) gap3 (length-data_content size fill ∙ sym counted) (next ∙ first_is field _ left place short h.left_is) h.checked;
       left_is = rest_is field _ left place short h.left_is;
     }
-check_in_data End sectors size gap3 fill place check count left symbol result is counted within h next e = absurd (cc is)
+check_in_data _ sectors size gap3 fill place check count left symbol result is counted within h next e = absurd (cc is)
 
 pub check_in_others : (part : TrackPart) (sectors size gap3 fill place check : ℕ) (left : List Symbol) → (part ≡ Start) ⊎ (part ≡ End) → place < words_of_part part size gap3 → IsInPart part sectors size gap3 fill place check left → IsInPart part sectors size gap3 fill (place + 1) check (drop 1 left)
 check_in_others Start sectors size gap3 fill place check left is within h =
     let short : place < length before_sectors = omega (arith, length-start) in
     record { keys = h.keys; count = h.count; left_is = rest_is before_sectors _ left place short h.left_is }
-check_in_others Address sectors size gap3 fill place check left is within h = absurd (elim is [ inl e ↦ cc e | inr e ↦ cc e ])
-check_in_others Data sectors size gap3 fill place check left is within h = absurd (elim is [ inl e ↦ cc e | inr e ↦ cc e ])
 check_in_others End sectors size gap3 fill place check left is within h = ap (drop 1) h
+check_in_others _ sectors size gap3 fill place check left is within h = absurd (elim is [ inl e ↦ cc e | inr e ↦ cc e ])
 
 pub behind_start_or_data : (part : TrackPart) (sectors size gap3 fill place check : ℕ) (left : List Symbol) → (part ≡ Start) ⊎ (part ≡ Data) → words_of_part part size gap3 ≤ place + 1 → IsInPart part sectors size gap3 fill (place + 1) check left → HasSectors sectors size gap3 fill left
 behind_start_or_data part sectors size gap3 fill place check left is all h =

@@ -1,12 +1,7 @@
 -- The symbols of a whole track by their place.
 use Rattle.std.proofs.Common.{◌≡◌, ℕ, zero, suc, ◌+◌, ◌-◌, ◌*◌, ◌<◌, ◌≤◌, List, [], ◌∷◌, ◌++◌, length, get_or, take, ap, ◌∙◌, arith, inl, inr}
-use Rattle.std.proofs.lemmas.List.{length-append, length-replicate, length-take, get_or-take, get_or_append_left, get_or-append_right, get_or_past}
-use Rattle.std.proofs.lemmas.Bool.{cases_lt}
-use Rattle.std.proofs.Math.Nat.{mul-le-mul_right}
-use Rattle.std.specs.List.{flat_map}
-use Rattle.flop_base.specs.declared.key.Chrn.{Chrn}
-use Rattle.track_model.specs.declared.symbol.Symbol.{Symbol}
-use Rattle.track_model.specs.Layouts.{gap, field_symbols, before_sectors, address_content, data_content, sector_symbols, sectors_symbols}
+use Rattle.track_format.proofs.Common.{length-append, length-replicate, length-take, get_or-take, get_or_append_left, get_or-append_right, get_or_past, cases_lt, mul-le-mul_right, flat_map, Chrn, Symbol, gap, field_symbols, before_sectors, address_content, data_content, sector_symbols}
+use Rattle.track_model.specs.Layouts.{sectors_symbols}
 use Rattle.track_format.proofs.Parts.{filler, gap_is}
 use Rattle.track_format.proofs.Steps.{length-start, length-address, length-data}
 

@@ -1,17 +1,8 @@
 -- Tracks on which each data field stands word by word where its window does: no cut of a window makes a new address
 -- mark.
 use Rattle.std.proofs.Common.{◌≡◌, ◌≢◌, ℕ, ◌+◌, ◌-◌, ◌*◌, ◌<◌, ◌≤◌, Bool, true, false, List, [], ◌∷◌, ◌++◌, length, get_or, take, refl, sym, ap, subst, ◌∙◌, ◌⊎◌, arith, inl, inr}
-use Rattle.std.proofs.lemmas.Bool.{cases_eq, cases_lt, cases_order}
-use Rattle.std.proofs.lemmas.List.{length-take}
-use Rattle.flop_base.specs.declared.key.Chrn.{Chrn}
-use Rattle.track_model.specs.Crc.{crc}
+use Rattle.track_model.proofs.Common.{cases_eq, cases_lt, cases_order, length-take, Chrn, crc, byte_at, data_byte, IsAddressMark, after_marks, IsAddressAt, content_size, check_bytes, window, window_word, window_words, cut_of, IsFieldFor, IsTidy, KeepsOthers}
 use Rattle.track_model.specs.Cells.{number}
-use Rattle.track_model.specs.Bytes.{byte_at}
-use Rattle.track_model.specs.Marks.{data_byte, IsAddressMark}
-use Rattle.track_model.specs.Fields.{after_marks, IsAddressAt, content_size}
-use Rattle.track_model.specs.Writing.{check_bytes, window}
-use Rattle.track_model.specs.Windows.{window_word, window_words, cut_of, IsFieldFor, IsTidy}
-use Rattle.track_model.specs.Kept.{KeepsOthers}
 use Rattle.track_model.proofs.Unique.{one_key}
 use Rattle.track_model.proofs.Frames.{same_back, same_address_mark}
 use Rattle.track_model.proofs.Places.{cells_at-word}

@@ -1,10 +1,9 @@
 -- Bytes whose cells are known from elsewhere, the marks, and a whole address field.
 use Rattle.std.proofs.Common.{◌≡◌, true, false, [], ◌∷◌, ◌++◌, replicate, refl}
-use Rattle.flop_base.specs.declared.key.Chrn.{Chrn}
-use Rattle.track_model.specs.Cells.{number, cells_at}
-use Rattle.track_model.specs.Bytes.{byte_at, legal}
+use Rattle.track_model.proofs.Common.{Chrn, cells_at, byte_at, address_field}
+use Rattle.track_model.specs.Cells.{number}
+use Rattle.track_model.specs.Bytes.{legal}
 use Rattle.track_model.specs.Crc.{bits, number_in, row_of, invert, reduced, divided, remainder, crc}
-use Rattle.track_model.specs.Writing.{address_field}
 
 byte_00_after_0 : legal false (0x00 ∷ []) ≡ 0xAAAA ∷ []
 unfolding legal number

@@ -1,10 +1,8 @@
 -- The two tables against the rule of cells, entry by entry.
 use Rattle.std.proofs.Common.{◌≡◌, ℕ, ◌+◌, ◌*◌, ◌/◌, ◌%◌, ◌^◌, ◌<◌, Bool, true, false, eqb, [], ◌∷◌, get_or, refl, sym, ap, ◌∙◌, arith}
-use Rattle.std.specs.Int.Bits.{bit_and, bit_or}
-use Rattle.std.proofs.lemmas.Bool.{agree_below_at, eqb-true}
-use Rattle.std.proofs.lemmas.Nat.{and_mask, or_shifted}
+use Rattle.track_model.proofs.Common.{bit_and, bit_or, agree_below_at, eqb-true, and_mask, or_shifted, byte_at, legal_cell}
 use Rattle.track_model.specs.Cells.{number}
-use Rattle.track_model.specs.Bytes.{byte_at, legal_cell, legal}
+use Rattle.track_model.specs.Bytes.{legal}
 use Rattle.track_model.specs.declared.tables.TheConstants.{CELLS, DATA_CELLS}
 
 -- the word of a byte after a bit

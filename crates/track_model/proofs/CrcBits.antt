@@ -1,10 +1,6 @@
 -- Numbers and the rows of their bits.
 use Rattle.std.proofs.Common.{◌≡◌, ℕ, zero, suc, ◌+◌, ◌-◌, ◌*◌, ◌/◌, ◌%◌, ◌^◌, ◌<◌, ◌≤◌, Bool, true, false, not, cond, eqb, List, [], ◌∷◌, ◌++◌, length, refl, sym, ◌∙◌, ap, arith}
-use Rattle.std.proofs.Math.Nat.{mod-eq_of_lt}
-use Rattle.std.specs.Int.{bit_at}
-use Rattle.std.specs.Int.Bits.{bit_xor}
-use Rattle.std.proofs.lemmas.Nat.{pow-add, mod-pow-add, shr-shr}
-use Rattle.std.proofs.lemmas.Nat.Bits.{bit_at_xor, bit_at_cat_low, bit_at_cat_high, bit_at-lt, bit_at_lowest}
+use Rattle.track_model.proofs.Common.{mod-eq_of_lt, bit_at, bit_xor, pow-add, mod-pow-add, shr-shr, bit_at_xor, bit_at_cat_low, bit_at_cat_high, bit_at-lt, bit_at_lowest}
 use Rattle.track_model.specs.Crc.{bits, number_in, invert}
 
 -- ---- numbers and their bits
@@ -59,9 +55,8 @@ bits-number_in (false ∷ row) =
     ap (bits (suc (length row))) e ∙ bits-cat (length row) 0 (number_in row) (omega arith) (number_in_below row) ∙ ap (λ r. false ∷ r) (bits-number_in row)
 
 digit : (d p : ℕ) → d < 2 → cond (eqb d 1) p 0 ≡ d * p
-digit zero p h = omega arith
-digit (suc zero) p h = omega arith
 digit (suc (suc d)) p h = absurd (omega arith)
+digit _ p h = omega arith
 
 number_in-bits : (n x : ℕ) → number_in (bits n x) ≡ x % 2 ^ n
 unfolding bits number_in
@@ -93,12 +88,9 @@ bits-append (suc k) n (suc m) x e =
     cc
 
 odd : (d e : ℕ) → d < 2 → e < 2 → cond (eqb d 1) (not (eqb e 1)) (eqb e 1) ≡ eqb ((d + e) % 2) 1
-odd zero zero p q = refl
-odd zero (suc zero) p q = refl
-odd (suc zero) zero p q = refl
-odd (suc zero) (suc zero) p q = refl
 odd (suc (suc d)) e p q = absurd (omega arith)
 odd d (suc (suc e)) p q = absurd (omega arith)
+odd _ _ p q = refl
 
 -- one number's bits inverted by another's are those of their exclusive or
 pub invert-bits : (n a b : ℕ) → invert (bits n a) (bits n b) ≡ bits n (bit_xor a b)

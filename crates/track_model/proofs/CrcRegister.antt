@@ -1,6 +1,7 @@
 -- The division as a register of sixteen bits, which is the same whatever follows.
 use Rattle.std.proofs.Common.{◌≡◌, ℕ, zero, suc, ◌-◌, ◌≤◌, Bool, true, false, not, cond, List, [], ◌∷◌, ◌++◌, length, replicate, refl, sym, ◌∙◌, ap, arith, length-append, length-drop}
-use Rattle.track_model.specs.Crc.{bits, invert, polynomial, reduced, divided}
+use Rattle.track_model.proofs.Common.{polynomial}
+use Rattle.track_model.specs.Crc.{bits, invert, reduced, divided}
 
 -- ---- patterns
 
@@ -25,26 +26,22 @@ invert-invert (f ∷ p) (g ∷ q) (b ∷ row) e =
 
 pub length-invert : (p row : List Bool) → length (invert p row) ≡ length row
 unfolding invert
-length-invert [] row = refl
-length-invert (f ∷ p) [] = refl
 length-invert (f ∷ p) (b ∷ row) = ap suc (length-invert p row)
+length-invert _ _ = refl
 
 -- a last zero inverts nothing
 invert-append_false : (p row : List Bool) → invert (p ++ false ∷ []) row ≡ invert p row
 unfolding invert
-invert-append_false [] [] = refl
-invert-append_false [] (b ∷ row) = refl
-invert-append_false (f ∷ p) [] = refl
 invert-append_false (f ∷ p) (b ∷ row) = ap (λ r. cond f (not b) b ∷ r) (invert-append_false p row)
+invert-append_false _ _ = refl
 
 pub invert-append : (p q row tail : List Bool) → length p ≡ length row → invert (p ++ q) (row ++ tail) ≡ invert p row ++ invert q tail
 unfolding invert
 invert-append [] q [] tail e = refl
-invert-append [] q (b ∷ row) tail e = absurd (omega arith)
-invert-append (f ∷ p) q [] tail e = absurd (omega arith)
 invert-append (f ∷ p) q (b ∷ row) tail e =
     let same : length p ≡ length row = omega arith in
     ap (λ r. cond f (not b) b ∷ r) (invert-append p q row tail same)
+invert-append _ q _ tail e = absurd (omega arith)
 
 -- a pattern no longer than a row leaves what follows the row
 pub invert_front : (p row tail : List Bool) → length p ≤ length row → invert p (row ++ tail) ≡ invert p row ++ tail
@@ -63,20 +60,18 @@ at_zero false = refl
 pub invert-zeros : (n : ℕ) (p : List Bool) → length p ≡ n → invert p (replicate n false) ≡ p
 unfolding invert
 invert-zeros zero [] e = refl
-invert-zeros zero (f ∷ p) e = absurd (omega arith)
-invert-zeros (suc n) [] e = absurd (omega arith)
 invert-zeros (suc n) (f ∷ p) e =
     let head = at_zero f in
     let same : length p ≡ n = omega arith in
     let rest = invert-zeros n p same in
     cc
+invert-zeros _ _ e = absurd (omega arith)
 
 -- a pattern of zeros inverts nothing
 pub zeros_invert : (n : ℕ) (row : List Bool) → invert (replicate n false) row ≡ row
 unfolding invert
-zeros_invert zero row = refl
-zeros_invert (suc n) [] = refl
 zeros_invert (suc n) (b ∷ row) = ap (λ r. b ∷ r) (zeros_invert n row)
+zeros_invert _ _ = refl
 
 -- ---- the register
 

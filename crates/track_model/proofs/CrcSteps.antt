@@ -1,9 +1,7 @@
 -- The CRC byte by byte.
 use Rattle.std.proofs.Common.{◌≡◌, ℕ, ◌+◌, ◌-◌, ◌*◌, ◌/◌, ◌%◌, ◌^◌, ◌<◌, ◌≤◌, Bool, true, false, List, [], ◌∷◌, ◌++◌, length, replicate, refl, sym, ◌∙◌, ap, subst, arith, length-append}
-use Rattle.std.specs.Int.Bits.{bit_xor}
-use Rattle.std.proofs.lemmas.List.{append-nil, length-replicate}
+use Rattle.track_model.proofs.Common.{bit_xor, append-nil, length-replicate, xor_lt, xor_comm}
 use Rattle.std.proofs.lemmas.Grind.{flat_map-append}
-use Rattle.std.proofs.lemmas.Nat.{xor_lt, xor_comm}
 use Rattle.track_model.specs.Crc.{bits, number_in, row_of, invert, reduced, divided, remainder, crc, crc_from}
 use Rattle.track_model.proofs.CrcRegister.{length-invert, invert-append, invert_front, invert-zeros, zeros_invert, after, length-after, after-append, divided_row, zeros, divided-zeros, sixteen_left}
 use Rattle.track_model.proofs.CrcBits.{length-bits, bits_low, number_in_below, bits-number_in, number_in-bits_below, bits-append, invert-bits}

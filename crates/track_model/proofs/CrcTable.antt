@@ -1,9 +1,7 @@
 -- The table against the division of its rows, and a step by the table.
 use Rattle.std.proofs.Common.{◌≡◌, ℕ, ◌*◌, ◌/◌, ◌%◌, ◌^◌, ◌<◌, ◌≤◌, Bool, true, eqb, List, [], ◌∷◌, ◌++◌, length, get_or, refl, sym, ap, ◌∙◌, arith}
-use Rattle.std.specs.Int.Bits.{bit_xor}
-use Rattle.std.proofs.lemmas.Bool.{agree_below_at, eqb-true}
-use Rattle.std.proofs.lemmas.Nat.{xor_of_8, xor_of_16}
-use Rattle.track_model.specs.Crc.{bits, number_in, row_of, invert, reduced, divided, remainder, crc, crc_from}
+use Rattle.track_model.proofs.Common.{bit_xor, agree_below_at, eqb-true, xor_of_8, xor_of_16, crc}
+use Rattle.track_model.specs.Crc.{bits, number_in, row_of, invert, reduced, divided, remainder, crc_from}
 use Rattle.track_model.proofs.CrcSteps.{crc_from_below, crc_from_none, crc-append, crc_from-cons}
 use Rattle.track_model.specs.declared.crc.TheConstants.{TABLE}
 

@@ -1,19 +1,7 @@
 -- A cut of a window leaves each other sector of a Parted track as it was.
 use Rattle.std.proofs.Common.{◌≡◌, ◌↔◌, ℕ, ◌+◌, ◌-◌, ◌*◌, ◌/◌, ◌≤◌, Bool, List, length, take, drop, sym, ap, subst, ◌∙◌, arith, inl, inr}
-use Rattle.std.proofs.lemmas.Bool.{cases_lt, cases_order}
+use Rattle.track_model.proofs.Common.{cases_lt, cases_order, length-take, take-append-drop, Chrn, Look, Found, cells_at, IsInside, byte_at, IsAddressMark, IsAddressAt, content_size, content_at, LookAt, IsPlain, window_word, window_place, window_words, window_end, cut_of, span_cells, HasSizes, HasSpans, HasCleanGaps, HasCleanEnds, IsSpaced, IsRegular}
 use Rattle.std.proofs.Math.Seq.{take-length}
-use Rattle.std.proofs.lemmas.List.{length-take, take-append-drop}
-use Rattle.flop_base.specs.declared.key.Chrn.{Chrn}
-use Rattle.track_model.specs.declared.Look.{Look}
-use Rattle.track_model.specs.declared.Look.TheVariants.{Found}
-use Rattle.track_model.specs.Cells.{cells_at, IsInside}
-use Rattle.track_model.specs.Bytes.{byte_at}
-use Rattle.track_model.specs.Marks.{IsAddressMark}
-use Rattle.track_model.specs.Fields.{IsAddressAt, content_size, content_at}
-use Rattle.track_model.specs.Looks.{LookAt}
-use Rattle.track_model.specs.Sectors.{IsPlain}
-use Rattle.track_model.specs.Windows.{window_word, window_place, window_words, window_end, cut_of}
-use Rattle.track_model.specs.Regular.{span_cells, HasSizes, HasSpans, HasCleanGaps, HasCleanEnds, IsSpaced, IsRegular}
 use Rattle.track_model.proofs.Unique.{one_key}
 use Rattle.track_model.proofs.Frames.{AreSame, same_back, same_cells_at, same_byte_at, same_bytes_at, same_run, same_address_mark, same_address_at}
 use Rattle.track_model.proofs.Parted.{IsParted}

@@ -1,14 +1,8 @@
 -- A window of the byte 4E alone.
 use Rattle.std.proofs.Common.{◌≡◌, ℕ, zero, suc, ◌+◌, ◌-◌, ◌*◌, ◌≤◌, false, List, [], ◌∷◌, ◌++◌, length, get_or, replicate, refl, sym, ap, ◌∙◌, arith, inl, inr}
-use Rattle.std.proofs.lemmas.Bool.{cases_lt}
-use Rattle.std.proofs.lemmas.List.{length-replicate, get_or-replicate}
-use Rattle.flop_base.specs.declared.key.Chrn.{Chrn}
-use Rattle.track_model.specs.declared.Look.TheVariants.{NoData}
-use Rattle.track_model.specs.Cells.{cells_at, number}
-use Rattle.track_model.specs.Bytes.{byte_at, legal}
-use Rattle.track_model.specs.Fields.{IsAddressAt}
-use Rattle.track_model.specs.Looks.{LookAt}
-use Rattle.track_model.specs.Windows.{window_place, window_words, window_word, empty_window, cut_of}
+use Rattle.track_model.proofs.Common.{cases_lt, length-replicate, get_or-replicate, Chrn, NoData, cells_at, byte_at, IsAddressAt, LookAt, window_place, window_words, window_word, empty_window, cut_of}
+use Rattle.track_model.specs.Cells.{number}
+use Rattle.track_model.specs.Bytes.{legal}
 use Rattle.track_model.proofs.Sizes.{content_size_least}
 use Rattle.track_model.proofs.Legals.{legal-nil, legal-cons, no_mark, byte_at-legal}
 use Rattle.track_model.proofs.Cuts.{IsOverlay, cells_put, mark_in, no_mark_before}

@@ -1,13 +1,6 @@
 -- Tracks that are the same under a stretch have the same cells, bytes, marks and fields there.
 use Rattle.std.proofs.Common.{◌≡◌, ℕ, ◌+◌, ◌-◌, ◌*◌, ◌/◌, ◌%◌, ◌<◌, ◌≤◌, Bool, List, ◌∷◌, length, get_or, sym, ap, subst, ◌∙◌, arith}
-use Rattle.std.proofs.lemmas.List.{ext_get_or}
-use Rattle.std.proofs.lemmas.List.FromFn.{length-map-range_with_len, get_or-map-range_with_len}
-use Rattle.std.specs.Int.{bit_at}
-use Rattle.flop_base.specs.declared.key.Chrn.{Chrn}
-use Rattle.track_model.specs.Cells.{cell, cells_at}
-use Rattle.track_model.specs.Bytes.{byte_at, bytes_at}
-use Rattle.track_model.specs.Marks.{IsSound, IsRun, IsAddressMark, IsDataRun}
-use Rattle.track_model.specs.Fields.{HasCheck, after_marks, IsAddressAt, IsDataMark, content_size, data_cells, IsWhole}
+use Rattle.track_model.proofs.Common.{ext_get_or, length-map-range_with_len, get_or-map-range_with_len, bit_at, Chrn, cell, cells_at, byte_at, bytes_at, IsSound, IsRun, IsAddressMark, IsDataRun, HasCheck, after_marks, IsAddressAt, IsDataMark, content_size, data_cells, IsWhole}
 use Rattle.track_model.proofs.Numbers.{number_ext}
 
 -- two tracks of one length have the same words under the stretch

@@ -1,21 +1,6 @@
 -- Cuts of the three kinds of windows, on Parted and on Spaced tracks.
 use Rattle.std.proofs.Common.{◌≡◌, ◌≢◌, ◌↔◌, ℕ, ◌+◌, ◌^◌, ◌<◌, ◌≤◌, ◌⊎◌, Bool, List, ◌∷◌, ◌++◌, length, get_or, max, refl, ap, lit<, arith, inl, inr}
-use Rattle.std.specs.Int.Bits.{bit_xor}
-use Rattle.std.proofs.lemmas.Nat.{xor_of_16}
-use Rattle.std.proofs.lemmas.Nat.Bits.{bit_at_xor, bit_at-lt}
-use Rattle.std.proofs.lemmas.List.{length-append, length-take}
-use Rattle.std.specs.Int.{bit_at}
-use Rattle.flop_base.specs.declared.key.Chrn.{Chrn}
-use Rattle.track_model.specs.declared.Look.{Look}
-use Rattle.track_model.specs.declared.Look.TheVariants.{Found, NoData, BadCrc}
-use Rattle.track_model.specs.Crc.{crc}
-use Rattle.track_model.specs.Marks.{data_byte, IsAddressMark}
-use Rattle.track_model.specs.Fields.{after_marks, IsAddressAt, content_at}
-use Rattle.track_model.specs.Looks.{LookAt}
-use Rattle.track_model.specs.Writing.{check_bytes, window}
-use Rattle.track_model.specs.Windows.{window_word, window_place, window_words, IsTidy, cut_of, damaged_window, empty_window, IsFieldFor}
-use Rattle.track_model.specs.Regular.{IsSpaced}
-use Rattle.track_model.specs.Kept.{KeepsOthers}
+use Rattle.track_model.proofs.Common.{bit_xor, xor_of_16, bit_at_xor, bit_at-lt, length-append, length-take, bit_at, Chrn, Look, Found, NoData, BadCrc, crc, data_byte, IsAddressMark, after_marks, IsAddressAt, content_at, LookAt, check_bytes, window, window_word, window_place, window_words, IsTidy, cut_of, damaged_window, empty_window, IsFieldFor, IsSpaced, KeepsOthers}
 use Rattle.track_model.proofs.CrcSteps.{crc_below}
 use Rattle.track_model.proofs.Splices.{longer_cut}
 use Rattle.track_model.proofs.WindowMarks.{marked, length-marked}

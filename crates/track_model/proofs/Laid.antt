@@ -1,10 +1,6 @@
 -- What is Laid: a regular Lay, and a Laid track with one whole window more.
 use Rattle.std.proofs.Common.{◌≡◌, ◌↔◌, ℕ, Bool, List, [], ◌∷◌, ◌++◌, refl, sym, subst}
-use Rattle.flop_base.specs.declared.key.Chrn.{Chrn}
-use Rattle.track_model.specs.Fields.{IsAddressAt}
-use Rattle.track_model.specs.Windows.{HasFieldFor}
-use Rattle.track_model.specs.Regular.{IsRegular}
-use Rattle.track_model.specs.Laid.{IsRegularLay, FieldWrite, with_window, ComesBy, IsLaid}
+use Rattle.track_model.proofs.Common.{Chrn, IsAddressAt, HasFieldFor, IsRegular, IsRegularLay, FieldWrite, with_window, ComesBy, IsLaid}
 use Rattle.track_model.proofs.Aligned.{whole_aligned, whole_keeps}
 use Rattle.track_model.proofs.Seams.{IsAligned, unstopped}
 

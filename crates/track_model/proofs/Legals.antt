@@ -1,12 +1,7 @@
 -- The words of legal cells.
 use Rattle.std.proofs.Common.{◌≡◌, ℕ, zero, suc, ◌+◌, ◌-◌, ◌*◌, ◌/◌, ◌%◌, ◌^◌, ◌<◌, ◌≤◌, Bool, true, false, cond, eqb, List, [], ◌∷◌, ◌++◌, length, get_or, refl, sym, ap, ◌∙◌, lit<, arith, inl, inr}
-use Rattle.std.proofs.lemmas.Bool.{eq-eqb, ne_eqb, cond-true, cond-false, cases_eq}
-use Rattle.std.proofs.lemmas.List.{ext_get_or, get_or_append_left, get_or-append_right, length-append}
-use Rattle.std.proofs.lemmas.List.FromFn.{length-map-range_with_len, get_or-map-range_with_len}
-use Rattle.std.proofs.lemmas.Nat.Bits.{bit_at-lt, bit_at_lowest}
-use Rattle.std.specs.Int.{bit_at}
-use Rattle.track_model.specs.Cells.{cell, cells_at, number}
-use Rattle.track_model.specs.Bytes.{byte_at, bit_of, bit_before, last_bit, clock_between, legal_cell, legal}
+use Rattle.track_model.proofs.Common.{eq-eqb, ne_eqb, cond-true, cond-false, cases_eq, ext_get_or, get_or_append_left, get_or-append_right, length-append, length-map-range_with_len, get_or-map-range_with_len, bit_at-lt, bit_at_lowest, bit_at, cell, cells_at, number, byte_at, bit_of, bit_before, last_bit, clock_between, legal_cell}
+use Rattle.track_model.specs.Bytes.{legal}
 use Rattle.track_model.proofs.Numbers.{number_ext, number_from_bits, bit_at-number}
 use Rattle.track_model.proofs.Places.{cell_in, bit_at-cells_at}
 
@@ -113,9 +108,8 @@ bit_before-front last byte rest other i h =
     ap (λ b. cond (eqb i 0) (cond last 1 0) b) (bit_of-front byte rest other (i - 1) (omega arith))
 
 as_digit : (b : ℕ) → b < 2 → b ≡ cond (eqb b 1) 1 0
-as_digit zero h = refl
-as_digit (suc zero) h = refl
 as_digit (suc (suc b)) h = absurd (omega arith)
+as_digit _ h = refl
 
 bit_before-back : (last : Bool) (byte : ℕ) (rest : List ℕ) (i m : ℕ) → i ≡ 8 + m → bit_before last (byte ∷ rest) i ≡ bit_before (last_bit byte) rest m
 bit_before-back last byte rest i zero e =

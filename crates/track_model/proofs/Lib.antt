@@ -1,3 +1,4 @@
+mod Common
 pub mod Aligned
 mod ByteRows
 mod CrcBits

@@ -1,8 +1,6 @@
 -- A number and its binary digits.
 use Rattle.std.proofs.Common.{◌≡◌, ℕ, zero, suc, ◌+◌, ◌-◌, ◌*◌, ◌/◌, ◌%◌, ◌^◌, ◌<◌, ap, ◌∙◌, refl, arith}
-use Rattle.std.proofs.Math.Nat.{pow-suc}
-use Rattle.std.proofs.lemmas.Nat.Bits.{bit_at-suc, bit_at_lowest, bit_at-lt, same_from_bits_below}
-use Rattle.std.specs.Int.{bit_at}
+use Rattle.track_model.proofs.Common.{pow-suc, bit_at-suc, bit_at_lowest, bit_at-lt, same_from_bits_below, bit_at}
 use Rattle.track_model.specs.Cells.{number}
 
 -- the digits are 0 or 1

@@ -1,16 +1,6 @@
 -- The data field that a whole window puts on a track.
 use Rattle.std.proofs.Common.{◌≡◌, ℕ, suc, ◌+◌, ◌-◌, ◌*◌, ◌/◌, ◌^◌, ◌<◌, ◌≤◌, Bool, true, false, List, ◌∷◌, length, get_or, take, refl, sym, ap, ◌∙◌, lit<, arith, inl, inr}
-use Rattle.std.proofs.lemmas.Bool.{cases_lt, cases_eq}
-use Rattle.std.proofs.lemmas.List.{get_or-append-add, length-take}
-use Rattle.std.specs.Int.{bit_at}
-use Rattle.flop_base.specs.declared.key.Chrn.{Chrn}
-use Rattle.track_model.specs.Cells.{cell, cells_at}
-use Rattle.track_model.specs.Bytes.{byte_at, legal}
-use Rattle.track_model.specs.Marks.{data_byte, IsSound, IsRun}
-use Rattle.track_model.specs.Fields.{IsAddressAt, content_size}
-use Rattle.track_model.specs.Looks.{HasDataField}
-use Rattle.track_model.specs.Writing.{sync_and_marks}
-use Rattle.track_model.specs.Windows.{window_word, window_place, window_words, window_end, cut_of}
+use Rattle.track_model.proofs.Common.{cases_lt, cases_eq, get_or-append-add, length-take, bit_at, Chrn, cell, cells_at, byte_at, legal, data_byte, IsSound, IsRun, IsAddressAt, content_size, HasDataField, sync_and_marks, window_word, window_place, window_words, window_end, cut_of}
 use Rattle.track_model.proofs.Places.{cell_in}
 use Rattle.track_model.proofs.Legals.{no_gap}
 use Rattle.track_model.proofs.Written.{length-sync_and_marks}

@@ -1,16 +1,6 @@
 -- What a look finds after a whole window was written.
 use Rattle.std.proofs.Common.{◌≡◌, ℕ, ◌+◌, ◌*◌, ◌/◌, ◌%◌, ◌^◌, ◌<◌, Bool, List, ◌∷◌, ◌++◌, length, get_or, refl, sym, ap, ◌∙◌, arith}
-use Rattle.std.proofs.lemmas.List.{get_or_append_left, get_or-append-add, length-append}
-use Rattle.std.proofs.lemmas.List.FromFn.{fill_by_all}
-use Rattle.flop_base.specs.declared.key.Chrn.{Chrn}
-use Rattle.track_model.specs.declared.Look.TheVariants.{Found, BadCrc}
-use Rattle.track_model.specs.Bytes.{byte_at}
-use Rattle.track_model.specs.Crc.{crc}
-use Rattle.track_model.specs.Marks.{data_byte}
-use Rattle.track_model.specs.Fields.{after_marks, IsAddressAt, content_size, data_cells, content_at}
-use Rattle.track_model.specs.Looks.{HasDataField, LookAt}
-use Rattle.track_model.specs.Writing.{check_bytes}
-use Rattle.track_model.specs.Windows.{window_place, cut_of}
+use Rattle.track_model.proofs.Common.{get_or_append_left, get_or-append-add, length-append, fill_by_all, Chrn, Found, BadCrc, byte_at, crc, data_byte, after_marks, IsAddressAt, content_size, data_cells, content_at, HasDataField, LookAt, check_bytes, window_place, cut_of}
 use Rattle.track_model.proofs.WindowMarks.{marked}
 use Rattle.track_model.proofs.OwnField.{own_field, own_rest, own_mark, own_sound}
 use Rattle.track_model.proofs.Parted.{IsParted}

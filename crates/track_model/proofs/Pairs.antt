@@ -1,8 +1,6 @@
 -- Sixteen cells out of two words.
 use Rattle.std.proofs.Common.{◌≡◌, ℕ, ◌+◌, ◌-◌, ◌*◌, ◌/◌, ◌%◌, ◌^◌, ◌<◌, List, get_or, ap, ◌∙◌, arith}
-use Rattle.std.specs.Int.Bits.{bit_and, bit_or}
-use Rattle.std.proofs.lemmas.Nat.{and_mask, or_shifted}
-use Rattle.track_model.specs.Cells.{cells_at}
+use Rattle.track_model.proofs.Common.{bit_and, bit_or, and_mask, or_shifted, cells_at}
 use Rattle.track_model.proofs.Places.{cells_at-pair}
 
 pub cells_of_pair : (track : List ℕ) (p a b : ℕ) → a ≡ get_or track (p / 16) 0 → b ≡ get_or track (p / 16 + 1) 0 → a < 2 ^ 16 → b < 2 ^ 16 → bit_and (bit_or (a * 65536 % 4294967296) b / 2 ^ (16 - p % 16)) 65535 ≡ cells_at track p

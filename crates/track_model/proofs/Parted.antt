@@ -1,11 +1,6 @@
 -- Parted tracks: their sectors may stand closer together than on Spaced ones.
 use Rattle.std.proofs.Common.{ℕ, ◌+◌, ◌<◌, ◌≤◌, List, arith}
-use Rattle.flop_base.specs.declared.key.Chrn.{Chrn}
-use Rattle.track_model.specs.Cells.{IsInside}
-use Rattle.track_model.specs.Fields.{IsAddressAt}
-use Rattle.track_model.specs.Sectors.{IsPlain}
-use Rattle.track_model.specs.Windows.{window_place, window_end}
-use Rattle.track_model.specs.Regular.{span_cells, HasSizes, HasCleanGaps, HasCleanEnds, IsSpaced}
+use Rattle.track_model.proofs.Common.{Chrn, IsInside, IsAddressAt, IsPlain, window_place, window_end, span_cells, HasSizes, HasCleanGaps, HasCleanEnds, IsSpaced}
 
 -- Parted: a write over one data field reaches nothing of another sector. It ends before the next address field, and no
 -- sector's data are looked for as far as the next window.

@@ -1,13 +1,6 @@
 -- Cells and bytes of a track, by the words that they stand in.
 use Rattle.std.proofs.Common.{◌≡◌, ℕ, zero, suc, ◌+◌, ◌-◌, ◌*◌, ◌/◌, ◌%◌, ◌^◌, ◌<◌, ◌≤◌, List, [], ◌∷◌, ◌++◌, get_or, sym, ap, ◌∙◌, arith, inl, inr}
-use Rattle.std.proofs.lemmas.Bool.{cases_lt}
-use Rattle.std.proofs.lemmas.List.FromFn.{map-range_with_len_more, length-map-range_with_len, get_or-map-range_with_len, fill_by_all}
-use Rattle.std.proofs.lemmas.Nat.{shr-shr}
-use Rattle.std.proofs.lemmas.Nat.Bits.{bit_at-lt, bit_at_cat_low, bit_at_cat_high}
-use Rattle.std.specs.Int.{bit_at}
-use Rattle.track_model.specs.Cells.{cell, cells_at}
-use Rattle.track_model.specs.Bytes.{byte_at, bytes_at}
-use Rattle.track_model.specs.Marks.{TouchesNoZero}
+use Rattle.track_model.proofs.Common.{cases_lt, map-range_with_len_more, length-map-range_with_len, get_or-map-range_with_len, fill_by_all, shr-shr, bit_at-lt, bit_at_cat_low, bit_at_cat_high, bit_at, cell, cells_at, byte_at, bytes_at, TouchesNoZero}
 use Rattle.track_model.proofs.Numbers.{number_ext, number_from_bits, bit_at-number}
 
 -- the cells of word k

@@ -1,15 +1,9 @@
 -- On a recorded track, every run of marks A1 is three words 4489 at word boundaries.
 -- A word may be a seam: its byte was recorded after another bit than the one that now stands before it.
 use Rattle.std.proofs.Common.{◌≡◌, ℕ, zero, suc, ◌+◌, ◌-◌, ◌*◌, ◌/◌, ◌%◌, ◌^◌, ◌<◌, ◌≤◌, Bool, true, false, cond, eqb, List, [], ◌∷◌, length, get_or, refl, sym, ap, ◌∙◌, ◌⊎◌, lit<, lit≤, arith, inl, inr}
-use Rattle.std.proofs.lemmas.Bool.{agree_below_at, eq-eqb, eqb-true, ne_eqb, cond-true, cases_eq, cases_lt}
-use Rattle.std.proofs.lemmas.List.{get_or_past}
-use Rattle.std.proofs.lemmas.Nat.Bits.{bit_at_lowest, bit_at-zero}
-use Rattle.std.specs.Int.{bit_at}
+use Rattle.track_model.proofs.Common.{agree_below_at, eq-eqb, eqb-true, ne_eqb, cond-true, cases_eq, cases_lt, get_or_past, bit_at_lowest, bit_at-zero, bit_at, cell, cells_at, byte_at, bit_before, last_bit, legal, IsRun}
 use Rattle.track_model.specs.declared.symbol.Symbol.{Symbol}
 use Rattle.track_model.specs.declared.symbol.Symbol.TheVariants.{Byte, Key, Mark}
-use Rattle.track_model.specs.Cells.{cell, cells_at}
-use Rattle.track_model.specs.Bytes.{byte_at, bit_before, last_bit, legal}
-use Rattle.track_model.specs.Marks.{IsRun}
 use Rattle.track_model.specs.Layouts.{word_after, symbol_bit, symbol_byte, recorded}
 use Rattle.track_model.proofs.Numbers.{number_ext, number_from_bits}
 use Rattle.track_model.proofs.Places.{cell_in, cells_at-word, bit_at-cells_at}

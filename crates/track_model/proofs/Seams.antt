@@ -1,15 +1,7 @@
 -- Aligned tracks and where they have seams. No run has its lost clocks in seams, not even after one more write that
 -- stopped.
 use Rattle.std.proofs.Common.{◌≡◌, ℕ, ◌+◌, ◌*◌, ◌<◌, ◌≤◌, Bool, false, List, refl, sym, ap, subst, ◌∙◌, ◌⊎◌, lit<, arith, inl, inr}
-use Rattle.std.proofs.lemmas.Bool.{cases_lt, cases_order}
-use Rattle.std.specs.Int.{bit_at}
-use Rattle.flop_base.specs.declared.key.Chrn.{Chrn}
-use Rattle.track_model.specs.Cells.{cell}
-use Rattle.track_model.specs.Bytes.{byte_at}
-use Rattle.track_model.specs.Marks.{data_byte}
-use Rattle.track_model.specs.Fields.{IsAddressAt}
-use Rattle.track_model.specs.Windows.{window_word, window_words}
-use Rattle.track_model.specs.Regular.{IsSpaced}
+use Rattle.track_model.proofs.Common.{cases_lt, cases_order, bit_at, Chrn, cell, byte_at, data_byte, IsAddressAt, window_word, window_words, IsSpaced}
 use Rattle.track_model.proofs.Unique.{one_key}
 use Rattle.track_model.proofs.Numbers.{bit_at-number}
 use Rattle.track_model.proofs.Places.{cell-lt}

@@ -1,11 +1,6 @@
 -- What a successful look says of sectors, and what follows from Lone and Plain.
 use Rattle.std.proofs.Common.{◌≡◌, ℕ, ◌+◌, ◌*◌, ◌≤◌, Bool, List, length, refl, subst, sym, arith}
-use Rattle.flop_base.specs.declared.key.Chrn.{Chrn}
-use Rattle.track_model.specs.declared.Look.TheVariants.{Found}
-use Rattle.track_model.specs.Marks.{IsAddressMark}
-use Rattle.track_model.specs.Fields.{IsDataMark, IsSizeCode, data_cells, content_at, content_size, IsWhole}
-use Rattle.track_model.specs.Looks.{LookAt, LookFor}
-use Rattle.track_model.specs.Sectors.{IsSector, IsUnder, IsLone, IsPlain, IsClear}
+use Rattle.track_model.proofs.Common.{Chrn, Found, IsAddressMark, IsDataMark, IsSizeCode, data_cells, content_at, content_size, IsWhole, LookAt, LookFor, IsSector, IsUnder, IsLone, IsPlain, IsClear}
 
 -- the content that was found, and its CRC, are inside the track
 pub found_inside : (track : List ℕ) (key : Chrn) (deleted : Bool) (place : ℕ) → LookFor track key (Found deleted place) → place + 16 * (content_size key.n + 2) ≤ 16 * length track

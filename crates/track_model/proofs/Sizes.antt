@@ -1,6 +1,5 @@
 use Rattle.std.proofs.Common.{ℕ, ◌<◌, ◌≤◌, ◌^◌, lit<, arith}
-use Rattle.std.proofs.Math.Nat.{pow-le-pow_right}
-use Rattle.track_model.specs.Fields.{content_size}
+use Rattle.track_model.proofs.Common.{pow-le-pow_right, content_size}
 
 -- the largest sector has 8,192 bytes
 pub content_size_bound : (n : ℕ) → n ≤ 6 → content_size n ≤ 8192

@@ -1,10 +1,6 @@
 -- The look at an address field is settled within its span.
 use Rattle.std.proofs.Common.{ℕ, ◌+◌, Bool, List, subst, arith}
-use Rattle.track_model.specs.declared.Look.{Look}
-use Rattle.track_model.specs.declared.Look.TheVariants.{Found, NoMark, NoSector, NoData, BadCrc}
-use Rattle.track_model.specs.Fields.{IsDataMark, data_cells, content_at, IsWhole}
-use Rattle.track_model.specs.Looks.{IsFirstDataMark, HasDataField, IsIntact, LookAt}
-use Rattle.track_model.specs.Regular.{span_cells}
+use Rattle.track_model.proofs.Common.{Look, Found, NoData, BadCrc, IsDataMark, data_cells, content_at, IsWhole, IsFirstDataMark, HasDataField, IsIntact, LookAt, span_cells}
 use Rattle.track_model.proofs.Frames.{AreSame, same_back, same_within, same_data_mark, same_whole}
 
 module _ (track other : List ℕ) (a n : ℕ) (s : AreSame track other a (span_cells n)) where
@@ -52,5 +48,4 @@ same_look track other a n BadCrc s x =
     (x.0, (x.1.0, field), λ whole. x.2 (same_intact other track a n back x.0 x.1.0 field whole))
 same_look track other a n NoData s x =
     λ q deleted field. x q deleted (same_field other track a n (same_back track other a (span_cells n) s) q deleted field)
-same_look track other a n NoSector s x = absurd x
-same_look track other a n NoMark s x = absurd x
+same_look track other a n _ s x = absurd x

@@ -1,10 +1,6 @@
 -- A track with some of its words replaced.
 use Rattle.std.proofs.Common.{◌≡◌, ℕ, ◌+◌, ◌-◌, ◌*◌, ◌/◌, ◌%◌, ◌<◌, ◌≤◌, List, ◌++◌, length, get_or, take, drop, max, sym, ap, ◌∙◌, arith, inl, inr}
-use Rattle.std.proofs.lemmas.Bool.{cases_lt}
-use Rattle.std.proofs.lemmas.List.{ext_get_or, get_or_append_left, get_or-append-add, length-append, length-take, length-drop, get_or-take, get_or-drop}
-use Rattle.std.specs.Int.{bit_at}
-use Rattle.track_model.specs.Cells.{cell, cells_at}
-use Rattle.track_model.specs.Bytes.{byte_at}
+use Rattle.track_model.proofs.Common.{cases_lt, ext_get_or, get_or_append_left, get_or-append-add, length-append, length-take, length-drop, get_or-take, get_or-drop, bit_at, cell, cells_at, byte_at}
 use Rattle.flop_base.specs.Lists.{with_items}
 use Rattle.track_model.proofs.Numbers.{number_ext}
 use Rattle.track_model.proofs.Frames.{AreSame}

@@ -1,11 +1,6 @@
 -- Torn tracks: each write leaves an Aligned track, with the same address fields.
 use Rattle.std.proofs.Common.{◌≡◌, ◌≢◌, ◌↔◌, ℕ, ◌≤◌, cond, eqb, List, [], ◌∷◌, ◌++◌, length, sym, ap, subst, ◌∙◌, ◌⊎◌, refl, arith, inl, inr}
-use Rattle.std.proofs.lemmas.Bool.{cases_eq, eq-eqb, ne_eqb, cond-true, cond-false}
-use Rattle.flop_base.specs.declared.key.Chrn.{Chrn}
-use Rattle.track_model.specs.Fields.{IsAddressAt}
-use Rattle.track_model.specs.Writing.{window}
-use Rattle.track_model.specs.Regular.{IsRegular}
-use Rattle.track_model.specs.Laid.{FieldWrite, with_window, ComesBy}
+use Rattle.track_model.proofs.Common.{cases_eq, eq-eqb, ne_eqb, cond-true, cond-false, Chrn, IsAddressAt, window, IsRegular, FieldWrite, with_window, ComesBy}
 use Rattle.track_model.specs.Torn.{TornWrite, words_of, stops_after, stops_of, with_torn, IsOver, ComesTorn, IsTorn}
 use Rattle.track_model.proofs.Seams.{IsAligned, unstopped}
 use Rattle.track_model.proofs.Aligned.{room, cut_keeps, cut_aligned, whole_aligned}

@@ -1,13 +1,6 @@
 -- What is found on a track is unique.
 use Rattle.std.proofs.Common.{◌≡◌, ℕ, ◌+◌, Bool, true, false, List, refl, sym, ap, subst, ◌∙◌, arith, inl, inr}
-use Rattle.std.proofs.lemmas.Bool.{cases_order}
-use Rattle.flop_base.specs.declared.key.Chrn.{Chrn}
-use Rattle.track_model.specs.declared.Look.{Look}
-use Rattle.track_model.specs.declared.Look.TheVariants.{Found, NoMark, NoSector, NoData, BadCrc}
-use Rattle.track_model.specs.Bytes.{byte_at}
-use Rattle.track_model.specs.Marks.{data_byte}
-use Rattle.track_model.specs.Fields.{IsAddressAt, IsDataMark}
-use Rattle.track_model.specs.Looks.{IsFirstDataMark, IsIntact, LookAt, IsFirstAddress, LookFirst, LookFor}
+use Rattle.track_model.proofs.Common.{cases_order, Chrn, Look, Found, NoMark, NoSector, NoData, BadCrc, byte_at, data_byte, IsAddressAt, IsDataMark, IsFirstDataMark, IsIntact, LookAt, IsFirstAddress, LookFirst, LookFor}
 
 made : ℕ → ℕ → ℕ → ℕ → Chrn
 made c h r n = record { c = c; h = h; r = r; n = n }
@@ -23,10 +16,9 @@ one_key track p a b x y =
     ap (λ v. made v a.h a.r a.n) c ∙ ap (λ v. made b.c v a.r a.n) h ∙ ap (λ v. made b.c b.h v a.n) r ∙ ap (λ v. made b.c b.h b.r v) n
 
 one_data_byte : (a b : Bool) → data_byte a ≡ data_byte b → a ≡ b
-one_data_byte true true e = refl
 one_data_byte true false e = absurd (omega arith)
 one_data_byte false true e = absurd (omega arith)
-one_data_byte false false e = refl
+one_data_byte _ _ e = refl
 
 -- the first data mark stands in one place
 pub one_first : (track : List ℕ) (p q r : ℕ) (a b : Bool) → IsFirstDataMark track p q a → IsFirstDataMark track p r b → q ≡ r
@@ -64,12 +56,7 @@ one_look_at track p n BadCrc NoData x y = absurd (y x.0 x.1.0 x.1.1)
 one_look_at track p n BadCrc BadCrc x y = refl
 one_look_at track p n NoMark b x y = absurd x
 one_look_at track p n NoSector b x y = absurd x
-one_look_at track p n (Found a u) NoMark x y = absurd y
-one_look_at track p n (Found a u) NoSector x y = absurd y
-one_look_at track p n NoData NoMark x y = absurd y
-one_look_at track p n NoData NoSector x y = absurd y
-one_look_at track p n BadCrc NoMark x y = absurd y
-one_look_at track p n BadCrc NoSector x y = absurd y
+one_look_at track p n _ _ x y = absurd y
 
 one_address : (track : List ℕ) (key : Chrn) (p r : ℕ) → IsFirstAddress track key p → IsFirstAddress track key r → p ≡ r
 one_address track key p r x y =
@@ -87,7 +74,6 @@ first_looks track key a b x y =
 -- the look for a key has only one answer
 pub one_look_for : (track : List ℕ) (key : Chrn) (a b : Look) → LookFor track key a → LookFor track key b → a ≡ b
 one_look_for track key (Found a u) (Found b v) x y = first_looks track key (Found a u) (Found b v) x y
-one_look_for track key (Found a u) NoMark x y = absurd (y (x.0, x.1.address.mark))
 one_look_for track key (Found a u) NoSector x y = absurd (y.1 x.0 x.1.address)
 one_look_for track key (Found a u) NoData x y = first_looks track key (Found a u) NoData x y
 one_look_for track key (Found a u) BadCrc x y = first_looks track key (Found a u) BadCrc x y
@@ -102,12 +88,11 @@ one_look_for track key NoSector NoSector x y = refl
 one_look_for track key NoSector NoData x y = absurd (x.1 y.0 y.1.address)
 one_look_for track key NoSector BadCrc x y = absurd (x.1 y.0 y.1.address)
 one_look_for track key NoData (Found b v) x y = first_looks track key NoData (Found b v) x y
-one_look_for track key NoData NoMark x y = absurd (y (x.0, x.1.address.mark))
 one_look_for track key NoData NoSector x y = absurd (y.1 x.0 x.1.address)
 one_look_for track key NoData NoData x y = first_looks track key NoData NoData x y
 one_look_for track key NoData BadCrc x y = first_looks track key NoData BadCrc x y
 one_look_for track key BadCrc (Found b v) x y = first_looks track key BadCrc (Found b v) x y
-one_look_for track key BadCrc NoMark x y = absurd (y (x.0, x.1.address.mark))
 one_look_for track key BadCrc NoSector x y = absurd (y.1 x.0 x.1.address)
 one_look_for track key BadCrc NoData x y = first_looks track key BadCrc NoData x y
 one_look_for track key BadCrc BadCrc x y = first_looks track key BadCrc BadCrc x y
+one_look_for track key _ NoMark x y = absurd (y (x.0, x.1.address.mark))

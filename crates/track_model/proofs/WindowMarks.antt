@@ -1,12 +1,8 @@
 -- Where marks A1 stand in the words of a field: in the three words of its run, and nowhere between or beside them.
 use Rattle.std.proofs.Common.{◌≡◌, ℕ, ◌+◌, ◌-◌, ◌*◌, ◌/◌, ◌%◌, ◌^◌, ◌<◌, ◌≤◌, Bool, true, false, eqb, List, [], ◌∷◌, ◌++◌, length, get_or, replicate, refl, sym, ap, ◌∙◌, lit<, arith, inl, inr}
-use Rattle.std.proofs.lemmas.Bool.{cases_lt, agree_below_at, eq-eqb, false≢true}
-use Rattle.std.proofs.lemmas.List.{get_or_append_left, get_or-append-add, length-append}
-use Rattle.std.specs.Int.{bit_at}
-use Rattle.track_model.specs.Cells.{cell, cells_at, number}
-use Rattle.track_model.specs.Bytes.{byte_at, legal}
-use Rattle.track_model.specs.Marks.{data_byte}
-use Rattle.track_model.specs.Writing.{sync_and_marks}
+use Rattle.track_model.proofs.Common.{cases_lt, agree_below_at, eq-eqb, false≢true, get_or_append_left, get_or-append-add, length-append, bit_at, cell, cells_at, byte_at, data_byte, sync_and_marks}
+use Rattle.track_model.specs.Cells.{number}
+use Rattle.track_model.specs.Bytes.{legal}
 use Rattle.track_model.proofs.Numbers.{number_ext}
 use Rattle.track_model.proofs.Places.{cells_at-pair, cells_at-word}
 use Rattle.track_model.proofs.Legals.{length-legal, legal-cons, no_mark, byte_at-legal}

@@ -1,9 +1,8 @@
 -- The words of a window are recorded words. A track with a cut of a window has recorded words, apart from a seam behind
 -- the cut.
 use Rattle.std.proofs.Common.{◌≡◌, ℕ, zero, suc, ◌+◌, ◌-◌, ◌%◌, ◌<◌, ◌≤◌, Bool, true, false, eqb, List, [], ◌∷◌, ◌++◌, length, get_or, take, replicate, refl, sym, ap, subst, ◌∙◌, ◌⊎◌, append_assoc, arith, inl, inr}
-use Rattle.std.proofs.lemmas.Bool.{cases_lt, cases_eq}
-use Rattle.std.proofs.lemmas.List.{append-nil, length-take, get_or-take}
-use Rattle.track_model.specs.Bytes.{last_bit, legal}
+use Rattle.track_model.proofs.Common.{cases_lt, cases_eq, append-nil, length-take, get_or-take, last_bit}
+use Rattle.track_model.specs.Bytes.{legal}
 use Rattle.flop_base.specs.Lists.{with_items}
 use Rattle.track_model.proofs.Legals.{legal-cons, legal-nil, last_of}
 use Rattle.track_model.proofs.Recorded.{byte_word, bit_behind, IsWord, AreWords, Nowhere, byte_word_bit}

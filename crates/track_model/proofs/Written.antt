@@ -1,10 +1,6 @@
 -- How long written fields are.
 use Rattle.std.proofs.Common.{◌≡◌, ℕ, ◌+◌, false, true, Bool, List, [], ◌∷◌, ◌++◌, length, replicate, arith, length-append}
-use Rattle.track_model.specs.Bytes.{legal}
-use Rattle.track_model.specs.Crc.{crc}
-use Rattle.track_model.specs.Marks.{data_byte}
-use Rattle.track_model.specs.Fields.{after_marks}
-use Rattle.track_model.specs.Writing.{sync_and_marks, check_bytes, written_field, window}
+use Rattle.track_model.proofs.Common.{legal, crc, data_byte, after_marks, sync_and_marks, check_bytes, written_field, window}
 use Rattle.track_model.proofs.Legals.{length-legal}
 
 pub length-sync_and_marks : length sync_and_marks ≡ 15

@@ -1,15 +1,7 @@
 -- The register's bits.
 use Rattle.std.proofs.Common.{◌≡◌, ℕ, ◌+◌, ◌-◌, ◌*◌, ◌/◌, ◌%◌, ◌^◌, ◌<◌, [], ◌∷◌, min, sym, ap, subst, ◌∙◌, lit<, arith, inl, inr}
-use Rattle.std.proofs.lemmas.Bool.{cases_lt}
-use Rattle.std.specs.Int.{bit_at}
+use Rattle.track_separator.proofs.Common.{cases_lt, bit_at, and_mask, or_shifted, shr-shr, bit_at_cat_low, bit_at_cat_high, same_from_bits_below, bit_at_ones, bit_at_and, bit_at-zero, cell, byte_at, number_ext, cell_in, IsShifted, IsNext, IsBlank, HasRunBits, register_byte, register_check}
 use Rattle.std.specs.Int.Bits.{bit_and, bit_or}
-use Rattle.std.proofs.lemmas.Nat.{and_mask, or_shifted, shr-shr}
-use Rattle.std.proofs.lemmas.Nat.Bits.{bit_at_cat_low, bit_at_cat_high, same_from_bits_below, bit_at_ones, bit_at_and, bit_at-zero}
-use Rattle.track_model.specs.Cells.{cell}
-use Rattle.track_model.specs.Bytes.{byte_at}
-use Rattle.track_model.proofs.Numbers.{number_ext}
-use Rattle.track_model.proofs.Places.{cell_in}
-use Rattle.track_separator.specs.Register.{IsShifted, IsNext, IsBlank, HasRunBits, register_byte, register_check}
 
 -- the low bits of a number
 pub bit_at-mod : (n w i : ℕ) → n / 2 ^ w * 2 ^ w + n % 2 ^ w ≡ n → i < w → bit_at (n % 2 ^ w) i ≡ bit_at n i

@@ -1,18 +1,6 @@
 -- A word while the separator hunts for address marks.
 use Rattle.std.proofs.Common.{◌≡◌, ◌≢◌, ℕ, zero, suc, ◌+◌, ◌-◌, ◌*◌, ◌/◌, ◌<◌, ◌≤◌, List, length, get_or, refl, sym, ap, ◌∙◌, arith, inl, inr}
-use Rattle.std.proofs.lemmas.Bool.{cases_lt, cases_order}
-use Rattle.flop_base.specs.declared.key.Chrn.{Chrn}
-use Rattle.track_model.specs.Bytes.{byte_at}
-use Rattle.track_model.specs.Marks.{TouchesNoZero, IsSound, IsRun, IsAddressMark}
-use Rattle.track_model.specs.Fields.{IsAddressAt}
-use Rattle.track_model.specs.Sectors.{HasNoRunWithin}
-use Rattle.track_model.proofs.Unique.{one_key}
-use Rattle.track_separator.specs.declared.state.Seen.TheVariants.{Nothing, Mark, Address}
-use Rattle.track_separator.specs.declared.state.Stage.{Stage}
-use Rattle.track_separator.specs.declared.state.Stage.TheVariants.{Hunting, Reading, Addressed, TurnEnded, Waiting, Content}
-use Rattle.track_separator.specs.Register.{HasNoZeroFrom, KeepsFrom, HasTail, IsFull, IsNext, HasRunBits, register_byte, register_check, IsKeyIn}
-use Rattle.track_separator.specs.Parts.{EndsInLast}
-use Rattle.track_separator.specs.Hunts.{HuntsIn, IsFollowed, FollowsIn, GivesAll, IsAtByte, IsByteTaken}
+use Rattle.track_separator.proofs.Common.{cases_lt, cases_order, Chrn, byte_at, TouchesNoZero, IsSound, IsRun, IsAddressMark, IsAddressAt, HasNoRunWithin, one_key, Nothing, Mark, Address, Stage, Hunting, Reading, Addressed, HasNoZeroFrom, KeepsFrom, HasTail, IsFull, IsNext, HasRunBits, register_byte, register_check, IsKeyIn, EndsInLast, HuntsIn, IsFollowed, FollowsIn, GivesAll, IsAtByte, IsByteTaken}
 use Rattle.track_separator.proofs.Shared.{AreAlike, alike_back, alike_run, alike_byte_at}
 use Rattle.track_separator.proofs.Runs.{runs_apart, run_ends, no_run_after, address_high}
 use Rattle.track_separator.proofs.Next.{IsMore, no_zero_down, last_some, tail_next, full_next, byte_kept, run_shown, IsFound, run_found}
@@ -21,9 +9,7 @@ pub tail_of : (fed : List ℕ) (cells back : ℕ) (stage : Stage) → HuntsIn fe
 tail_of fed cells back Hunting h = h
 tail_of fed cells back Addressed h = h.2.tail
 tail_of fed cells back (Reading bytes) h = h.0
-tail_of fed cells back TurnEnded h = absurd h
-tail_of fed cells back (Waiting size since marked) h = absurd h
-tail_of fed cells back (Content size taken check touched) h = absurd h
+tail_of fed cells back _ h = absurd h
 
 -- the cells before the end were recorded
 pub sound_from : (fed : List ℕ) (p count : ℕ) → HasNoZeroFrom fed p → p + count ≤ 16 * length fed → IsSound fed p count

@@ -1,13 +1,6 @@
 -- The whole of what a word gives a separator that hunts.
 use Rattle.std.proofs.Common.{◌≡◌, ◌≢◌, ℕ, ◌+◌, ◌*◌, ◌<◌, List, length, sym, ap, subst, ◌∙◌, arith}
-use Rattle.track_separator.specs.declared.state.Seen.{Seen}
-use Rattle.track_separator.specs.declared.state.Seen.TheVariants.{Nothing}
-use Rattle.track_separator.specs.declared.state.Stage.{Stage}
-use Rattle.track_separator.specs.declared.state.Stage.TheVariants.{Hunting, Reading}
-use Rattle.track_separator.specs.Register.{HasTail, IsNext, HasRunBits}
-use Rattle.track_separator.specs.Parts.{with_word}
-use Rattle.track_separator.specs.Hunts.{IsAfterRun, HuntsIn, IsFollowed, FollowsIn, GivesAll, IsAtByte, IsByteTaken}
-use Rattle.track_separator.specs.Turns.{IsHuntedIn}
+use Rattle.track_separator.proofs.Common.{Seen, Nothing, Stage, Hunting, Reading, HasTail, IsNext, HasRunBits, with_word, IsAfterRun, HuntsIn, IsFollowed, FollowsIn, GivesAll, IsAtByte, IsByteTaken, IsHuntedIn}
 use Rattle.track_separator.proofs.Shared.{alike_run, alike_byte_at}
 use Rattle.track_separator.proofs.Next.{IsMore, more_of, no_zero_up, tail_next, full_next}
 use Rattle.track_separator.proofs.Hunted.{tail_here, full_here, before, mark_followed, address_followed, run_hunts, run_follows, run_gives, idle_follows, idle_gives}

@@ -1,26 +1,15 @@
 -- What a proof about words fed to a separator stands on. There are laws on lists of words, where `fed` is the first
 -- part of `whole`. And there is what the relations between a separator and the words fed say of places in them.
 use Rattle.std.proofs.Common.{◌≡◌, ◌⊎◌, ℕ, ◌+◌, ◌*◌, ◌<◌, ◌≤◌, Bool, true, false, IsTrue, List, length, take, refl, sym, subst, arith, inl, inr}
-use Rattle.std.proofs.lemmas.Bool.{cases_lt, false≢true}
-use Rattle.std.proofs.lemmas.List.{length-take-le, get_or-take}
-use Rattle.flop_base.specs.declared.key.Chrn.{Chrn}
+use Rattle.track_separator.proofs.Common.{cases_lt, false≢true, length-take-le, get_or-take, Chrn, byte_at, bytes_at, IsRun, IsAddressMark, IsAddressAt, IsAddress, IsDataMark, IsWhole, IsSizeCode, content_size, content_at, IsFirstDataMark, IsIntact, LookAt, HasNoRunWithin, Separator, with_word, IsPart, EndsInLast, SHunts, SFollows, SWaits, SReads, HasNoDataMark, HasEnded, TellsWhole, IsUnfinished}
 use Rattle.track_model.specs.declared.Look.TheVariants.{NoData}
-use Rattle.track_model.specs.Bytes.{byte_at, bytes_at}
-use Rattle.track_model.specs.Marks.{IsRun, IsAddressMark}
-use Rattle.track_model.specs.Fields.{IsAddressAt, IsAddress, IsDataMark, IsWhole, IsSizeCode, content_size, content_at}
-use Rattle.track_model.specs.Looks.{IsFirstDataMark, IsIntact, LookAt}
-use Rattle.track_model.specs.Sectors.{HasNoRunWithin}
-use Rattle.track_separator.specs.declared.state.Separator.{Separator}
-use Rattle.track_separator.specs.Parts.{with_word, IsPart, EndsInLast}
-use Rattle.track_separator.specs.Hunts.{SHunts, SFollows}
-use Rattle.track_separator.specs.Waits.{SWaits, SReads, HasNoDataMark, HasEnded, TellsWhole, IsUnfinished}
 use Rattle.track_separator.specs.Lifts.{look_of}
 use Rattle.track_separator.proofs.Shared.{AreAlike, alike_back, alike_run, alike_byte_at, alike_bytes_at, alike_address_mark, alike_address_at, alike_data_mark, alike_whole}
 use Rattle.track_separator.proofs.Runs.{run_ends}
 use Rattle.track_separator.proofs.Next.{more_of}
 use Rattle.track_separator.proofs.Staged.{waits_at, reads_first, reads_at}
 -- two lists with the same cells before an end, one list with one word more than another, and how runs of marks lie
-pub use Rattle.track_separator.proofs.Shared.{AreAlike, alike_back, alike_within, alike_byte_at, alike_bytes_at}
+pub use Rattle.track_separator.proofs.Shared.{AreAlike, alike_back, alike_byte_at, alike_bytes_at}
 pub use Rattle.track_separator.proofs.Next.{IsMore, more_of}
 pub use Rattle.track_separator.proofs.Runs.{runs_apart, run_ends, IsHigh, high_byte, address_high, no_run_after}
 
@@ -71,10 +60,6 @@ module _ (fed whole : List ℕ) (part : IsPart fed whole) where
   -- a run of marks
   pub run_stays : (p : ℕ) → IsRun fed p → IsRun whole p
   run_stays p run = alike_run fed whole (16 * length fed) part_alike p (run_ends fed p run) run
-
-  -- a run of the whole, if the part reaches to its end
-  pub run_stood : (p : ℕ) → p + 48 ≤ 16 * length fed → IsRun whole p → IsRun fed p
-  run_stood = alike_run whole fed (16 * length fed) whole_alike
 
   -- an address mark
   pub mark_stays : (p : ℕ) → IsAddressMark fed p → IsAddressMark whole p
@@ -188,14 +173,6 @@ module _ (fed : List ℕ) (word : ℕ) where
         | inr early ↦ inl (address_stood fed (with_word fed word) (part_with_word fed word) p key early address)
       ]
 
-  -- a data mark
-  pub data_mark_old_or_new : (p q : ℕ) (deleted : Bool) → IsDataMark (with_word fed word) p q deleted → IsDataMark fed p q deleted ⊎ EndsInLast (with_word fed word) (q + 64)
-  data_mark_old_or_new p q deleted mark =
-      elim (cases_lt (16 * length fed) (q + 64)) [
-        | inl late ↦ inr (ends_new (q + 64) late mark.run.sound.inside)
-        | inr early ↦ inl (data_mark_stood fed (with_word fed word) (part_with_word fed word) p q deleted early mark)
-      ]
-
 -- ---- a separator and the words fed
 
 -- a separator that has hunted since these words began hunts
@@ -203,9 +180,6 @@ pub follows_hunts : (separator : Separator) (fed : List ℕ) → SFollows separa
 follows_hunts separator fed follows = follows.hunts
 
 module _ (separator : Separator) (fed : List ℕ) (p size : ℕ) (waits : SWaits separator fed p size) where
-  -- while the separator waits for a data mark, the address field has passed
-  pub waits_behind : p + 160 ≤ 16 * length fed
-  waits_behind = (waits_at fed separator.cells separator.back p size separator.stage waits).0
 
   -- at most 1,022 cells stand behind the address field
   pub waits_early : 16 * length fed ≤ p + 160 + 1022
@@ -227,7 +201,3 @@ module _ (separator : Separator) (fed : List ℕ) (p q : ℕ) (deleted : Bool) (
   -- so the mark and the bytes taken lie inside the words fed
   pub reads_within : q + 64 + 16 * taken ≤ 16 * length fed
   reads_within = let ends = reads_ends in ends.inside
-
-  -- at most the content and the first byte of its CRC were taken
-  pub reads_most : taken ≤ size + 1
-  reads_most = (reads_at fed separator.cells separator.back p q deleted size taken separator.stage separator.few reads).1

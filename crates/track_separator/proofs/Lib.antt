@@ -1,3 +1,4 @@
+mod Common
 mod Saved
 mod Bits
 mod Shared

@@ -1,15 +1,6 @@
 -- One word more.
 use Rattle.std.proofs.Common.{◌≡◌, ◌≢◌, ℕ, ◌+◌, ◌-◌, ◌*◌, ◌/◌, ◌%◌, ◌<◌, ◌≤◌, List, [], ◌∷◌, ◌++◌, length, get_or, length-append, refl, sym, ap, ◌∙◌, lit<, arith, inl, inr}
-use Rattle.std.proofs.lemmas.Bool.{cases_lt, cases_eq}
-use Rattle.std.proofs.lemmas.List.{get_or_append_left, get_or-append_right}
-use Rattle.std.specs.Int.{bit_at}
-use Rattle.track_model.specs.Cells.{cell, cells_at}
-use Rattle.track_model.specs.Bytes.{byte_at}
-use Rattle.track_model.specs.Marks.{IsRun}
-use Rattle.track_model.proofs.Numbers.{number_ext, number_from_bits}
-use Rattle.track_model.proofs.Places.{cell_in}
-use Rattle.track_separator.specs.Register.{HasNoZeroFrom, KeepsFrom, IsTail, HasTail, IsFull, IsBlank, IsShifted, IsNext, HasRunBits, register_byte}
-use Rattle.track_separator.specs.Parts.{with_word}
+use Rattle.track_separator.proofs.Common.{cases_lt, cases_eq, get_or_append_left, get_or-append_right, bit_at, cell, cells_at, byte_at, IsRun, number_ext, number_from_bits, cell_in, HasNoZeroFrom, KeepsFrom, IsTail, HasTail, IsFull, IsBlank, IsShifted, IsNext, HasRunBits, register_byte, with_word}
 use Rattle.track_separator.proofs.Bits.{run_bit, run_from_bits}
 use Rattle.track_separator.proofs.Shared.{AreAlike}
 use Rattle.track_separator.proofs.Runs.{run_cell, first_bits, second_bits, third_bits}
@@ -84,9 +75,6 @@ module _ (fed : List ℕ) (word : ℕ) (whole : List ℕ) (more : IsMore fed wor
       let size = more.size in
       let bit : 16 * length whole - 1 - q ≡ 15 - (q - 16 * length fed) = omega arith in
       shifted.last (16 * length whole - 1 - q) (omega arith) ∙ ap (bit_at word) bit ∙ sym (last_cell q (omega arith) (omega arith))
-
-  later_kept : (cells start later : ℕ) → start ≤ later → KeepsFrom whole cells start → KeepsFrom whole cells later
-  later_kept cells start later h kept q low high = kept q (omega arith) high
 
   tail_shifted : (cells after start : ℕ) → word ≢ 0 → IsShifted cells word after → IsTail fed cells start → HasTail whole after
   tail_shifted cells after start some shifted tail =

@@ -1,10 +1,7 @@
 -- Words that bring no run of marks.
 use Rattle.std.proofs.Common.{◌≡◌, ℕ, ◌+◌, ◌^◌, ◌<◌, List, [], ◌∷◌, ◌++◌, length, get_or, take, refl, sym, subst}
-use Rattle.std.proofs.lemmas.List.{take_more}
-use Rattle.track_separator.specs.declared.state.Stage.TheVariants.{Hunting}
-use Rattle.track_separator.specs.declared.state.Separator.{Separator}
-use Rattle.track_separator.specs.Register.{IsNext}
-use Rattle.track_separator.specs.Past.{HuntsPast, EndsNoRun, BringsNoRun}
+use Rattle.track_separator.proofs.Common.{take_more, Hunting, Separator, IsNext, EndsNoRun}
+use Rattle.track_separator.specs.Past.{HuntsPast, BringsNoRun}
 use Rattle.track_separator.proofs.HuntedWord.{hunted_on}
 use Rattle.track_separator.proofs.Saved.{same_separator}
 

@@ -1,17 +1,7 @@
 -- A word of a data field.
 use Rattle.std.proofs.Common.{◌≡◌, ◌≢◌, ◌↔◌, ℕ, ◌+◌, ◌-◌, ◌*◌, ◌/◌, ◌^◌, ◌<◌, ◌≤◌, Bool, true, false, IsTrue, MatchBool, List, [], ◌∷◌, ◌++◌, append_assoc, length, min, get_or, refl, sym, ap, subst, ◌∙◌, arith, inl, inr}
-use Rattle.std.proofs.lemmas.Bool.{cases_lt}
-use Rattle.std.proofs.lemmas.List.{append-nil}
-use Rattle.track_model.specs.Bytes.{byte_at, bytes_at}
-use Rattle.track_model.specs.Crc.{crc, crc_from}
-use Rattle.track_model.specs.Marks.{TouchesNoZero, data_byte}
-use Rattle.track_model.specs.Fields.{HasCheck, after_marks, content_size, content_at}
-use Rattle.track_model.specs.Looks.{IsFirstDataMark}
+use Rattle.track_separator.proofs.Common.{cases_lt, append-nil, byte_at, bytes_at, crc, crc_from, TouchesNoZero, data_byte, HasCheck, after_marks, content_size, content_at, IsFirstDataMark, bytes_at-more, HasNoZeroFrom, KeepsFrom, IsShifted, register_byte, register_check, EndsInLast, IsReading, HasEnded, TellsWhole}
 use Rattle.track_model.proofs.CrcSteps.{crc_from_none}
-use Rattle.track_model.proofs.Places.{bytes_at-more}
-use Rattle.track_separator.specs.Register.{HasNoZeroFrom, KeepsFrom, IsShifted, register_byte, register_check}
-use Rattle.track_separator.specs.Parts.{EndsInLast}
-use Rattle.track_separator.specs.Waits.{IsReading, HasEnded, TellsWhole}
 use Rattle.track_separator.proofs.Shared.{alike_bytes_at, alike_no_zero, alike_data_mark}
 use Rattle.track_separator.proofs.Next.{IsMore, no_zero_up, last_some, keeps_next, byte_kept}
 use Rattle.track_separator.proofs.Hunted.{back_alike}

@@ -1,10 +1,6 @@
 -- The last eight words fill the register.
 use Rattle.std.proofs.Common.{◌≡◌, ◌≢◌, ℕ, ◌+◌, ◌-◌, ◌*◌, ◌^◌, ◌<◌, List, [], ◌∷◌, ◌++◌, length, get_or, take, refl, sym, ap, subst, ◌∙◌, arith, inl, inr}
-use Rattle.std.proofs.lemmas.Bool.{cases_lt, cases_eq}
-use Rattle.std.proofs.lemmas.List.{take_more}
-use Rattle.std.specs.Int.{bit_at}
-use Rattle.std.proofs.lemmas.Nat.Bits.{same_from_bits_below}
-use Rattle.track_separator.specs.Register.{IsNext}
+use Rattle.track_separator.proofs.Common.{cases_lt, cases_eq, take_more, bit_at, same_from_bits_below, IsNext}
 use Rattle.track_separator.specs.Past.{BringsNoRun}
 
 -- the register keeps its range

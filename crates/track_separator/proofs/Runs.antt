@@ -1,14 +1,6 @@
 -- Runs of marks lie apart.
 use Rattle.std.proofs.Common.{◌≡◌, ℕ, ◌+◌, ◌-◌, ◌*◌, ◌/◌, ◌%◌, ◌<◌, ◌≤◌, Bool, true, eqb, ltb, List, [], ◌∷◌, length, get_or, refl, sym, ap, subst, ◌∙◌, lit<, arith, inl, inr}
-use Rattle.std.proofs.lemmas.Bool.{agree_below_at, eq-eqb, ne_eqb, eqb-true, ltb-true, cases_lt, cases_eq, false≢true}
-use Rattle.std.specs.Int.{bit_at}
-use Rattle.std.proofs.lemmas.Nat.Bits.{bit_at_cat_high, bit_at-zero}
-use Rattle.std.proofs.lemmas.List.{get_or_past}
-use Rattle.track_model.specs.Cells.{cell, cells_at}
-use Rattle.track_model.specs.Bytes.{byte_at}
-use Rattle.track_model.specs.Marks.{IsRun}
-use Rattle.track_model.proofs.Numbers.{bit_at-number}
-use Rattle.track_model.proofs.Places.{bit_at-cells_at, cell-lt}
+use Rattle.track_separator.proofs.Common.{agree_below_at, eq-eqb, ne_eqb, eqb-true, ltb-true, cases_lt, cases_eq, false≢true, bit_at, bit_at_cat_high, bit_at-zero, get_or_past, cell, cells_at, byte_at, IsRun, bit_at-number, bit_at-cells_at, cell-lt}
 
 -- three marks in one number
 part : ℕ → ℕ → Bool

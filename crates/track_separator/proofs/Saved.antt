@@ -1,9 +1,7 @@
 -- A separator is what its cells, its place and its stage are.
 use Rattle.std.proofs.Common.{◌≡◌, ℕ, ◌<◌, ◌≤◌, refl, subst}
 use Rattle.std.specs.Coded.{le_prop}
-use Rattle.track_separator.specs.Stages.{size_in, since_in}
-use Rattle.track_separator.specs.declared.state.Stage.{Stage}
-use Rattle.track_separator.specs.declared.state.Separator.{Separator}
+use Rattle.track_separator.proofs.Common.{size_in, since_in, Stage, Separator}
 
 -- the separator with these parts
 abbrev separator_of : (cells back : ℕ) (stage : Stage) → back < 16 → size_in stage ≤ 8192 → since_in stage < 1023 → Separator

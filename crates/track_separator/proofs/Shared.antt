@@ -1,14 +1,7 @@
 -- Lists of words that begin alike have the same cells, bytes, marks and fields in that beginning.
 use Rattle.std.proofs.Common.{◌≡◌, ℕ, ◌+◌, ◌-◌, ◌*◌, ◌/◌, ◌%◌, ◌<◌, ◌≤◌, Bool, List, ◌∷◌, length, get_or, sym, ap, subst, ◌∙◌, arith}
-use Rattle.std.proofs.lemmas.List.{ext_get_or}
+use Rattle.track_separator.proofs.Common.{ext_get_or, bit_at, Chrn, cell, cells_at, byte_at, bytes_at, TouchesNoZero, IsSound, IsRun, IsAddressMark, IsDataRun, HasCheck, after_marks, IsAddressAt, IsDataMark, content_size, data_cells, IsWhole, number_ext}
 use Rattle.std.proofs.lemmas.List.FromFn.{length-map-range_with_len, get_or-map-range_with_len}
-use Rattle.std.specs.Int.{bit_at}
-use Rattle.flop_base.specs.declared.key.Chrn.{Chrn}
-use Rattle.track_model.specs.Cells.{cell, cells_at}
-use Rattle.track_model.specs.Bytes.{byte_at, bytes_at}
-use Rattle.track_model.specs.Marks.{TouchesNoZero, IsSound, IsRun, IsAddressMark, IsDataRun}
-use Rattle.track_model.specs.Fields.{HasCheck, after_marks, IsAddressAt, IsDataMark, content_size, data_cells, IsWhole}
-use Rattle.track_model.proofs.Numbers.{number_ext}
 
 -- both have the cells before `end`, and the same words there
 pub record AreAlike (track other : List ℕ) (end : ℕ) : Type 0 where
@@ -18,12 +11,6 @@ pub record AreAlike (track other : List ℕ) (end : ℕ) : Type 0 where
 
 pub alike_back : (track other : List ℕ) (end : ℕ) → AreAlike track other end → AreAlike other track end
 alike_back track other end alike = record { low = alike.high; high = alike.low; words = λ k h. sym (alike.words k h) }
-
-pub alike_within : (track other : List ℕ) (end less : ℕ) → less ≤ end → AreAlike track other end → AreAlike track other less
-alike_within track other end less h alike =
-    let low = alike.low in
-    let high = alike.high in
-    record { low = omega arith; high = omega arith; words = λ k l. alike.words k (omega arith) }
 
 module _ (track other : List ℕ) (end : ℕ) (alike : AreAlike track other end) where
   pub alike_cell : (q : ℕ) → q < end → cell track q ≡ cell other q

@@ -1,12 +1,6 @@
 -- A separator that begins, and one at the end of a revolution.
 use Rattle.std.proofs.Common.{ℕ, ◌*◌, List, [], length, arith}
-use Rattle.track_separator.specs.declared.state.Seen.{Seen}
-use Rattle.track_separator.specs.declared.state.Seen.TheVariants.{Nothing, Mark, Address, Mode, Byte, End, NoData}
-use Rattle.track_separator.specs.declared.state.Stage.{Stage}
-use Rattle.track_separator.specs.declared.state.Stage.TheVariants.{Hunting, Reading, Addressed, TurnEnded, Waiting, Content}
-use Rattle.track_separator.specs.Register.{HasTail}
-use Rattle.track_separator.specs.Hunts.{HuntsIn, FollowsIn, HuntSeenIn, Stands}
-use Rattle.track_separator.specs.Turns.{WantsIn}
+use Rattle.track_separator.proofs.Common.{Seen, Nothing, Mark, Address, Stage, Hunting, TurnEnded, Waiting, Content, HasTail, HuntsIn, FollowsIn, HuntSeenIn, Stands, WantsIn}
 use Rattle.track_separator.proofs.Bits.{blank_is}
 
 pub blank_tail : (fed : List ℕ) → HasTail fed 340282366920938463463374607431768211455
@@ -32,16 +26,11 @@ pub stands_of : (fed : List ℕ) (cells back : ℕ) (stage : Stage) (seen : Seen
 stands_of fed cells back stage Nothing h = tt
 stands_of fed cells back stage Mark h = h
 stands_of fed cells back stage (Address key) h = (h.0, h.1, h.2)
-stands_of fed cells back stage (Mode deleted) h = absurd h
-stands_of fed cells back stage (Byte value) h = absurd h
-stands_of fed cells back stage (End good) h = absurd h
-stands_of fed cells back stage NoData h = absurd h
+stands_of fed cells back stage _ h = absurd h
 
 -- a separator that hunts asks for nothing
 pub hunts_not_wants : (fed : List ℕ) (cells back : ℕ) (stage : Stage) → HuntsIn fed cells back stage → WantsIn stage → ⊥
-hunts_not_wants fed cells back Hunting h w = w
-hunts_not_wants fed cells back (Reading bytes) h w = w
-hunts_not_wants fed cells back Addressed h w = w
 hunts_not_wants fed cells back TurnEnded h w = h
 hunts_not_wants fed cells back (Waiting size since marked) h w = h
 hunts_not_wants fed cells back (Content size taken check touched) h w = h
+hunts_not_wants fed cells back _ h w = w

@@ -1,13 +1,6 @@
 -- A word that isn't the last of its revolution, taken at any stage.
-use Rattle.std.proofs.Common.{◌≡◌, ℕ, Bool, false, true, List, sym, ◌∙◌}
-use Rattle.std.proofs.lemmas.Bool.{false≢true}
-use Rattle.track_separator.specs.declared.state.Seen.{Seen}
-use Rattle.track_separator.specs.declared.state.Seen.TheVariants.{NoData}
-use Rattle.track_separator.specs.declared.state.Separator.{Separator}
-use Rattle.track_separator.specs.Parts.{with_word}
-use Rattle.track_separator.specs.Hunts.{SHunts}
-use Rattle.track_separator.specs.Waits.{SWaits, SReads, SWaitSeen, SReadSeen}
-use Rattle.track_separator.specs.Turns.{IsHunted, STurnEnded, Feeds}
+use Rattle.std.proofs.Common.{◌≡◌, ℕ, Bool, false, List, sym, ◌∙◌}
+use Rattle.track_separator.proofs.Common.{false≢true, Seen, NoData, Separator, with_word, SHunts, SWaits, SReads, SWaitSeen, SReadSeen, IsHunted, STurnEnded, Feeds}
 use Rattle.track_separator.proofs.Told.{fed_more}
 use Rattle.track_separator.proofs.Started.{stands_of}
 

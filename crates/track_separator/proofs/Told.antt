@@ -1,16 +1,6 @@
 -- Any calls: what the separator keeps is of the words fed, and each event stands for something in them.
 use Rattle.std.proofs.Common.{◌≡◌, ℕ, ◌+◌, ◌<◌, Bool, false, List, [], ◌∷◌, ◌++◌, take, refl, sym, subst, append_assoc, inl, inr}
-use Rattle.std.proofs.lemmas.List.{append-nil}
-use Rattle.track_model.specs.Fields.{IsAddress}
-use Rattle.track_separator.specs.declared.state.Seen.{Seen}
-use Rattle.track_separator.specs.declared.state.Seen.TheVariants.{Nothing, Mark, Address, Mode, Byte, End, NoData}
-use Rattle.track_separator.specs.declared.state.Stage.{Stage}
-use Rattle.track_separator.specs.declared.state.Stage.TheVariants.{Hunting, Reading, Addressed, TurnEnded, Waiting, Content}
-use Rattle.track_separator.specs.declared.state.Separator.{Separator}
-use Rattle.track_separator.specs.Parts.{with_word}
-use Rattle.track_separator.specs.Hunts.{HuntsIn, SHunts, HuntSeenIn}
-use Rattle.track_separator.specs.Waits.{SWaits, ReadsIn, SReads, WaitSeenIn, SWaitSeen, ReadSeenIn, SReadSeen}
-use Rattle.track_separator.specs.Turns.{IsHuntedIn, IsHunted, STurnEnded, BeginsIn, SBegins, AwaitsByteIn, SAwaitsByte, FedIn, SFed, IsTold}
+use Rattle.track_separator.proofs.Common.{append-nil, IsAddress, Seen, Nothing, Mark, Address, Mode, Byte, End, NoData, Stage, Hunting, Addressed, TurnEnded, Waiting, Content, Separator, with_word, HuntsIn, SHunts, HuntSeenIn, SWaits, ReadsIn, SReads, WaitSeenIn, SWaitSeen, ReadSeenIn, SReadSeen, IsHuntedIn, IsHunted, STurnEnded, BeginsIn, SBegins, AwaitsByteIn, SAwaitsByte, FedIn, SFed, IsTold}
 use Rattle.track_separator.specs.Past.{HuntsPast}
 use Rattle.track_separator.proofs.Staged.{reads_first}
 use Rattle.track_separator.proofs.Lawful.{part_with_word, some_address_stays}
@@ -20,10 +10,7 @@ told_of_hunt : (fed : List ℕ) (cells back : ℕ) (stage : Stage) (seen : Seen)
 told_of_hunt fed cells back stage Nothing h = tt
 told_of_hunt fed cells back stage Mark h = h
 told_of_hunt fed cells back stage (Address key) h = (h.0, h.1, h.2)
-told_of_hunt fed cells back stage (Mode deleted) h = absurd h
-told_of_hunt fed cells back stage (Byte value) h = absurd h
-told_of_hunt fed cells back stage (End good) h = absurd h
-told_of_hunt fed cells back stage NoData h = absurd h
+told_of_hunt fed cells back stage _ h = absurd h
 
 of_wait : (fed : List ℕ) (p size cells back : ℕ) (stage : Stage) (seen : Seen) → IsAddress fed p → WaitSeenIn fed p size cells back stage seen → FedIn fed cells back stage × IsTold fed seen
 of_wait fed p size cells back stage Nothing address h = (inr (inl (p, size, address, h)), tt)
@@ -32,10 +19,7 @@ of_wait fed p size cells back stage (Mode deleted) address h = (
   (p, h.0, address, reads_first fed cells back p h.0 deleted size 0 stage h.1),
 )
 of_wait fed p size cells back stage NoData address h = (inl h.2, tt)
-of_wait fed p size cells back stage Mark address h = absurd h
-of_wait fed p size cells back stage (Address key) address h = absurd h
-of_wait fed p size cells back stage (Byte value) address h = absurd h
-of_wait fed p size cells back stage (End good) address h = absurd h
+of_wait fed p size cells back stage _ address h = absurd h
 
 of_read : (fed : List ℕ) (p q : ℕ) (deleted : Bool) (size taken cells back : ℕ) (stage : Stage) (seen : Seen) → IsAddress fed p → ReadSeenIn fed p q deleted size taken cells back stage seen → FedIn fed cells back stage × IsTold fed seen
 of_read fed p q deleted size taken cells back stage (Byte value) address h = (
@@ -44,10 +28,7 @@ of_read fed p q deleted size taken cells back stage (Byte value) address h = (
 )
 of_read fed p q deleted size taken cells back stage Nothing address h = (inr (inr (inl (p, q, deleted, size, taken + 1, address, h.1))), tt)
 of_read fed p q deleted size taken cells back stage (End good) address h = (inl h.3, (p, q, deleted, size, address, h.1, h.2))
-of_read fed p q deleted size taken cells back stage Mark address h = absurd h
-of_read fed p q deleted size taken cells back stage (Address key) address h = absurd h
-of_read fed p q deleted size taken cells back stage (Mode other) address h = absurd h
-of_read fed p q deleted size taken cells back stage NoData address h = absurd h
+of_read fed p q deleted size taken cells back stage _ address h = absurd h
 
 -- a word inside the revolution
 pub fed_more : (old new : Separator) (word : ℕ) (seen : Seen) → IsHunted old word new seen → ((fed : List ℕ) (p size : ℕ) → SWaits old fed p size → SWaitSeen (with_word fed word) p size new seen) → ((fed : List ℕ) (p q : ℕ) (deleted : Bool) (size taken : ℕ) → SReads old fed p q deleted size taken → SReadSeen (with_word fed word) p q deleted size taken new seen) → (STurnEnded old → (seen ≡ NoData) × ((fed : List ℕ) → SHunts new fed)) → (fed : List ℕ) → SFed old fed → SFed new (with_word fed word) × IsTold (with_word fed word) seen
@@ -84,11 +65,7 @@ hunts_of fed cells back Hunting begins (inl h) = h
 hunts_of fed cells back Hunting begins (inr (inl h)) = absurd h.3
 hunts_of fed cells back Hunting begins (inr (inr (inl h))) = absurd h.6
 hunts_of fed cells back Hunting begins (inr (inr (inr h))) = absurd h
-hunts_of fed cells back (Reading bytes) begins h = absurd begins
-hunts_of fed cells back Addressed begins h = absurd begins
-hunts_of fed cells back TurnEnded begins h = absurd begins
-hunts_of fed cells back (Waiting size since marked) begins h = absurd begins
-hunts_of fed cells back (Content size taken check touched) begins h = absurd begins
+hunts_of fed cells back _ begins h = absurd begins
 
 pub fed_hunt : (fed : List ℕ) (cells back : ℕ) (stage : Stage) (word after behind : ℕ) (next : Stage) (seen : Seen) → BeginsIn stage → IsHuntedIn cells back stage word after behind next seen → FedIn fed cells back stage → FedIn (with_word fed word) after behind next
 fed_hunt fed cells back stage word after behind next seen begins hunted h = inl (hunted.keeps fed (hunts_of fed cells back stage begins h))
@@ -116,11 +93,7 @@ reads_of fed cells back (Content size taken check touched) awaits (inl h) = absu
 reads_of fed cells back (Content size taken check touched) awaits (inr (inl h)) = absurd h.3
 reads_of fed cells back (Content size taken check touched) awaits (inr (inr (inl h))) = h
 reads_of fed cells back (Content size taken check touched) awaits (inr (inr (inr h))) = absurd h
-reads_of fed cells back Hunting awaits h = absurd awaits
-reads_of fed cells back (Reading bytes) awaits h = absurd awaits
-reads_of fed cells back Addressed awaits h = absurd awaits
-reads_of fed cells back TurnEnded awaits h = absurd awaits
-reads_of fed cells back (Waiting size since marked) awaits h = absurd awaits
+reads_of fed cells back _ awaits h = absurd awaits
 
 pub fed_byte : (old new : Separator) (word value : ℕ) → SAwaitsByte old → ((fed : List ℕ) (p q : ℕ) (deleted : Bool) (size taken : ℕ) → SReads old fed p q deleted size taken → SReadSeen (with_word fed word) p q deleted size taken new (Byte value)) → (fed : List ℕ) → SFed old fed → SFed new (with_word fed word) × IsTold (with_word fed word) (Byte value)
 fed_byte old new word value awaits reads fed h =

@@ -1,12 +1,7 @@
 -- A run of marks ends only after two words that are alike. Each of them is a rotated mark, which has five ones.
 use Rattle.std.proofs.Common.{◌≡◌, ℕ, ◌+◌, ◌-◌, ◌*◌, ◌/◌, ◌%◌, ◌^◌, ◌<◌, Bool, true, eqb, List, [], length, get_or, take, bit_and, bit_or, refl, sym, ap, subst, ◌∙◌, lit<, arith, inl, inr}
-use Rattle.std.proofs.lemmas.Bool.{agree_below_at, eqb-true, cases_eq}
-use Rattle.std.specs.Int.{bit_at}
+use Rattle.track_separator.proofs.Common.{agree_below_at, eqb-true, cases_eq, bit_at, and_mask, or_shifted, bit_at_ones, same_from_bits_below, IsBlank, IsShifted, IsNext, HasRunBits, EndsNoRun, BringsNoRun}
 use Rattle.std.specs.Int.RustNames.{count_ones}
-use Rattle.std.proofs.lemmas.Nat.{and_mask, or_shifted}
-use Rattle.std.proofs.lemmas.Nat.Bits.{bit_at_ones, same_from_bits_below}
-use Rattle.track_separator.specs.Register.{IsBlank, IsShifted, IsNext, HasRunBits}
-use Rattle.track_separator.specs.Past.{EndsNoRun, BringsNoRun}
 use Rattle.track_separator.proofs.Bits.{bit_at-mod, bit_at-div, run_bit, shifted_is, next_blank}
 use Rattle.track_separator.proofs.NoRun.{brings_none, brings_more}
 

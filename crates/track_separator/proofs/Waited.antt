@@ -1,15 +1,6 @@
 -- A word while the separator waits for a data mark.
 use Rattle.std.proofs.Common.{◌≡◌, ◌≢◌, ℕ, ◌+◌, ◌-◌, ◌*◌, ◌<◌, ◌≤◌, Bool, true, false, List, ◌∷◌, ◌++◌, length, min, refl, sym, ap, ◌∙◌, lit<, leb, arith, inl, inr}
-use Rattle.std.proofs.lemmas.Bool.{cases_lt, cases_order, leb-true, leb-false}
-use Rattle.std.proofs.lemmas.Nat.Bits.{bit_at_ones}
-use Rattle.std.specs.Int.{bit_at}
-use Rattle.track_model.specs.Bytes.{byte_at, bytes_at}
-use Rattle.track_model.specs.Crc.{crc, crc_from}
-use Rattle.track_model.specs.Marks.{IsRun, data_byte}
-use Rattle.track_model.specs.Fields.{IsDataMark, after_marks}
-use Rattle.track_model.proofs.Numbers.{number_from_bits}
-use Rattle.track_separator.specs.Register.{HasNoZeroFrom, IsFull, IsBlank, IsNext, HasRunBits, register_byte}
-use Rattle.track_separator.specs.Waits.{IsPending, IsMarked, IsWaiting, IsWaitingNext, IsReading, IsMarkIn}
+use Rattle.track_separator.proofs.Common.{cases_lt, cases_order, leb-true, leb-false, bit_at_ones, bit_at, byte_at, bytes_at, crc, crc_from, IsRun, data_byte, IsDataMark, after_marks, number_from_bits, HasNoZeroFrom, IsFull, IsBlank, IsNext, HasRunBits, register_byte, IsPending, IsMarked, IsWaiting, IsWaitingNext, IsReading, IsMarkIn}
 use Rattle.track_separator.proofs.Shared.{alike_run, alike_data_mark}
 use Rattle.track_separator.proofs.Runs.{runs_apart}
 use Rattle.track_separator.proofs.Next.{IsMore, no_zero_up, no_zero_down, tail_next, full_next, byte_kept, run_shown, run_found}

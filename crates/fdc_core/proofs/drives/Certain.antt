@@ -1,21 +1,7 @@
 -- Words ahead on a track that is heard.
 use Rattle.std.proofs.Common.{◌≡◌, ◌+◌, ◌*◌, ℕ, true, false, List, [], ◌∷◌, ◌++◌, Some, refl, sym, ap, subst, ◌∙◌, inl, arith}
-use Rattle.std.proofs.lemmas.List.{append-nil, append_assoc}
-use Rattle.flop_base.specs.declared.key.Chrn.{Chrn}
-use Rattle.raw_image.specs.Disk.{IsDisk}
-use Rattle.track_model.specs.Marks.{IsRun}
-use Rattle.track_model.specs.Sectors.{IsPlain}
-use Rattle.track_separator.proofs.Lawful.{run_ends}
+use Rattle.fdc_core.proofs.Common.{append-nil, append_assoc, Chrn, IsDisk, IsRun, IsPlain, run_ends, DriveState, rate_of, word_under, Past, heard, stepped, rate_fits, seen_of, SeesUnder, HasSingle, HearsWhole, IsCertain, IsCertainOf, let_pass, IsHeard, IsHeardWhole, start_of, IsHearing, IsRecorded, Outset, track_heard}
 use Rattle.drive_model.specs.Ahead.{AreAhead}
-use Rattle.drive_model.specs.Drive.{DriveState, rate_of, word_under}
-use Rattle.fdc_stages.specs.History.{Past, heard}
-use Rattle.fdc_phases.specs.Heard.{stepped}
-use Rattle.fdc_phases.specs.Rates.{rate_fits, seen_of}
-use Rattle.fdc_core.specs.Listening.{SeesUnder}
-use Rattle.fdc_core.specs.Quiet.{HasSingle, HearsWhole, IsCertain, IsCertainOf}
-use Rattle.fdc_core.specs.Steps.{let_pass}
-use Rattle.fdc_core.specs.Drives.Heard.{IsHeard, IsHeardWhole, start_of}
-use Rattle.fdc_core.specs.Drives.Hearing.{IsHearing, IsRecorded, Outset, track_heard}
 use Rattle.fdc_core.proofs.Coursing.{ahead_behind, passes_calmly}
 use Rattle.fdc_core.proofs.drives.Fields.{address_heard, mark_heard, whole_shifted}
 use Rattle.fdc_core.proofs.drives.Passing.{hearing_on}

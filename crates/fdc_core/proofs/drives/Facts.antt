@@ -1,6 +1,6 @@
 -- What several lemmas cite: of numbers and truth values.
 use Rattle.std.proofs.Common.{◌≡◌, ◌+◌, ◌<◌, ◌≤◌, ◌==◌, ◌++◌, ◌∷◌, ℕ, nat_le, nat_lt, Bool, true, false, List, [], length, length-append, if◌then◌else◌, arith}
-use Rattle.std.proofs.lemmas.Bool.Decides.{nat_tests}
+use Rattle.fdc_core.proofs.Common.{nat_tests}
 
 pub if_both : {A : Type 0} (b : Bool) (x y : A) (P : A → Type 0) → P x → P y → P (if b then x else y)
 if_both true x y P px py = px

@@ -1,14 +1,7 @@
 -- Fields that were heard, and those of the track.
 use Rattle.std.proofs.Common.{◌≡◌, inl, inr, ℕ, ◌+◌, ◌-◌, ◌*◌, ◌/◌, ◌≤◌, Bool, List, length, get_or, refl, sym, ap, subst, ◌∙◌, arith}
-use Rattle.std.proofs.lemmas.List.{ext_get_or}
-use Rattle.flop_base.specs.declared.key.Chrn.{Chrn}
-use Rattle.fdc_core.specs.Drives.Heard.{IsHeard, IsHeardWhole}
+use Rattle.fdc_core.proofs.Common.{ext_get_or, Chrn, IsHeard, IsHeardWhole, IsAddressAt, IsSizeCode, content_at, data_cells, IsDataMark, IsWhole, HasDataField, IsIntact, LookAt, IsSound, IsAddressMark, Found, NoData, BadCrc, IsLone}
 use Rattle.track_model.proofs.Spans.{intact_of}
-use Rattle.track_model.specs.Fields.{IsAddressAt, IsSizeCode, content_at, data_cells, IsDataMark, IsWhole}
-use Rattle.track_model.specs.Looks.{HasDataField, IsIntact, LookAt}
-use Rattle.track_model.specs.Marks.{IsSound, IsAddressMark}
-use Rattle.track_model.specs.declared.Look.TheVariants.{Found, NoData, BadCrc}
-use Rattle.track_model.specs.Sectors.{IsLone}
 use Rattle.fdc_core.proofs.drives.Shifted.{AreShifted, shifted_address_mark, shifted_address_at, shifted_data_run, shifted_whole}
 
 -- what was heard without a word 0000 is of the track

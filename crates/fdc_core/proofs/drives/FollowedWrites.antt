@@ -1,9 +1,6 @@
 -- Drives at a write of a port.
 use Rattle.std.proofs.Common.{◌≡◌, ℕ, ◌==◌, ◌||◌, Bool, true, false, ap, ◌∙◌}
-use Rattle.drive_model.specs.Drive.{DriveState}
-use Rattle.fdc_core.specs.Ports.{resets}
-use Rattle.fdc_core.specs.Times.{Closes}
-use Rattle.fdc_core.specs.declared.controller.Fdc.{Fdc}
+use Rattle.fdc_core.proofs.Common.{DriveState, resets, Closes, Fdc}
 use Rattle.fdc_core.specs.Drives.Following.{FollowsDor, FollowsWrite, sets_lines}
 
 -- a write that sets no line leaves the drive

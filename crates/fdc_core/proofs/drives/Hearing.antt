@@ -1,11 +1,6 @@
 -- One more word.
 use Rattle.std.proofs.Common.{◌≡◌, ◌⊎◌, inl, inr, ℕ, ◌+◌, ◌<◌, ◌==◌, Bool, true, false, List, [], ◌∷◌, ◌++◌, length, slice_index, sym, ◌∙◌, ap, subst, arith}
-use Rattle.std.proofs.Math.ListN.{get_or-append}
-use Rattle.std.proofs.lemmas.List.{get_or_push}
-use Rattle.std.proofs.lemmas.Bool.Decides.{nat_tests}
-use Rattle.fdc_stages.specs.History.{turns_after}
-use Rattle.fdc_core.specs.Drives.Heard.{IsHeard, IsHeardWhole, start_of, place_in, IsHeardFrom, IsWholeFrom}
-use Rattle.track_separator.specs.Parts.{with_word, turn_after}
+use Rattle.fdc_core.proofs.Common.{get_or-append, get_or_push, nat_tests, turns_after, IsHeard, IsHeardWhole, start_of, place_in, IsHeardFrom, IsWholeFrom, with_word, turn_after}
 use Rattle.fdc_core.proofs.drives.Facts.{length_more}
 
 -- the word at i of the longer list is the one that was there, or the last one

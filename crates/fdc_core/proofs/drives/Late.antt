@@ -1,11 +1,6 @@
 -- What passed after words 0000.
 use Rattle.std.proofs.Common.{◌≡◌, inl, inr, ℕ, ◌+◌, ◌≤◌, Bool, true, false, List, [], ◌∷◌, ◌++◌, length, replicate, refl, sym, ◌∙◌, ap, arith, length-append}
-use Rattle.std.proofs.lemmas.List.{append_assoc, append-nil, replicate-append-replicate, length-replicate}
-use Rattle.fdc_stages.specs.History.{IsAmong, IsTurnIn, Past, heard, words_in, wrote}
-use Rattle.fdc_phases.specs.Heard.{stepped}
-use Rattle.fdc_core.specs.Times.{KeptOut, Saw, Stopped, WordTime, Wrote, after_time}
-use Rattle.track_separator.specs.Parts.{with_word}
-use Rattle.fdc_core.specs.Drives.Spinning.{IsUnheard, led, turn_led, turns_led, unheard}
+use Rattle.fdc_core.proofs.Common.{append_assoc, append-nil, replicate-append-replicate, length-replicate, IsAmong, IsTurnIn, Past, heard, words_in, wrote, stepped, KeptOut, Saw, Stopped, WordTime, Wrote, after_time, with_word, IsUnheard, led, turn_led, turns_led, unheard}
 
 -- ---- one more word
 

@@ -1,17 +1,6 @@
 -- Fields that were heard after words 0000.
 use Rattle.std.proofs.Common.{◌≡◌, inl, inr, ℕ, ◌+◌, ◌-◌, ◌*◌, ◌/◌, ◌<◌, ◌≤◌, Bool, List, [], ◌∷◌, ◌++◌, length, replicate, slice_index, refl, sym, ◌∙◌, ap, subst, arith}
-use Rattle.std.proofs.Math.ListN.{get_or-append}
-use Rattle.std.proofs.lemmas.Bool.{cases_lt}
-use Rattle.std.proofs.lemmas.List.{get_or-append_right, get_or-replicate, length-replicate}
-use Rattle.flop_base.specs.declared.key.Chrn.{Chrn}
-use Rattle.track_model.specs.declared.Look.TheVariants.{Found}
-use Rattle.track_model.specs.Fields.{IsAddressAt, content_at, content_size, data_cells}
-use Rattle.track_model.specs.Looks.{HasDataField, IsIntact, LookAt}
-use Rattle.track_model.specs.Marks.{IsSound}
-use Rattle.fdc_stages.specs.Findings.{FindsSector, HasAddress, IsFoundAt}
-use Rattle.fdc_stages.specs.History.{IsTurnIn, Past}
-use Rattle.fdc_core.specs.Drives.Heard.{IsHeardWhole}
-use Rattle.fdc_core.specs.Drives.Spinning.{led, turn_led}
+use Rattle.fdc_core.proofs.Common.{get_or-append, cases_lt, get_or-append_right, get_or-replicate, length-replicate, Chrn, Found, IsAddressAt, content_at, content_size, data_cells, HasDataField, IsIntact, LookAt, IsSound, FindsSector, HasAddress, IsFoundAt, IsTurnIn, Past, IsHeardWhole, led, turn_led}
 use Rattle.fdc_core.proofs.drives.Fields.{whole_back, data_mark_on, data_mark_back, intact_back}
 use Rattle.fdc_core.proofs.drives.Shifted.{shifted_address_at, shifted_bytes_at}
 use Rattle.fdc_core.proofs.drives.Late.{length_front, turn_of_led}

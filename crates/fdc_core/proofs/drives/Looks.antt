@@ -1,13 +1,7 @@
 -- Data fields that aren't whole, or aren't there, in words that were all heard.
 use Rattle.std.proofs.Common.{◌≡◌, inl, inr, ℕ, ◌+◌, ◌-◌, ◌*◌, List, ◌∷◌, length, drop, sym, ◌∙◌, subst, arith}
-use Rattle.std.proofs.lemmas.List.{get_or-drop, length-drop}
-use Rattle.flop_base.specs.declared.key.Chrn.{Chrn}
-use Rattle.track_model.specs.declared.Look.TheVariants.{BadCrc, NoData}
-use Rattle.track_separator.specs.Parts.{IsPart}
+use Rattle.fdc_core.proofs.Common.{get_or-drop, length-drop, Chrn, BadCrc, NoData, IsPart, Past, FindsBadCheck, FindsNoField, AreHeard, AreHeardWhole, IsHeard, IsHeardFrom, IsHeardWhole, IsWholeFrom, start_of}
 use Rattle.sector_map.specs.Met.{HasLook}
-use Rattle.fdc_stages.specs.History.{Past}
-use Rattle.fdc_stages.specs.Findings.{FindsBadCheck, FindsNoField}
-use Rattle.fdc_core.specs.Drives.Heard.{AreHeard, AreHeardWhole, IsHeard, IsHeardFrom, IsHeardWhole, IsWholeFrom, start_of}
 use Rattle.fdc_core.proofs.drives.Fields.{address_heard, bad_on, none_on}
 use Rattle.fdc_core.proofs.drives.Turns.{turn_heard}
 

@@ -1,10 +1,8 @@
 -- Word times of a controller and its drives, one by one and in a row.
 use Rattle.std.proofs.Common.{◌≡◌, ℕ, zero, suc, refl, sym, ap, ◌∙◌, subst, arith}
 use Rattle.drive_model.specs.Ahead.{LetsPass}
-use Rattle.drive_model.specs.Drive.{DriveState}
-use Rattle.fdc_core.specs.Courses.{Courses, HoldsLines, IsStill}
-use Rattle.fdc_core.specs.Steps.{let_pass}
-use Rattle.fdc_core.specs.declared.controller.Fdc.{Fdc}
+use Rattle.fdc_core.proofs.Common.{DriveState, HoldsLines, IsStill, let_pass, Fdc}
+use Rattle.fdc_core.specs.Courses.{Courses}
 use Rattle.fdc_core.specs.Drives.WordTimes.{PassesWordTime, WordTimes}
 
 -- ---- word times in a row

@@ -1,24 +1,9 @@
 -- The word of a device step, and where the drive then is.
 use Rattle.std.proofs.Common.{◌≡◌, ◌⊎◌, inl, inr, ℕ, ◌+◌, ◌<◌, ◌≤◌, ◌==◌, ◌&&◌, nat_lt, Bool, true, false, List, ◌∷◌, [], ◌++◌, Some, length, slice_index, replicate, if◌then◌else◌, refl, sym, ◌∙◌, ap, subst, arith, length-append}
-use Rattle.std.proofs.lemmas.List.{get_or-replicate, get_or_past, length-replicate}
-use Rattle.std.proofs.lemmas.Bool.{cases_lt}
-use Rattle.std.proofs.lemmas.Bool.Decides.{nat_tests}
-use Rattle.flop_base.specs.declared.key.Chrn.{Chrn}
-use Rattle.track_model.specs.Fields.{IsAddressAt}
-use Rattle.drive_model.specs.Drive.{DriveState, Becomes, passed, at_index, turns, word_under, rate_of}
-use Rattle.fdc_core.specs.Listening.{SeesUnder}
-use Rattle.fdc_core.specs.Steps.{let_pass}
-use Rattle.fdc_phases.specs.Heard.{stepped}
-use Rattle.fdc_phases.specs.Rates.{rate_fits, seen_of}
-use Rattle.fdc_stages.specs.History.{Past, heard}
-use Rattle.flop_base.specs.Counts.{Rose}
-use Rattle.fdc_core.specs.Drives.Heard.{place_in}
-use Rattle.raw_image.specs.Disk.{Disk, IsDisk, track_of}
-use Rattle.sector_map.proofs.RegularTracks.{length-track_of}
+use Rattle.fdc_core.proofs.Common.{get_or-replicate, get_or_past, length-replicate, cases_lt, nat_tests, Chrn, IsAddressAt, DriveState, Becomes, passed, at_index, turns, word_under, rate_of, SeesUnder, let_pass, stepped, rate_fits, seen_of, Past, heard, Rose, place_in, Disk, IsDisk, track_of, length-track_of, IsHearing, IsRecorded, IsUnder, Outset, track_heard}
 use Rattle.fdc_core.proofs.drives.Facts.{if_both, different, le_true}
 use Rattle.sector_map.specs.Met.{unrecorded}
 use Rattle.sector_map.proofs.MetTracks.{length-unrecorded, nothing_unrecorded}
-use Rattle.fdc_core.specs.Drives.Hearing.{IsHearing, IsRecorded, IsUnder, Outset, track_heard}
 use Rattle.fdc_core.proofs.drives.Hearing.{heard_on, heard_on_whole}
 
 -- ---- tests

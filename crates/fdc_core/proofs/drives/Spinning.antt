@@ -1,14 +1,6 @@
 -- A drive whose medium spins up.
 use Rattle.std.proofs.Common.{◌≡◌, ◌⊎◌, inl, inr, ℕ, ◌+◌, ◌<◌, ◌≤◌, nat_le, nat_lt, Bool, true, false, refl, ◌∙◌, ap, arith}
-use Rattle.std.proofs.lemmas.Bool.Decides.{nat_tests}
-use Rattle.raw_image.specs.Disk.{IsDisk}
-use Rattle.drive_model.specs.Drive.{Becomes, DriveState, at_index, rate_of, word_under}
-use Rattle.fdc_stages.specs.History.{Past}
-use Rattle.fdc_phases.specs.Rates.{rate_fits, seen_of}
-use Rattle.fdc_core.specs.Listening.{SeesUnder}
-use Rattle.fdc_core.specs.Steps.{let_pass}
-use Rattle.fdc_core.specs.Drives.Hearing.{IsHearing, Outset}
-use Rattle.fdc_core.specs.Drives.Spinning.{IsSpinning, IsTurningIn, unheard}
+use Rattle.fdc_core.proofs.Common.{nat_tests, IsDisk, Becomes, DriveState, at_index, rate_of, word_under, Past, rate_fits, seen_of, SeesUnder, let_pass, IsHearing, Outset, IsSpinning, IsTurningIn, unheard}
 use Rattle.fdc_core.proofs.drives.Passing.{length_heard, seen_none}
 
 not_le : (a b : ℕ) → b < a → nat_le a b ≡ false

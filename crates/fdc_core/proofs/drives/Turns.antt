@@ -1,8 +1,6 @@
 -- Revolutions that were heard.
 use Rattle.std.proofs.Common.{◌≡◌, inl, inr, ℕ, List, [], ◌∷◌, sym, subst, arith}
-use Rattle.fdc_stages.specs.History.{IsAmong, IsTurnIn, Past}
-use Rattle.fdc_stages.specs.Searches.{IsBetween}
-use Rattle.fdc_core.specs.Drives.Heard.{AreHeard, AreHeardWhole, IsHeard, IsHeardFrom, IsHeardWhole, IsWholeFrom, start_of}
+use Rattle.fdc_core.proofs.Common.{IsAmong, IsTurnIn, Past, IsBetween, AreHeard, AreHeardWhole, IsHeard, IsHeardFrom, IsHeardWhole, IsWholeFrom, start_of}
 use Rattle.fdc_core.proofs.drives.Fields.{turn_is}
 
 among_heard : (track : List ℕ) (from : ℕ) (turns : List (List ℕ)) (turn : List ℕ) → AreHeard track from turns → IsAmong turns turn

@@ -1,18 +1,6 @@
 -- The drive of a command that writes, from one word time to the next: where it is, and what stands on its medium.
 use Rattle.std.proofs.Common.{◌≡◌, ◌⊎◌, inl, inr, ℕ, zero, suc, ◌+◌, ◌*◌, ◌<◌, ◌≤◌, ◌==◌, ◌&&◌, not, nat_lt, Bool, true, false, List, ◌∷◌, [], ◌++◌, Option, Some, length, if◌then◌else◌, refl, sym, ◌∙◌, ap, subst, arith}
-use Rattle.std.proofs.lemmas.Bool.{false_from_ne_true, false≢true}
-use Rattle.std.proofs.lemmas.Bool.Decides.{nat_tests}
-use Rattle.raw_image.specs.Disk.{Disk, IsDisk, HasTrack, with_word as with_word_on}
-use Rattle.track_separator.specs.Parts.{with_word}
-use Rattle.drive_model.specs.Drive.{DriveState, Becomes, Writes, at_index, can_write, is_protected, rewritten}
-use Rattle.fdc_stages.specs.History.{Past, heard, wrote, turns_after, words_heard}
-use Rattle.fdc_phases.specs.Heard.{stepped}
-use Rattle.fdc_phases.specs.Rates.{rate_fits}
-use Rattle.fdc_core.specs.Steps.{let_pass}
-use Rattle.fdc_core.specs.Times.{IsHeardTime, IsWroteTime, Opens}
-use Rattle.fdc_core.specs.Drives.Hearing.{IsHearing, Outset, track_heard}
-use Rattle.fdc_core.specs.Drives.Written.{IsOver}
-use Rattle.fdc_core.specs.Drives.Writing.{ArePutOpen, HasMedium, HearsTrack, IsAtDrive, IsAtWork, IsThere, start_in}
+use Rattle.fdc_core.proofs.Common.{false_from_ne_true, false≢true, nat_tests, Disk, IsDisk, HasTrack, with_word_on, with_word, DriveState, Writes, at_index, can_write, is_protected, rewritten, Past, heard, wrote, turns_after, words_heard, stepped, rate_fits, let_pass, IsHeardTime, IsWroteTime, Opens, IsHearing, Outset, track_heard, IsOver, ArePutOpen, HasMedium, HearsTrack, IsAtDrive, IsAtWork, IsThere, start_in}
 use Rattle.fdc_core.proofs.drives.Facts.{different, length_more, number_is}
 use Rattle.fdc_core.proofs.drives.Passing.{hearing_on, length_heard, lt_of}
 use Rattle.fdc_core.proofs.drives.Written.{gate_opens, put_stays, word_written}

@@ -1,17 +1,6 @@
 -- The word time of a command that writes: the place of its drive, and what was heard.
 use Rattle.std.proofs.Common.{◌≡◌, ◌⊎◌, inl, inr, ℕ, ◌+◌, ◌*◌, ◌≤◌, ◌==◌, ◌&&◌, nat_lt, Bool, true, false, List, ◌∷◌, [], Some, length, if◌then◌else◌, refl, sym, ◌∙◌, ap, subst, arith}
-use Rattle.std.proofs.lemmas.Bool.{false≢true}
-use Rattle.flop_base.specs.declared.key.Chrn.{Chrn}
-use Rattle.raw_image.specs.Disk.{Disk}
-use Rattle.track_model.specs.Fields.{IsAddressAt}
-use Rattle.track_separator.specs.Parts.{with_word, turn_after}
-use Rattle.drive_model.specs.Drive.{DriveState, Writes, passed, at_index, turns}
-use Rattle.fdc_stages.specs.History.{Past, place_after, turns_after, words_in}
-use Rattle.fdc_core.specs.Times.{Opens, Closes}
-use Rattle.fdc_core.specs.Drives.Heard.{AreHeard, start_of}
-use Rattle.fdc_core.specs.Drives.Hearing.{IsRecorded, Outset, track_heard}
-use Rattle.fdc_core.specs.Drives.Written.{IsOver}
-use Rattle.fdc_core.specs.Drives.Writing.{ArePut, ArePutOpen, HearsTrack, start_in}
+use Rattle.fdc_core.proofs.Common.{false≢true, Chrn, Disk, IsAddressAt, with_word, turn_after, DriveState, Writes, passed, at_index, turns, Past, place_after, turns_after, words_in, Opens, Closes, AreHeard, start_of, IsRecorded, Outset, track_heard, IsOver, ArePut, ArePutOpen, HearsTrack, start_in}
 use Rattle.fdc_core.proofs.drives.Facts.{if_both, le_true, length_more}
 use Rattle.fdc_core.proofs.drives.Fields.{address_heard}
 use Rattle.fdc_core.proofs.drives.Passing.{recorded}

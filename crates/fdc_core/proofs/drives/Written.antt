@@ -1,20 +1,14 @@
 -- One more word, between the opening of the gate and its closing.
 use Rattle.std.proofs.Common.{◌≡◌, inl, inr, ℕ, ◌+◌, ◌-◌, ◌<◌, ◌≤◌, ◌&&◌, not, Bool, true, false, List, [], ◌∷◌, ◌++◌, length, take, drop, slice_set, Some, if◌then◌else◌, refl, sym, ◌∙◌, ap, subst, arith}
 use Rattle.std.specs.Prelude.{IfSome}
-use Rattle.std.proofs.Math.ListN.{get_or-append, length-set}
+use Rattle.fdc_core.proofs.Common.{get_or-append, length-set, drop-set-add, ext_get_or, get_or-set_other, get_or_push, get_or-take, length-take, take_all, take-append-drop, cases_lt, Rose, Disk, IsDisk, HasTrack, IsWithTrack, track_of, track_start, length-track_of, DriveState, Writes, can_write, rewritten, with_gate, IsOver, Stands, IsPut, IsPutOpen}
 use Rattle.std.proofs.Math.Seq.{take-set-lt}
-use Rattle.std.proofs.lemmas.List.{drop-set-add, ext_get_or, get_or-set_other, get_or_push, get_or-take, length-take, take_all, take-append-drop}
-use Rattle.std.proofs.lemmas.Bool.{cases_lt}
 use Rattle.std.proofs.lemmas.Grind.{get_or-set_at}
-use Rattle.flop_base.specs.Counts.{Rose}
 use Rattle.flop_base.specs.Lists.{with_items}
 use Rattle.track_model.proofs.Splices.{length-with_items, with_items_before, with_items_at, with_items_behind}
-use Rattle.raw_image.specs.Disk.{Disk, IsDisk, HasTrack, IsWithTrack, track_of, track_start, with_word}
+use Rattle.raw_image.specs.Disk.{with_word}
 use Rattle.raw_image.proofs.Tracks.{track_of-others}
 use Rattle.sector_map.proofs.KeptTracks.{with_itself}
-use Rattle.sector_map.proofs.RegularTracks.{length-track_of}
-use Rattle.drive_model.specs.Drive.{DriveState, Becomes, Writes, can_write, rewritten, with_gate}
-use Rattle.fdc_core.specs.Drives.Written.{IsOver, Stands, IsPut, IsPutOpen}
 use Rattle.fdc_core.proofs.drives.Facts.{not_granting, le_true, length_more, lt_true}
 
 -- ---- a word more on a track

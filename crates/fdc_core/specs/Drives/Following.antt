@@ -1,6 +1,6 @@
 -- Drives at a port write.
 use Rattle.std.specs.Prelude.{◌≡◌, ◌↔◌, ◌+◌, ℕ, Bool, true, false, ◌||◌, ◌==◌, IsTrue, IsBitSet}
-use Rattle.drive_model.specs.Drive.{DriveState, with_motor}
+use Rattle.fdc_core.specs.Common.{DriveState, with_motor}
 use Rattle.fdc_core.specs.Ports.{resets}
 use Rattle.fdc_core.specs.State.{dor_of}
 use Rattle.fdc_core.specs.Times.{Closes}

@@ -1,12 +1,7 @@
 -- What a command heard of the track under its head.
 use Rattle.std.specs.Prelude.{◌≡◌, ℕ, ◌<◌, ◌≤◌, ◌&&◌, nat_lt, if◌then◌else◌, Bool, true, Some, List}
-use Rattle.flop_base.specs.Counts.{last_count}
-use Rattle.raw_image.specs.Disk.{Disk, HasTrack, track_of}
+use Rattle.fdc_core.specs.Common.{last_count, Disk, HasTrack, track_of, DriveState, Past, rate_fits, DataRate}
 use Rattle.sector_map.specs.Met.{unrecorded}
-use Rattle.drive_model.specs.Drive.{DriveState}
-use Rattle.fdc_stages.specs.History.{Past}
-use Rattle.fdc_phases.specs.Rates.{rate_fits}
-use Rattle.fdc_phases.specs.declared.rates.DataRate.{DataRate}
 use Rattle.fdc_core.specs.Drives.Heard.{place_in, IsHeardFrom, IsWholeFrom}
 
 -- how the drive stood when listening began

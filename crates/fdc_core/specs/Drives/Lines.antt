@@ -1,6 +1,6 @@
 -- The drive that is selected, and its lines.
 use Rattle.std.specs.Prelude.{ℕ, ◌%◌, ◌==◌, false, if◌then◌else◌}
-use Rattle.drive_model.specs.Drive.{DriveState, is_protected}
+use Rattle.fdc_core.specs.Common.{DriveState, is_protected}
 use Rattle.fdc_core.specs.State.{dor_of}
 use Rattle.fdc_core.specs.declared.controller.Fdc.{Fdc}
 use Rattle.fdc_core.specs.declared.controller.Lines.{Lines}

@@ -1,7 +1,6 @@
 -- What is heard where the medium spins up first: words 0000, until it is at speed.
 use Rattle.std.specs.Prelude.{◌≡◌, ℕ, ◌+◌, ◌<◌, ◌≤◌, true, false, Some, List, [], ◌∷◌, ◌++◌, replicate}
-use Rattle.drive_model.specs.Drive.{DriveState}
-use Rattle.fdc_stages.specs.History.{Past}
+use Rattle.fdc_core.specs.Common.{DriveState, Past}
 use Rattle.fdc_core.specs.Drives.Hearing.{Outset}
 
 -- ---- what was heard

@@ -1,6 +1,6 @@
 -- Word times of a controller and its drives.
 use Rattle.std.specs.Prelude.{◌≡◌, ◌≤◌, ℕ, zero, suc}
-use Rattle.drive_model.specs.Drive.{DriveState}
+use Rattle.fdc_core.specs.Common.{DriveState}
 use Rattle.fdc_core.specs.Courses.{HoldsLines, Works, WorksAlone}
 use Rattle.fdc_core.specs.Steps.{let_pass}
 use Rattle.fdc_core.specs.declared.controller.Fdc.{Fdc}

@@ -1,9 +1,6 @@
 -- The drive of a command that writes, between two device steps.
 use Rattle.std.specs.Prelude.{◌≡◌, ℕ, ◌+◌, ◌*◌, ◌<◌, ◌≤◌, Bool, true, false, Some, List, [], length}
-use Rattle.raw_image.specs.Disk.{HasTrack}
-use Rattle.drive_model.specs.Drive.{DriveState}
-use Rattle.fdc_stages.specs.History.{Past, words_heard}
-use Rattle.fdc_phases.specs.Rates.{rate_fits}
+use Rattle.fdc_core.specs.Common.{HasTrack, DriveState, Past, words_heard, rate_fits}
 use Rattle.fdc_core.specs.Drives.Heard.{place_in, IsHeardFrom, IsWholeFrom}
 use Rattle.fdc_core.specs.Drives.Hearing.{IsCalm, Outset, track_heard}
 use Rattle.fdc_core.specs.Drives.Written.{IsOver, IsPut, IsPutOpen}

@@ -1,8 +1,7 @@
 -- Words that were written on a track, and what stands of them.
 use Rattle.std.specs.Prelude.{◌≡◌, ℕ, ◌+◌, ◌≤◌, true, false, Some, List, length, take}
 use Rattle.flop_base.specs.Lists.{with_items}
-use Rattle.raw_image.specs.Disk.{Disk, IsWithTrack, track_of}
-use Rattle.drive_model.specs.Drive.{DriveState}
+use Rattle.fdc_core.specs.Common.{Disk, IsWithTrack, track_of, DriveState}
 use Rattle.fdc_core.specs.Drives.Hearing.{IsCalm}
 
 -- the medium turns at speed, with this word of this cylinder under the heads

@@ -1,6 +1,6 @@
 // Word times of the controller and its drives, one by one and many at once.
 ghost use Rattle.std.specs.Prelude.{◌≤◌};
-ghost use Rattle.drive_model.specs.Ahead.{LetsPass};
+ghost use Rattle.fdc_core.specs.Common.{LetsPass};
 ghost use Rattle.fdc_core.specs.Courses.{Courses, Works, WorksAlone};
 ghost use Rattle.fdc_core.specs.Drives.Lines.{selected_by};
 ghost use Rattle.fdc_core.specs.Drives.WordTimes.{Passes, PassesWordTime, WordTimes};

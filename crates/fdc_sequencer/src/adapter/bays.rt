@@ -1,9 +1,8 @@
 // The bays: putting media in, taking them out, and what a front end shows of the drives.
 ghost use Rattle.std.specs.Prelude.{◌≡◌, ◌≤◌, ◌+◌, ◌↔◌, IsTrue, IsBitSet};
 ghost use Rattle.std.specs.Option.{option_copied};
-ghost use Rattle.drive_model.specs.Drive.{forgotten, place_under};
+ghost use Rattle.fdc_sequencer.specs.Common.{forgotten, place_under, dor_of};
 ghost use Rattle.fdc_sequencer.specs.Handling.{PutsIn, TakesOut, Sets};
-ghost use Rattle.fdc_core.specs.State.{dor_of};
 
 use crate::adapter::DisketteAdapter;
 use drive_model::Inspect;

@@ -1,9 +1,7 @@
 // Whether the controller does anything or its heads only move, how long its lines surely stay, and the range of its
 // numbers.
 ghost use Rattle.std.specs.Prelude.{◌≡◌, ◌≤◌, true};
-ghost use Rattle.fdc_core.specs.Courses.{awaits_nothing, is_at_rest};
-ghost use Rattle.fdc_core.specs.Quiet.{Foresees, IsLongest};
-ghost use Rattle.fdc_core.specs.Ranges.{IsInRange};
+ghost use Rattle.fdc_sequencer.specs.Common.{awaits_nothing, is_at_rest, Foresees, IsLongest, IsInRange};
 ghost use Rattle.fdc_sequencer.specs.AdapterStill.{Stands, heads_at, steps_ahead};
 ghost use Rattle.fdc_sequencer.specs.Quiet.{drive_selected};
 

@@ -1,12 +1,7 @@
 // Whole commands, their endings and seeks, for a layer in front of the adapter that collects the bytes of commands
 // itself.
 ghost use Rattle.std.specs.Prelude.{◌≡◌, ◌≤◌};
-ghost use Rattle.fdc_core.specs.Commands.{status_of_lines};
-ghost use Rattle.fdc_core.specs.Fields.{ReadsField};
-ghost use Rattle.fdc_core.specs.Listening.{is_executing};
-ghost use Rattle.fdc_core.specs.State.{is_gated};
-ghost use Rattle.fdc_core.specs.Whole.{is_idle, TakesWhole, ending_told, results_waiting, given_up, mark_of, recalibrated_within, without_seek};
-ghost use Rattle.fdc_commands.specs.Seeking.{has_ended_seek};
+ghost use Rattle.fdc_sequencer.specs.Common.{status_of_lines, ReadsField, is_executing, is_gated, is_idle, TakesWhole, ending_told, results_waiting, given_up, mark_of, recalibrated_within, without_seek, has_ended_seek};
 
 use crate::adapter::DisketteAdapter;
 use drive_model::Inspect;

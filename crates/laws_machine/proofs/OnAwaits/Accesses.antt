@@ -1,11 +1,8 @@
 -- A data command that is awaited, from the port write that begins it on, and through port reads.
 use Rattle.std.proofs.Common.{◌≡◌, ℕ, ◌==◌, Bool, true, false, [], ◌∷◌, ◌++◌, if◌then◌else◌, refl, sym, ◌∙◌, ap, subst}
-use Rattle.std.proofs.lemmas.Bool.{false≢true}
-use Rattle.laws_machine.proofs.Common.{answer, kept, Ready, ReadData, FormatTrack, Obeys, TakesAs, asked, is_executing, given, is_taking, data_commands_of, Fdc, counted, Board, controller_of, lines_of, irq_taken, is_controllers, Inputs, Outputs, shown_again, drive_stays, IsHushed, Scene, write_of, read_from, Order, Identify, Read, Write, Window, Track, CanBegin, IsLetOut, HoldsSet, IsAwaited}
-use Rattle.dma_8237.specs.Channel.{after_read}
+use Rattle.laws_machine.proofs.Common.{answer, kept, Ready, ReadData, FormatTrack, Obeys, TakesAs, asked, is_executing, given, is_taking, data_commands_of, Fdc, counted, Board, controller_of, lines_of, irq_taken, is_controllers, Inputs, Outputs, shown_again, drive_stays, IsHushed, Scene, write_of, read_from, Order, Identify, Read, Write, Window, Track, CanBegin, IsLetOut, HoldsSet, IsAwaited, false≢true, after_read, begun_with}
 use Rattle.fdc_commands.specs.declared.command.Command.{Command}
 use Rattle.fdc_commands.specs.declared.command.Command.TheVariants.{ReadId}
-use Rattle.fdc_core.specs.Commands.{begun as begun_with}
 use Rattle.fdc_core.specs.Ports.{Writes}
 use Rattle.laws_machine.proofs.OnOrders.Beginning.{begins_write}
 use Rattle.laws_machine.proofs.OnSteps.Runs.{gap, inputs}
@@ -95,9 +92,8 @@ begins_awaited order scene byte old new access can out hushed =
 read_same : (old new : Board) (controllers data_port : Bool) (port : ℕ) → data_port ≡ false
     → new.bus.chips ≡ (if controllers then shown_again (record old.bus.chips { controller = if data_port then given (controller_of old) else controller_of old }) else record old.bus.chips { channel = after_read port old.bus.chips.channel })
     → controller_of new ≡ controller_of old
-read_same old new true false port other is = ap (λ chips. chips.controller) is
 read_same old new true true port other is = absurd (false≢true (sym other))
-read_same old new false data_port port other is = ap (λ chips. chips.controller) is
+read_same old new _ _ port other is = ap (λ chips. chips.controller) is
 
 pub input_awaits : (begun port value : ℕ) (start old new : Board) → (port == 0x3F5) ≡ false → Inputs port old value new → IsAwaited begun start old → IsAwaited begun start new
 input_awaits begun port value start old new other access was =

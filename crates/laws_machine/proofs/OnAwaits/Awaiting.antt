@@ -1,9 +1,7 @@
 -- A data command that is awaited, through device steps and waits.
 use Rattle.std.proofs.Common.{inl, inr, ◌≡◌, ℕ, ◌%◌, ◌≤◌, ◌==◌, ◌&&◌, Bool, true, false, None, [], ◌∷◌, ◌++◌, length, refl, sym, ◌∙◌, ap, subst}
-use Rattle.std.proofs.lemmas.Bool.{false≢true}
-use Rattle.laws_machine.proofs.Common.{DriveState, at_index, is_stray_due, Fifo, room_of, Dor, with_byte, is_reading, is_executing, ExecutesIn, interrupts, is_gated, dor_of, polled, seek_stepped, MovesIn, RestsIn, Stays, WritesIn, Fdc, Phase, Command, Execute, Result, Board, controller_of, latch_of, drive_in, Works, Step, strayed_if, lined, Chips, IsHushed, regapped, Steady, TurnsOn, IsLetOut, HoldsSet, is_unread, IsAwaited}
+use Rattle.laws_machine.proofs.Common.{DriveState, at_index, is_stray_due, Fifo, room_of, Dor, with_byte, is_reading, is_executing, ExecutesIn, interrupts, is_gated, dor_of, polled, seek_stepped, MovesIn, RestsIn, Stays, WritesIn, Fdc, Phase, Execute, Board, controller_of, latch_of, drive_in, Works, Step, strayed_if, lined, Chips, IsHushed, regapped, Steady, TurnsOn, IsLetOut, HoldsSet, is_unread, IsAwaited, false≢true, dma_stepped}
 use Rattle.laws_machine.proofs.Facts.{if_both, either_is, lined_rose, lined_set, strayed_level, strayed_set, told_busy, told_on, told_threshold}
-use Rattle.pc_bus.specs.Transfers.{dma_stepped}
 use Rattle.laws_machine.proofs.OnQuiet.Listening.{stepped_none, pulse_none}
 use Rattle.laws_machine.proofs.OnQuiet.Standing.{polled_same}
 use Rattle.laws_machine.proofs.OnSteps.Controllers.{idle_dma, dma_controller}
@@ -40,11 +38,9 @@ stepped_behind before after old between idle none drive is = record {
 
 rests_behind : (phase : Phase) (before after : DriveState) (old between : Fdc) → old.phase ≡ phase → is_executing phase ≡ false → old.seeks.seek ≡ None
     → MovesIn phase old before after → RestsIn phase (before.cylinder == 0) old between → IsBehind before after old between
-rests_behind Command before after old between at idle none moves rests =
-    stepped_behind before after old between (ap is_executing at) none (as_turned before after (turned_moves _ before after (pulse_none old.seeks (before.cylinder == 0) none) moves)) rests
-rests_behind (Result answer) before after old between at idle none moves rests =
-    stepped_behind before after old between (ap is_executing at) none (as_turned before after (turned_moves _ before after (pulse_none old.seeks (before.cylinder == 0) none) moves)) rests
 rests_behind (Execute execution) before after old between at idle none moves rests = absurd (false≢true (sym idle))
+rests_behind _ before after old between at idle none moves rests =
+    stepped_behind before after old between (ap is_executing at) none (as_turned before after (turned_moves _ before after (pulse_none old.seeks (before.cylinder == 0) none) moves)) rests
 
 -- in execution, after the poll
 busy_behind : (before after : DriveState) (old between : Fdc) (index : Bool) (word : ℕ) → is_executing old.phase ≡ true → MovesIn old.phase old before after

@@ -1,8 +1,7 @@
 -- A data command, from its beginning until its end is reported: through device steps, waits, spurious interrupts that
 -- are taken, and reads of MSR.
 use Rattle.std.proofs.Common.{◌≡◌, ◌⊎◌, inl, inr, ℕ, ◌+◌, ◌≤◌, Bool, true, false, min, if◌then◌else◌, refl, sym, ◌∙◌, ap, subst, arith}
-use Rattle.std.proofs.lemmas.Bool.{false≢true}
-use Rattle.laws_machine.proofs.Common.{last_count, Rose, is_executing, takes_in, asks, data_commands_of, is_held, Phase, Command, Execute, Result, CountsGoOn, GoesQuietly, HoldsOn, Turned, only_listens, Scene, AreShort, counted, shown, LeavesOthers, IsFedInTime, IsOnTime, read_from, Stalled, Keeping, regapped, Steady, Order, Identify, Read, Write, CanBegin, IsAwaited, is_unread, Board, controller_of, holds_of, irq_taken, Inputs, Outputs, Waits, stirred, Chips}
+use Rattle.laws_machine.proofs.Common.{last_count, Rose, is_executing, takes_in, asks, data_commands_of, is_held, Phase, Command, Execute, CountsGoOn, GoesQuietly, HoldsOn, Turned, only_listens, Scene, AreShort, counted, shown, LeavesOthers, IsFedInTime, IsOnTime, read_from, Stalled, Keeping, regapped, Steady, Order, Identify, Read, Write, CanBegin, IsAwaited, is_unread, Board, controller_of, holds_of, irq_taken, Inputs, Outputs, Waits, stirred, Chips, false≢true, CountsOn, EndsSoon, GoesOn, InTime, Listens, StandsReady, with_one, Runs}
 use Rattle.laws_machine.proofs.Facts.{shown_stalls}
 use Rattle.laws_machine.proofs.OnCounts.Counting.{counting, input_counts, output_counts}
 use Rattle.laws_machine.proofs.OnQuiet.Steps.{quietly, starts_quietly}
@@ -17,10 +16,8 @@ use Rattle.laws_machine.proofs.OnSteps.Runs.{from_start, inputs, wait, waits}
 use Rattle.laws_machine.proofs.OnSteps.Stalls.{gap_until, until_stalled}
 use Rattle.laws_machine.proofs.OnOrders.Accesses.{begins, inputs_keep}
 use Rattle.laws_machine.proofs.OnOrders.Steps.{underway}
-use Rattle.laws_machine.specs.OnAwaits.Goes.{CountsOn, EndsSoon, GoesOn, InTime, Listens, StandsReady, with_one}
 use Rattle.laws_machine.proofs.OnAwaits.Awaiting.{awaiting}
 use Rattle.laws_machine.proofs.OnAwaits.Accesses.{begins_awaited, input_awaits, stray_awaits}
-use Rattle.pc_bus.specs.Steps.{Runs}
 use Rattle.laws_machine.proofs.OnWrites.Filling.{filling_held, filling_low}
 
 -- ---- the counts
@@ -98,15 +95,13 @@ begins_in_time (Write laid) scene byte old new access can ready = begins_on_time
 -- ---- a READ DATA ends soon
 
 ending_soon : (order : Order) (scene : Scene) → Steady (EndsSoon order scene)
-ending_soon Identify scene = record { step = λ old new step was. tt; idle = λ old gaps fresh was. tt }
 ending_soon Read scene = soon_over scene
-ending_soon (Write laid) scene = record { step = λ old new step was. tt; idle = λ old gaps fresh was. tt }
+ending_soon _ scene = record { step = λ old new step was. tt; idle = λ old gaps fresh was. tt }
 
 begins_to_end : (order : Order) (scene : Scene) (byte : ℕ) (old new : Board) → Outputs 0x3F5 byte old new → CanBegin order scene byte old → StandsReady old → AreShort (holds_of old)
     → EndsSoon order scene new
-begins_to_end Identify scene byte old new access can ready short = tt
 begins_to_end Read scene byte old new access can ready short = begins_soon scene byte old new access can ready.out.gated short
-begins_to_end (Write laid) scene byte old new access can ready short = tt
+begins_to_end _ scene byte old new access can ready short = tt
 
 status_soon : (order : Order) (scene : Scene) (value : ℕ) (old new : Board) → Inputs 0x3F4 old value new → ((controller_of new).phase ≡ Command → ⊥) → EndsSoon order scene old
     → EndsSoon order scene new
@@ -118,16 +113,14 @@ status_soon Read scene value old new access other was = elim (inputs_soon 0x3F4 
 status_soon (Write laid) scene value old new access other was = tt
 
 taken_soon : (order : Order) (scene : Scene) (old : Board) → EndsSoon order scene old → EndsSoon order scene (record old { bus = irq_taken old.bus })
-taken_soon Identify scene old was = tt
 taken_soon Read scene old ((past, is), soon, short) = ((past, record { scene_is = is.scene_is; chips = is.chips; drive = is.drive }), soon, short)
-taken_soon (Write laid) scene old was = tt
+taken_soon _ scene old was = tt
 
 -- ---- the drives under a command that reads
 
 listening : (order : Order) (begun : ℕ) (start : Board) → Steady (Listens order begun start)
-listening Identify begun start = quietly begun start
-listening Read begun start = quietly begun start
 listening (Write laid) begun start = record { step = λ old new step was. tt; idle = λ old gaps fresh was. tt }
+listening _ begun start = quietly begun start
 
 same_quietly : (begun : ℕ) (start old new : Board) → controller_of new ≡ controller_of old → new.first ≡ old.first → new.second ≡ old.second → new.bus.direct ≡ old.bus.direct
     → GoesQuietly begun start old → GoesQuietly begun start new
@@ -143,14 +136,12 @@ same_quietly begun start old new controller first second direct was = record {
 -- the same controller and drives
 listens_same : (order : Order) (begun : ℕ) (start old new : Board) → controller_of new ≡ controller_of old → new.first ≡ old.first → new.second ≡ old.second → new.bus.direct ≡ old.bus.direct
     → Listens order begun start old → Listens order begun start new
-listens_same Identify begun start old new controller first second direct was = same_quietly begun start old new controller first second direct was
-listens_same Read begun start old new controller first second direct was = same_quietly begun start old new controller first second direct was
 listens_same (Write laid) begun start old new controller first second direct was = tt
+listens_same _ begun start old new controller first second direct was = same_quietly begun start old new controller first second direct was
 
 taking_listens : (phase : Phase) (held : Bool) → takes_in phase held ≡ true → only_listens phase ≡ true
-taking_listens Command held taking = refl
-taking_listens (Result answer) held taking = refl
 taking_listens (Execute execution) held taking = absurd (false≢true taking)
+taking_listens _ held taking = refl
 
 begins_listening : (order : Order) (scene : Scene) (byte : ℕ) (old new : Board) → Outputs 0x3F5 byte old new → CanBegin order scene byte old → StandsReady old → Listens order (with_one old) old new
 begins_listening Identify scene byte old new access can ready =

@@ -1,10 +1,7 @@
 -- How many device steps a data command has taken.
 use Rattle.std.proofs.Common.{◌≡◌, ℕ, ◌*◌, ◌≤◌, Bool, true, refl, subst, arith}
-use Rattle.laws_machine.proofs.Common.{DriveState, Fifo, Past, IsPaced, PacedIn, is_hearing, MayFormatIn, MayFormatTask, MayWriteIn, MayWriteTask, Numbers, Sent, Phase, Execute, Task, Format, ReadId, AreShort, Board, controller_of, drive_in, holds_of, Scene, IsScene, track_met, IsHearing, Order, Identify, Read, Write, Window, Track, most_steps_of, steps_taken}
-use Rattle.fdc_core.proofs.Meanings.{paced_id}
-use Rattle.fdc_phases.specs.Heard.{MayReadIdIn, MayReadIdTask}
+use Rattle.laws_machine.proofs.Common.{DriveState, Fifo, Past, IsPaced, PacedIn, is_hearing, MayFormatIn, MayFormatTask, MayWriteIn, MayWriteTask, Numbers, Sent, Phase, Execute, Task, Format, ReadId, AreShort, Board, controller_of, drive_in, holds_of, Scene, IsScene, track_met, IsHearing, Order, Identify, Read, Write, Window, Track, most_steps_of, steps_taken, paced_id, MayReadIdIn, MayReadIdTask, GoesOn}
 use Rattle.fdc_phases.specs.declared.phases.Task.TheVariants as task
-use Rattle.laws_machine.specs.OnAwaits.Goes.{GoesOn}
 use Rattle.laws_machine.proofs.OnReads.EndSteps.{soon_few_of}
 use Rattle.laws_machine.proofs.OnReads.EndWords.{words_few}
 use Rattle.laws_machine.proofs.OnReads.Words.{length-met}

@@ -1,10 +1,9 @@
 -- Drives that go on turning, while words are read and written.
 use Rattle.std.proofs.Common.{◌≡◌, inl, inr, ℕ, ◌≤◌, ◌&&◌, nat_lt, not, Bool, true, false, Option, Some, None, is_some, if◌then◌else◌, refl, sym, ◌∙◌, ap, subst, arith}
-use Rattle.laws_machine.proofs.Common.{Disk, spends_twice, DriveState, Becomes, Writes, can_write, has_track, rewritten, turns, with_gate, let_pass, WordTime, Saw, KeptOut, Wrote, Stopped, IsTime, Opens, Closes, DataRate, Turned, TurnsOn}
+use Rattle.laws_machine.proofs.Common.{Disk, spends_twice, DriveState, Becomes, Writes, can_write, has_track, rewritten, turns, with_gate, let_pass, WordTime, Saw, KeptOut, Wrote, Stopped, IsTime, Opens, Closes, DataRate, Turned, TurnsOn, becomes_at}
 use Rattle.laws_machine.proofs.Facts.{if_both, spin_on}
 use Rattle.raw_image.specs.Disk.{with_word}
 use Rattle.laws_machine.proofs.OnQuiet.Turning.{turned_calmly, turned_let, turned_still}
-use Rattle.drive_model.proofs.Passing.{becomes_at}
 
 pub as_turned : (old new : DriveState) → Turned old new → TurnsOn old new
 as_turned old new turned = record { stays_in = ap is_some turned.medium; cylinder = turned.cylinder; change = turned.change; motor = turned.motor; spin = turned.spin; never_falls = turned.faults; spends = turned.spends }

@@ -1,7 +1,6 @@
 -- What a word time in execution leaves of the controller.
 use Rattle.std.proofs.Common.{◌≡◌, inl, inr, ℕ, ◌+◌, ◌==◌, Bool, true, false, Option, Some, None, length, if◌then◌else◌, refl, sym, ◌∙◌, subst}
-use Rattle.std.proofs.lemmas.Bool.{false≢true}
-use Rattle.laws_machine.proofs.Common.{DriveState, Fifo, ReadOutcome, SearchOutcome, Ending, Overrun, FormatNext, WriteNext, FormatDoes, after_laid, is_executing, ExecutesIn, is_listening, ending_of, after_searched, after_heard, over_or_on, gone_on_reading, at_stage, pushed, is_full, finished, MovesIn, MovesTask, WordTime, Saw, KeptOut, Wrote, Stopped, WritesIn, WritesTask, WriteDoes, after_next, without_byte, Fdc, Phase, Command, Execute, Result, Reading, Task, ReadId, Format, Formatting, Writing, TurnsOn, is_unread}
+use Rattle.laws_machine.proofs.Common.{DriveState, Fifo, ReadOutcome, SearchOutcome, Ending, Overrun, FormatNext, WriteNext, FormatDoes, after_laid, is_executing, ExecutesIn, is_listening, ending_of, after_searched, after_heard, over_or_on, gone_on_reading, at_stage, pushed, is_full, finished, MovesIn, MovesTask, WordTime, Saw, KeptOut, Wrote, Stopped, WritesIn, WritesTask, WriteDoes, after_next, without_byte, Fdc, Phase, Execute, Reading, Task, ReadId, Format, Formatting, Writing, TurnsOn, is_unread, false≢true}
 use Rattle.fdc_stages.specs.Readings as given
 use Rattle.fdc_stages.specs.Searches as searched
 use Rattle.fdc_stages.specs.declared.formatting.FormatNext.TheVariants as format_next
@@ -127,7 +126,6 @@ task_leaves (Format formatting) head_drive steps asking fifo index word polls be
 -- in execution
 pub word_leaves : (phase : Phase) (asking : Bool) (fifo : Fifo) (index : Bool) (word : ℕ) (polls : Fdc) (before after : DriveState) (new : Fdc) → is_executing phase ≡ true → MovesIn phase polls before after
     → WritesIn phase asking fifo polls before after new → ExecutesIn phase index word polls new → LeavesBoth before after polls new
-word_leaves Command asking fifo index word polls before after new busy moves writes executes = absurd (false≢true busy)
-word_leaves (Result answer) asking fifo index word polls before after new busy moves writes executes = absurd (false≢true busy)
 word_leaves (Execute execution) asking fifo index word polls before after new busy moves writes executes =
     task_leaves execution.task execution.head_drive execution.steps asking fifo index word polls before after new moves writes executes
+word_leaves _ asking fifo index word polls before after new busy moves writes executes = absurd (false≢true busy)

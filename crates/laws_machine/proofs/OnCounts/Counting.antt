@@ -1,11 +1,6 @@
 -- Counts, step by step and access by access.
 use Rattle.std.proofs.Common.{◌≡◌, ℕ, ◌+◌, ◌≤◌, min, nat_lt, Bool, true, false, List, [], ◌∷◌, if◌then◌else◌, refl, sym, ◌∙◌, ap, subst, arith}
-use Rattle.laws_machine.proofs.Common.{last_count, drive_twice, asks, next_entry, rest_of, Holds, looked, waited, shown, counted, DmaRequest, Low, High, Board, controller_of, holds_of, is_controllers, port_read, WritesPort, Inputs, Outputs, Step, looked_at, shown_again, Chips, counts_of, CountsGoOn, regapped, Progress}
-use Rattle.flop_base.proofs.Counted.{drive_itself}
-use Rattle.dma_8237.specs.Channel.{after_read}
-use Rattle.fdc_core.specs.Ports.{after_read as controller_after}
-use Rattle.irq_events.specs.Holds.{stalls_with}
-use Rattle.pc_bus.specs.Transfers.{moved_up_to, dma_stepped}
+use Rattle.laws_machine.proofs.Common.{last_count, drive_twice, asks, next_entry, rest_of, Holds, looked, waited, shown, counted, DmaRequest, Low, High, Board, controller_of, holds_of, is_controllers, port_read, WritesPort, Inputs, Outputs, Step, looked_at, shown_again, Chips, counts_of, CountsGoOn, regapped, Progress, drive_itself, after_read, controller_after, stalls_with, moved_up_to, dma_stepped}
 use Rattle.pc_bus.specs.Counts.{long_holds}
 use Rattle.laws_machine.proofs.OnSteps.Runs.{from_start, inputs, outputs}
 use Rattle.laws_machine.proofs.OnCounts.Spending.{DrivesGoOn, drives_step, drives_written, drives_same}

@@ -1,8 +1,6 @@
 -- NW comes of a protected medium alone.
 use Rattle.std.proofs.Common.{◌≡◌, ℕ, ◌+◌, true, false, refl, sym, ◌∙◌, ap}
-use Rattle.std.proofs.lemmas.Bool.{false≢true}
-use Rattle.laws_machine.proofs.Common.{DriveState, is_protected, Ending, Done, NoField, FormatNext, FormatDoes, after_laid, WordTime, Saw, KeptOut, Wrote, Stopped, Fdc, Formatting, refuses, refuses_as}
-use Rattle.fdc_stages.specs.Formats.{FailsWell, IsEnd, EndsWell}
+use Rattle.laws_machine.proofs.Common.{DriveState, is_protected, Ending, Done, NoField, FormatNext, FormatDoes, after_laid, WordTime, Saw, KeptOut, Wrote, Stopped, Fdc, Formatting, refuses, refuses_as, false≢true, FailsWell, IsEnd, EndsWell}
 use Rattle.fdc_stages.specs.declared.formatting.FormatNext.TheVariants as next
 use Rattle.laws_machine.proofs.OnWrites.Covered.{stops_covered}
 

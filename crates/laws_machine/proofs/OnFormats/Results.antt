@@ -1,20 +1,13 @@
 -- From the words that were laid to the medium.
 use Rattle.std.proofs.Common.{true, ◌≡◌, ◌⊎◌, inl, inr, ℕ, ◌+◌, ◌*◌, ◌≤◌, Bool, false, List, [], ◌∷◌, length, take, drop, refl, sym, ◌∙◌, ap, subst, arith}
-use Rattle.laws_machine.proofs.Common.{Chrn, Disk, HasTrack, IsWithTrack, track_of, Channel, DriveState, Fifo, Past, Ending, Done, NoMark, NoSector, NoField, BadCheck, Overrun, NoCount, Protected, Late, Numbers, HasLaid, IsBehindFirst, IsWholeTurn, IsFirstOf, IsContent, MayFormatIn, MayFormatTask, Short, Long, Phase, Command, Execute, Result, Task, content_of, place_in, IsCalm, Scene, IsScene, head_sent, IsAtDrive, IsThere, start_in, IsTaken, range_of, refuses, refuses_as, AreKeysOf}
+use Rattle.laws_machine.proofs.Common.{Chrn, Disk, HasTrack, IsWithTrack, track_of, Channel, DriveState, Fifo, Past, Ending, Done, NoMark, NoField, Overrun, Protected, Late, Numbers, HasLaid, IsBehindFirst, IsWholeTurn, IsFirstOf, IsContent, MayFormatIn, MayFormatTask, Short, Long, Phase, Command, Execute, Result, Task, content_of, place_in, IsCalm, Scene, IsScene, head_sent, IsAtDrive, IsThere, start_in, IsTaken, range_of, refuses, refuses_as, AreKeysOf, with_items, HasFormatted, IsFormatting, Formats, none_or_some, FormatEndedIn, FormatEndsAs, FitsOn, HasLaying, IsSameOrLaid, LaysTo, LaysTurn, layout_in, there_or_not, outset_of}
 use Rattle.track_model.specs.Layouts.{laid_words, lay}
-use Rattle.flop_base.specs.Lists.{with_items}
 use Rattle.sector_map.specs.Layings.{Format, IsLaying, Laying, format_keys, formatted}
 use Rattle.flop_base.specs.Standard.{standard_code}
-use Rattle.fdc_stages.specs.Formats.{HasFormatted, IsFormatting}
 use Rattle.fdc_stages.proofs.Ended.{stopped_formatted}
 use Rattle.fdc_stages.specs.declared.formatting.FormatStage.{FormatStage}
-use Rattle.fdc_phases.specs.declared.phases.Task.TheVariants.{Format as Formats}
 use Rattle.laws_machine.proofs.OnWrites.Content.{handed_rest}
 use Rattle.laws_machine.proofs.OnWrites.Results.{take_less}
-use Rattle.fdc_core.proofs.drives.WritingWords.{none_or_some}
-use Rattle.laws_machine.specs.OnFormats.Results.{FormatEndedIn, FormatEndsAs, FitsOn, HasLaying, IsSameOrLaid, LaysTo, LaysTurn, layout_in}
-use Rattle.fdc_core.proofs.drives.Writing.{there_or_not}
-use Rattle.laws_machine.specs.OnReads.Scenes.{outset_of}
 
 -- ---- the words
 
@@ -163,18 +156,14 @@ module _ (scene : Scene) (numbers : Numbers) (keys : List Chrn) (executes : Bool
         λ fits. cause.misfit keys are.many (subst (λ words. laid_words (length keys) numbers.n numbers.gap3 ≤ words) (sym long) fits),
       )
   ends handed content NoMark covered has = (was.medium.quiet has.cause.0, was.barred has.cause.1)
-  ends handed content NoSector covered has = has.cause
-  ends handed content BadCheck covered has = has.cause
   ends handed content Overrun covered has = only scene numbers keys executes past drive was (of_laid scene numbers keys past memory channel handed whole taken size are content was.inside has.begun)
-  ends handed content NoCount covered has = has.cause
   ends handed content Protected covered has = (was.medium.quiet has.cause, covered refl)
   ends handed content Late covered has = late_ends has.cause
+  ends handed content _ covered has = has.cause
 
   pub ended : (phase : Phase) (asking : Bool) (fifo : Fifo) → (refuses phase ≡ true → scene.disk.protected ≡ true) → MayFormatIn past scene.sent.head_drive numbers phase asking fifo → FormatEndedIn scene numbers keys drive phase
-  ended Command asking fifo covered may = tt
-  ended (Execute execution) asking fifo covered may = tt
-  ended (Result (Short next last)) asking fifo covered may = tt
   ended (Result (Long ending results taken)) asking fifo covered (low, same, (handed, has)) = (same, ends handed has.content ending covered has.formatted)
+  ended _ asking fifo covered may = tt
 
 -- ---- a laying of the disk
 

@@ -1,15 +1,8 @@
 -- The word time of a FORMAT.
 use Rattle.std.proofs.Common.{◌≡◌, ℕ, ◌+◌, ◌≤◌, Bool, true, false, List, [], ◌∷◌, ◌++◌, length, refl, sym, ◌∙◌, ap, subst, arith, length-append}
-use Rattle.std.proofs.lemmas.Bool.{false≢true}
-use Rattle.laws_machine.proofs.Common.{DriveState, is_protected, rate_of, Fifo, Past, heard, wrote, turns_after, Numbers, is_next, is_first, IsAtPart, FormatNext, FormatPart, Await, Due, Lay, Barred, FormatDoes, after_laid, stepped, is_executing, rate_fits, WordTime, Saw, KeptOut, Wrote, Stopped, IsHeardTime, IsTime, after_time, with_word, WritesTask, MayFormatIn, MayFormatTask, Fdc, Phase, Command, Execute, Result, Task, Format, Formatting, led, Scene, IsScene, head_sent, IsAtDrive, Track}
-use Rattle.fdc_stages.specs.History.{kept_out}
+use Rattle.laws_machine.proofs.Common.{DriveState, is_protected, rate_of, Fifo, Past, heard, wrote, turns_after, Numbers, is_next, is_first, IsAtPart, FormatNext, FormatPart, Await, Due, Lay, Barred, FormatDoes, after_laid, stepped, is_executing, rate_fits, WordTime, Saw, KeptOut, Wrote, Stopped, IsHeardTime, IsTime, after_time, with_word, WritesTask, MayFormatIn, MayFormatTask, Fdc, Phase, Command, Execute, Result, Task, Format, Formatting, led, Scene, IsScene, head_sent, IsAtDrive, Track, false≢true, kept_out, MayFormat, IsFormattingOn, few_led, kept_on, saw_on, wrote_on, stopped_on, outset_of}
 use Rattle.fdc_stages.specs.declared.formatting.FormatNext.TheVariants as next
 use Rattle.fdc_phases.specs.Formatting.{is_ended}
-use Rattle.fdc_core.specs.Written.{MayFormat}
-use Rattle.fdc_phases.specs.Written.{IsFormattingOn}
-use Rattle.fdc_core.proofs.drives.Late.{few_led}
-use Rattle.fdc_core.proofs.drives.Writing.{kept_on, saw_on, wrote_on, stopped_on}
-use Rattle.laws_machine.specs.OnReads.Scenes.{outset_of}
 use Rattle.laws_machine.proofs.OnWrites.Steps.{is_stopped, time_here, unprotected_led}
 use Rattle.laws_machine.proofs.OnFormats.Covered.{does_covered}
 use Rattle.laws_machine.proofs.OnOrders.Behind.{IsTimedLed}
@@ -18,10 +11,9 @@ use Rattle.laws_machine.proofs.OnOrders.Behind.{IsTimedLed}
 
 -- there are no words, or the gate is open
 due_words : (turns : List (List ℕ)) (seen : List ℕ) (place : ℕ) (words : List ℕ) (barred : Bool) (part : FormatPart) → IsAtPart turns seen place words barred part → is_next part ≡ false → words ≡ []
-due_words turns seen place words barred Await was due = was.1
 due_words turns seen place words barred Due was due = absurd (false≢true (sym due))
 due_words turns seen place words barred Lay was due = absurd (false≢true (sym due))
-due_words turns seen place words barred Barred was due = was.1
+due_words turns seen place words barred _ was due = was.1
 
 -- if a word is due, it is the first one, or some were written
 pub record IsDueNow (words : List ℕ) (part : FormatPart) : Type 0 where
@@ -29,16 +21,13 @@ pub record IsDueNow (words : List ℕ) (part : FormatPart) : Type 0 where
   pub later : is_first part ≡ false → 1 ≤ length words
 
 due_now : (turns : List (List ℕ)) (seen : List ℕ) (place : ℕ) (words : List ℕ) (barred : Bool) (part : FormatPart) → IsAtPart turns seen place words barred part → is_next part ≡ true → IsDueNow words part
-due_now turns seen place words barred Await was due = absurd (false≢true due)
 due_now turns seen place words barred Due was due = record { first = λ _. was.2; later = λ no. absurd (false≢true (sym no)) }
 due_now turns seen place words barred Lay was due = record { first = λ no. absurd (false≢true no); later = λ _. was.2 }
-due_now turns seen place words barred Barred was due = absurd (false≢true due)
+due_now turns seen place words barred _ was due = absurd (false≢true due)
 
 first_words : (turns : List (List ℕ)) (seen : List ℕ) (place : ℕ) (words : List ℕ) (barred : Bool) (part : FormatPart) → IsAtPart turns seen place words barred part → is_first part ≡ true → words ≡ []
-first_words turns seen place words barred Await was first = absurd (false≢true first)
 first_words turns seen place words barred Due was first = was.2
-first_words turns seen place words barred Lay was first = absurd (false≢true first)
-first_words turns seen place words barred Barred was first = absurd (false≢true first)
+first_words turns seen place words barred _ was first = absurd (false≢true first)
 
 -- what is known in execution
 pub record IsInExecution (past : Past) : Type 0 where

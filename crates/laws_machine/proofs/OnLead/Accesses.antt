@@ -1,10 +1,8 @@
 -- Port accesses of a data command, whatever the drive's speed was when it began.
 use Rattle.std.proofs.Common.{◌≡◌, ◌⊎◌, inl, inr, ℕ, Bool, refl, arith}
-use Rattle.laws_machine.proofs.Common.{DriveState, drive_in, Board, controller_of, Inputs, Outputs, IsTurningIn, IsGuarded, IsLed, WarmsUp, Order, Identify, Read, Write, CanBegin, Leaves, StandsStill, Scene, IsScene}
-use Rattle.fdc_stages.specs.History.{begun as new_past}
+use Rattle.laws_machine.proofs.Common.{DriveState, drive_in, Board, controller_of, Inputs, Outputs, IsTurningIn, IsGuarded, IsLed, WarmsUp, Order, Write, CanBegin, Leaves, StandsStill, Scene, IsScene, new_past, slow_or_fast}
 use Rattle.fdc_phases.specs.declared.phases.Phase.TheVariants as phase
 use Rattle.laws_machine.specs.OnLead.Leads.{CanWarm}
-use Rattle.fdc_core.proofs.drives.Spinning.{slow_or_fast}
 use Rattle.laws_machine.proofs.OnLead.Spinning.{nothing_heard, turning_of}
 use Rattle.laws_machine.proofs.OnLead.Steps.{led_keeps}
 use Rattle.laws_machine.proofs.OnOrders.Accesses.{inputs_go, begins_on}
@@ -25,8 +23,7 @@ still_keeps order scene = still_goes order scene (IsLed order scene) (led_keeps 
 
 first_guarded : (order : Order) (scene : Scene) → IsGuarded order scene 0
 first_guarded (Write laid) scene = λ some. absurd (omega arith)
-first_guarded Identify scene = tt
-first_guarded Read scene = tt
+first_guarded _ scene = tt
 
 begun_led : (order : Order) (scene : Scene) (executes : Bool) (drive : DriveState) → IsScene scene → IsTurningIn scene drive
     → IsLed order scene new_past executes drive

@@ -1,7 +1,6 @@
 -- What IC 00 says, whatever the drive's speed was when the command began.
 use Rattle.std.proofs.Common.{◌≡◌, ℕ, Bool, true, sym, ◌∙◌, ap, subst, arith}
-use Rattle.laws_machine.proofs.Common.{IsSizeCode, content_size, Results, HasAddress, FindsSector, Past, Done, read_tells, id_tells, is_executing, ReadMeansIn, IdMeansIn, Long, Result, Board, controller_of, memory_of, channel_of, drive_in, WarmsUp, Identify, Read, IdEnded, IdEndedIn, ReadEnded, ReadEndedIn, StaysOutside, Scene, IsMoved}
-use Rattle.fdc_core.proofs.drives.LateFields.{address_late, found_late}
+use Rattle.laws_machine.proofs.Common.{IsSizeCode, content_size, Results, HasAddress, FindsSector, Past, Done, read_tells, id_tells, is_executing, ReadMeansIn, IdMeansIn, Long, Result, Board, controller_of, memory_of, channel_of, drive_in, WarmsUp, Identify, Read, IdEnded, IdEndedIn, ReadEnded, ReadEndedIn, StaysOutside, Scene, IsMoved, address_late, found_late}
 use Rattle.laws_machine.proofs.OnLead.Listening.{led_over}
 use Rattle.laws_machine.proofs.OnReads.IdResults as ids
 use Rattle.laws_machine.proofs.OnReads.Results as reads

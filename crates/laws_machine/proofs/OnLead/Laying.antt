@@ -1,13 +1,8 @@
 -- Commands that write, whatever the drive's speed was when they began.
 use Rattle.std.proofs.Common.{◌≡◌, ◌⊎◌, inl, inr, ℕ, zero, suc, ◌+◌, ◌*◌, ◌≤◌, Bool, true, false, List, [], ◌∷◌, length, refl, sym, ◌∙◌, ap, subst, arith}
-use Rattle.std.proofs.lemmas.Bool.{false_from_ne_true, false≢true}
-use Rattle.laws_machine.proofs.Common.{Chrn, DriveState, Becomes, is_protected, Fifo, Past, heard, Numbers, is_first, is_next, IsAtPart, IsWriting, FormatPart, Await, Due, Lay, Barred, WriteStage, FormatDoes, stepped, is_executing, let_pass, WordTime, Saw, KeptOut, Wrote, Stopped, IsTime, after_time, WritesIn, WritesTask, WriteDoes, MayWriteTask, MayFormatTask, Fdc, Execution, Execute, Task, Formatting, Writing, turns_led, turn_led, led, IsSpinning, IsUnheard, IsLed, Laid, Window, Track, Write, MayLayIn, LaysOn, Scene, IsScene, head_sent, IsAtDrive}
+use Rattle.laws_machine.proofs.Common.{Chrn, DriveState, is_protected, Fifo, Past, heard, Numbers, is_first, is_next, IsAtPart, IsWriting, FormatPart, Await, Due, Lay, Barred, WriteStage, FormatDoes, stepped, is_executing, let_pass, WordTime, Saw, KeptOut, Wrote, Stopped, IsTime, after_time, WritesIn, WritesTask, WriteDoes, MayWriteTask, MayFormatTask, Fdc, Execution, Execute, Task, Formatting, Writing, turns_led, turn_led, led, IsSpinning, IsUnheard, IsLed, Laid, Window, Track, Write, MayLayIn, LaysOn, Scene, IsScene, head_sent, IsAtDrive, false_from_ne_true, false≢true, address_in, few_led, time_led, no_index, hears_none, turning_on, outset_of}
 use Rattle.fdc_stages.specs.Writings.{is_due}
 use Rattle.fdc_phases.specs.declared.phases.Task.TheVariants as task
-use Rattle.fdc_core.proofs.drives.LateFields.{address_in}
-use Rattle.fdc_core.proofs.drives.Late.{few_led, time_led}
-use Rattle.fdc_core.proofs.drives.Spinning.{no_index, hears_none, turning_on}
-use Rattle.laws_machine.specs.OnReads.Scenes.{outset_of}
 use Rattle.laws_machine.proofs.OnLead.Listening.{led_over, spun}
 use Rattle.laws_machine.proofs.OnLead.Spinning.{nothing_heard}
 use Rattle.laws_machine.proofs.OnQuiet.Turning.{calmly}
@@ -69,9 +64,8 @@ module _ (laid : Laid) (scene : Scene) (lead : ℕ) (late : Past) (drive after :
       ∙ ap (λ w. heard false w (stepped (led lead late))) (hears_none (outset_of scene) lead drive spins after word is.sees) in
       subst (λ p. IsLed (Write laid) scene p executes after) (sym calm)
       (spun (Write laid) scene lead late executes drive after whole none spins is.passes (λ _. unprotected (λ no. false≢true (ap is_stopped no))))
-  by_time (KeptOut index word) hears is unprotected over = absurd hears
-  by_time (Wrote opened closed index word) hears is unprotected over = absurd hears
   by_time Stopped hears is unprotected over = subst (λ b. IsLed (Write laid) scene (stepped (led lead late)) b after) (sym (over refl)) (stops_spinning is)
+  by_time _ hears is unprotected over = absurd hears
 
 -- the medium isn't protected if the first step didn't stop the command
 unprotected_spun : (scene : Scene) (lead : ℕ) (late : Past) (drive : DriveState) (steps : ℕ) (time : WordTime) → IsUnheard late
@@ -94,12 +88,11 @@ no_due lead late key deleted handed now none was due =
 hears_window : (lead : ℕ) (late : Past) (head_drive steps : ℕ) (writing : Writing) (polls between : Fdc) (drive : DriveState) (handed : List ℕ) → IsUnheard late
     → IsWriting (led lead late) writing.wanted.key writing.deleted handed writing.stage → (time : WordTime)
     → WriteDoes time head_drive steps writing polls drive between → WritesNothing time
-hears_window lead late head_drive steps writing polls between drive handed none was (Saw index word) does = tt
 hears_window lead late head_drive steps writing polls between drive handed none was (KeptOut index word) (opening, does) =
     no_due lead late writing.wanted.key writing.deleted handed writing.stage none was (opens_due writing.stage opening)
 hears_window lead late head_drive steps writing polls between drive handed none was (Wrote opened closed index word) does =
     no_due lead late writing.wanted.key writing.deleted handed writing.stage none was does.due
-hears_window lead late head_drive steps writing polls between drive handed none was Stopped does = tt
+hears_window lead late head_drive steps writing polls between drive handed none was _ does = tt
 
 over_window : (head_drive steps : ℕ) (writing : Writing) (polls between : Fdc) (drive : DriveState) (time : WordTime)
     → WriteDoes time head_drive steps writing polls drive between → time ≡ Stopped → is_executing between.phase ≡ false
@@ -116,26 +109,23 @@ no_turn lead late first none is =
 
 no_next : (lead : ℕ) (late : Past) (seen : List ℕ) (place : ℕ) (words : List ℕ) (barred : Bool) (part : FormatPart) → IsUnheard late
     → IsAtPart (turns_led lead late.turns) seen place words barred part → is_next part ≡ true → ⊥
-no_next lead late seen place words barred Await none was due = false≢true due
 no_next lead late seen place words barred Due none was due = no_turn lead late was.0.first none was.0.turns_are
 no_next lead late seen place words barred Lay none was due = no_turn lead late was.0.first none was.0.turns_are
-no_next lead late seen place words barred Barred none was due = false≢true due
+no_next lead late seen place words barred _ none was due = false≢true due
 
 next_first : (part : FormatPart) → is_first part ≡ true → is_next part ≡ true
-next_first Due opening = refl
 next_first Await opening = opening
-next_first Lay opening = refl
 next_first Barred opening = opening
+next_first _ opening = refl
 
 hears_track : (lead : ℕ) (late : Past) (head_drive steps : ℕ) (formatting : Formatting) (polls between : Fdc) (drive : DriveState) → IsUnheard late
     → IsAtPart (turns_led lead late.turns) (turn_led lead late.turns late.seen) late.place late.words late.barred formatting.stage.part → (time : WordTime)
     → FormatDoes time head_drive steps formatting polls drive between → WritesNothing time
-hears_track lead late head_drive steps formatting polls between drive none was (Saw index word) does = tt
 hears_track lead late head_drive steps formatting polls between drive none was (KeptOut index word) (opening, does) =
     no_next lead late (turn_led lead late.turns late.seen) late.place late.words late.barred formatting.stage.part none was (next_first formatting.stage.part opening)
 hears_track lead late head_drive steps formatting polls between drive none was (Wrote opened closed index word) does =
     no_next lead late (turn_led lead late.turns late.seen) late.place late.words late.barred formatting.stage.part none was does.due
-hears_track lead late head_drive steps formatting polls between drive none was Stopped does = tt
+hears_track lead late head_drive steps formatting polls between drive none was _ does = tt
 
 over_track : (head_drive steps : ℕ) (formatting : Formatting) (polls between : Fdc) (drive : DriveState) (time : WordTime)
     → FormatDoes time head_drive steps formatting polls drive between → time ≡ Stopped → is_executing between.phase ≡ false

@@ -1,10 +1,6 @@
 -- READ ID and READ DATA, whatever the drive's speed was when they began.
 use Rattle.std.proofs.Common.{◌≡◌, inl, inr, ℕ, ◌+◌, ◌≤◌, Bool, true, false, length, refl, sym, ◌∙◌, ap, subst, arith}
-use Rattle.std.proofs.lemmas.Bool.{false≢true}
-use Rattle.laws_machine.proofs.Common.{DriveState, Becomes, at_index, Past, heard, words_heard, stepped, SeesUnder, let_pass, led, IsSpinning, IsUnheard, IsGuarded, IsLed, Order, Identify, Read, Write, AtDrive, Scene, IsScene, head_sent, track_met}
-use Rattle.fdc_core.proofs.drives.Late.{heard_led, longer_led, passed_by, still_unheard, few_led, words_led}
-use Rattle.fdc_core.proofs.drives.Spinning.{slow_or_fast, no_index, hears_none, turning_on, spin_on}
-use Rattle.laws_machine.specs.OnReads.Scenes.{outset_of}
+use Rattle.laws_machine.proofs.Common.{DriveState, Becomes, at_index, Past, heard, words_heard, stepped, SeesUnder, let_pass, led, IsSpinning, IsUnheard, IsGuarded, IsLed, Order, Identify, Write, AtDrive, Scene, IsScene, head_sent, track_met, false≢true, heard_led, longer_led, passed_by, still_unheard, few_led, words_led, slow_or_fast, no_index, hears_none, turning_on, spin_on, outset_of}
 use Rattle.laws_machine.proofs.OnLead.Spinning.{nothing_heard}
 use Rattle.laws_machine.proofs.OnOrders.Steps.{drive_on}
 use Rattle.laws_machine.proofs.OnOrders.Behind.{IsOfWords, Listening}
@@ -81,19 +77,16 @@ hears_at : (order : Order) (scene : Scene) (late : Past) (drive after : DriveSta
     → AtDrive order scene late true drive → SeesUnder scene.rate (head_sent scene.sent) drive word after → Becomes (let_pass drive) drive after
     → AtDrive order scene (heard (at_index drive) word (stepped late)) executes after
 hears_at (Write laid) scene late drive after word executes listens whole at sees becomes = absurd listens
-hears_at Identify scene late drive after word executes listens whole at sees becomes = hearing_on scene late drive after word executes whole.disk at sees becomes
-hears_at Read scene late drive after word executes listens whole at sees becomes = hearing_on scene late drive after word executes whole.disk at sees becomes
+hears_at _ scene late drive after word executes listens whole at sees becomes = hearing_on scene late drive after word executes whole.disk at sees becomes
 
 rests_at : (order : Order) (scene : Scene) (late : Past) (drive after : DriveState) → Listens order → AtDrive order scene late false drive
     → drive.faults ≤ after.faults → AtDrive order scene late false after
 rests_at (Write laid) scene late drive after listens at falls = absurd listens
-rests_at Identify scene late drive after listens at falls = hearing_over scene late drive after at falls
-rests_at Read scene late drive after listens at falls = hearing_over scene late drive after at falls
+rests_at _ scene late drive after listens at falls = hearing_over scene late drive after at falls
 
 unguarded : (order : Order) (scene : Scene) (lead : ℕ) → Listens order → IsGuarded order scene lead
 unguarded (Write laid) scene lead listens = absurd listens
-unguarded Identify scene lead listens = tt
-unguarded Read scene lead listens = tt
+unguarded _ scene lead listens = tt
 
 hears_led : (order : Order) (scene : Scene) (past : Past) (drive after : DriveState) (word : ℕ) (executes : Bool) → Listens order → IsScene scene
     → IsLed order scene past true drive → SeesUnder scene.rate (head_sent scene.sent) drive word after → Becomes (let_pass drive) drive after

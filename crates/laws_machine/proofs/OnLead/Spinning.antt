@@ -1,10 +1,7 @@
 -- A drive whose medium spins up.
 use Rattle.std.proofs.Common.{◌≡◌, ◌≤◌, Bool, true, refl, sym, subst, arith}
-use Rattle.std.proofs.lemmas.Bool.{false≢true}
-use Rattle.laws_machine.proofs.Common.{DriveState, Past, IsTurningIn, unheard, IsUnheard, Window, Track, Order, Identify, Read, Write, AtDrive, IsDriveOf, Scene, IsScene, IsHearing, IsAtDrive}
-use Rattle.fdc_stages.specs.History.{begun as new_past}
+use Rattle.laws_machine.proofs.Common.{DriveState, Past, IsTurningIn, unheard, IsUnheard, Window, Track, Order, Write, AtDrive, IsDriveOf, Scene, IsScene, IsHearing, IsAtDrive, false≢true, new_past, outset_of}
 use Rattle.fdc_core.proofs.drives.Spinning as spinning
-use Rattle.laws_machine.specs.OnReads.Scenes.{outset_of}
 
 -- ---- if no word of the track was heard
 
@@ -41,8 +38,7 @@ at_none : (order : Order) (scene : Scene) (late : Past) (executes : Bool) (drive
 at_none (Write (Window deleted)) scene late executes drive whole is fast =
     record { at = laying_none scene late executes drive whole is fast; there = λ some. absurd (omega arith); unbarred = refl }
 at_none (Write (Track numbers)) scene late executes drive whole is fast = laying_none scene late executes drive whole is fast
-at_none Identify scene late executes drive whole is fast = hearing_none scene late executes drive whole is fast
-at_none Read scene late executes drive whole is fast = hearing_none scene late executes drive whole is fast
+at_none _ scene late executes drive whole is fast = hearing_none scene late executes drive whole is fast
 
 pub nothing_heard : (order : Order) (scene : Scene) (late : Past) (executes : Bool) (drive : DriveState) → IsScene scene → IsUnheard late
     → IsTurningIn scene drive → (executes ≡ true → 6250 ≤ drive.spin) → AtDrive order scene late executes drive

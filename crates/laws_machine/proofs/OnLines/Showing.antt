@@ -1,12 +1,8 @@
 -- Change lines of empty drives, call by call.
 use Rattle.std.proofs.Common.{◌≡◌, inl, inr, ℕ, zero, suc, ◌≤◌, Bool, true, false, Option, Some, None, is_some, if◌then◌else◌, refl, sym, ◌∙◌, ap, subst, arith}
-use Rattle.laws_machine.proofs.Common.{Disk, DriveState, Becomes, Pulses, Moves, Fdc, Board, controller_of, drive_in, irq_taken, FollowsWrite, Inputs, Outputs, WritesPort, Step, write_leaves, TurnsOn, regapped, Steady, read_from}
-use Rattle.drive_model.specs.Drive.{loaded, unloaded}
+use Rattle.laws_machine.proofs.Common.{Disk, DriveState, Pulses, Moves, Fdc, Board, controller_of, drive_in, irq_taken, FollowsWrite, Inputs, Outputs, WritesPort, Step, write_leaves, TurnsOn, regapped, Steady, read_from, loaded, unloaded, AreSetIfEmpty, IsEmpty, IsNew, IsSetIfEmpty, Touches, byte_set, FollowsMotor}
 use Rattle.irq_events.specs.declared.pace.Pace.{Pace}
-use Rattle.pc_bus.specs.Boards.{AreSetIfEmpty, IsEmpty, IsNew, IsSetIfEmpty}
 use Rattle.pc_bus.specs.Calls.{AreCalled, IsCalled, ByEject, ByExchange, ByInb, ByInsert, ByOutb, ByRamSet, ByRefusal, ByTakeIrq, ByWait, ByWaitIrq}
-use Rattle.pc_bus.specs.Handling.{Touches, byte_set}
-use Rattle.fdc_core.specs.Drives.Following.{FollowsMotor}
 use Rattle.pc_bus.specs.declared.bus.Bus.{Bus}
 use Rattle.laws_machine.proofs.OnAwaits.Turning.{on_calm, on_let, on_time}
 use Rattle.laws_machine.proofs.OnSteps.Runs.{inputs, outputs, wait, waits}

@@ -1,15 +1,14 @@
 -- Port accesses of a data command: the write that begins it, and reads.
 use Rattle.std.proofs.Common.{◌≡◌, ◌⊎◌, inl, inr, ℕ, ◌+◌, ◌==◌, ◌||◌, nat_le, Bool, true, false, not, Option, List, if◌then◌else◌, refl, sym, ◌∙◌, subst}
-use Rattle.laws_machine.proofs.Common.{DriveState, Channel, Fifo, Past, Ending, Results, is_executing, given, phase_after, Short, Long, Fdc, Phase, Board, controller_of, drive_in, is_controllers, port_read, WritesPort, Inputs, Outputs, shown_again, Chips, drive_stays, IsScene, Scene, read_from, IsUnderwayOn, Window, Track, Order, Identify, Read, Write, MayIn, Shows, AtDrive, IsDoneBy, Underway, CanBegin, IsDriveOf}
+use Rattle.laws_machine.proofs.Common.{DriveState, Channel, Fifo, Past, Ending, Results, is_executing, given, phase_after, Short, Long, Fdc, Phase, Board, controller_of, drive_in, is_controllers, port_read, WritesPort, Inputs, Outputs, shown_again, Chips, drive_stays, IsScene, Scene, read_from, IsUnderwayOn, Window, Track, Order, Identify, Read, Write, MayIn, Shows, AtDrive, IsDoneBy, Underway, CanBegin, IsDriveOf, new_past, CanBeginAt}
 use Rattle.dma_8237.specs.Channel.{grants, after_read}
-use Rattle.fdc_stages.specs.History.{begun as new_past}
 use Rattle.fdc_phases.specs.declared.phases.Phase.TheVariants as phase
 use Rattle.laws_machine.proofs.OnReads.Accesses.{busy_before, still_busy, calm_read}
 use Rattle.laws_machine.proofs.OnSteps.Controllers.{step_command}
 use Rattle.laws_machine.proofs.OnReads.Steps.{same_drive}
 use Rattle.laws_machine.proofs.OnWrites.Covered.{read_refuses}
 use Rattle.laws_machine.proofs.OnSteps.Runs.{gap, outputs}
-use Rattle.laws_machine.specs.OnOrders.Orders.{CanBeginAt, Moves}
+use Rattle.laws_machine.specs.OnOrders.Orders.{Moves}
 use Rattle.laws_machine.proofs.OnOrders.Behind.{KeepsOn}
 use Rattle.laws_machine.proofs.OnLead.Spinning.{none_heard}
 use Rattle.laws_machine.proofs.OnOrders.Beginning.{begun_at, begun_by}

@@ -1,11 +1,8 @@
 -- The controller after the byte that begins a data command.
 use Rattle.std.proofs.Common.{◌≡◌, ℕ, Bool, true, false, List, [], ◌∷◌, ◌++◌, refl, sym, ◌∙◌, ap, subst}
-use Rattle.std.proofs.lemmas.Bool.{false≢true}
-use Rattle.laws_machine.proofs.Common.{Channel, answer, kept, Ready, ReadData, FormatTrack, emptied, seek_bits, Obeys, TakesAs, WaitsAtFirst, asked, Sent, is_executing, is_taking, dor_of, Fdc, Lines, Task, Board, controller_of, lines_of, WritesPort, shown_again, Chips, is_late, Scene, write_of, refuses, Window, Track, Order, Identify, Read, Write, May, Shows, IsDoneBy, IsLast, IsSetFor}
+use Rattle.laws_machine.proofs.Common.{Channel, answer, kept, Ready, ReadData, FormatTrack, emptied, seek_bits, Obeys, TakesAs, WaitsAtFirst, asked, Sent, is_executing, is_taking, dor_of, Fdc, Lines, Task, Board, controller_of, lines_of, WritesPort, shown_again, Chips, is_late, Scene, write_of, refuses, Window, Track, Order, Identify, Read, Write, May, Shows, IsDoneBy, IsLast, IsSetFor, false≢true, new_past, BeginsAsking, begun_with}
 use Rattle.fdc_commands.specs.declared.command.Command.{Command}
 use Rattle.fdc_commands.specs.declared.command.Command.TheVariants.{ReadId}
-use Rattle.fdc_stages.specs.History.{begun as new_past}
-use Rattle.fdc_core.specs.Commands.{BeginsAsking, begun as begun_with}
 use Rattle.fdc_phases.specs.Commands.{IsWritingData}
 use Rattle.fdc_core.specs.Ports.{Writes}
 use Rattle.laws_machine.proofs.OnReads.Accesses as reads

@@ -1,13 +1,9 @@
 -- A byte of a READ DATA goes to memory.
 use Rattle.std.proofs.Common.{◌≡◌, ℕ, ◌+◌, ◌≤◌, ◌==◌, ◌&&◌, Bool, true, false, List, length, [], ◌∷◌, ◌++◌, if◌then◌else◌, refl, sym, subst}
-use Rattle.laws_machine.proofs.Common.{after_transfer, Past, taken_out, told_count, told_in, is_executing, asks, is_gated, can_move, moved_to_memory, moved_from_memory, told_if, Chips, Scene, IsMoved}
+use Rattle.laws_machine.proofs.Common.{after_transfer, Past, taken_out, told_count, told_in, is_executing, asks, is_gated, can_move, moved_to_memory, moved_from_memory, told_if, Chips, Scene, IsMoved, grants, out_reads, told_reads, byte_out, gave, memory_after}
 use Rattle.laws_machine.proofs.Facts.{told_busy}
-use Rattle.dma_8237.specs.Channel.{grants}
-use Rattle.fdc_core.proofs.MayRead.{out_reads, told_reads}
-use Rattle.fdc_core.specs.Dma.{byte_out}
 use Rattle.fdc_core.specs.Heard.{MayRead}
-use Rattle.fdc_phases.specs.Heard.{gave}
-use Rattle.pc_bus.specs.Transfers.{moved, memory_after}
+use Rattle.pc_bus.specs.Transfers.{moved}
 use Rattle.laws_machine.proofs.OnReads.Bytes as moving
 use Rattle.laws_machine.proofs.OnReads.Steps.{reads_there}
 

@@ -1,8 +1,7 @@
 -- Port writes that leave a data command as it is. They are a byte to the data port, which takes none, a write that
 -- clears the channel's flip-flop, and a write to a port where nothing answers.
 use Rattle.std.proofs.Common.{inl, inr, ◌≡◌, ℕ, ◌==◌, Bool, true, false, refl, sym, ◌∙◌, ap, subst}
-use Rattle.std.proofs.lemmas.Bool.{false≢true}
-use Rattle.laws_machine.proofs.Common.{Channel, Past, is_executing, takes_in, is_held, Fdc, Phase, Board, controller_of, channel_of, drive_in, lines_of, is_controllers, sets_lines, WritesPort, Outputs, shown_again, drive_stays, Scene, IsUnderwayOn, Order, Identify, Read, Write, MayIn, May, AtDrive, IsDoneBy, Underway, Leaves, DriveState}
+use Rattle.laws_machine.proofs.Common.{Channel, Past, is_executing, takes_in, is_held, Fdc, Phase, Board, controller_of, channel_of, drive_in, lines_of, is_controllers, sets_lines, WritesPort, Outputs, shown_again, drive_stays, Scene, IsUnderwayOn, Order, Identify, Read, Write, MayIn, May, AtDrive, IsDoneBy, Underway, Leaves, DriveState, false≢true}
 use Rattle.laws_machine.proofs.Facts.{either_is, number_is}
 use Rattle.dma_8237.specs.Channel.{after_write}
 use Rattle.fdc_core.specs.Ports.{Writes}
@@ -17,8 +16,7 @@ use Rattle.laws_machine.proofs.OnOrders.Behind.{KeepsOn}
 -- the data port takes no byte in this phase
 taking_in : (p : Phase) → (p ≡ phase.Command → ⊥) → (held : Bool) → takes_in p held ≡ false
 taking_in phase.Command busy held = absurd (busy refl)
-taking_in (phase.Result answer) busy held = refl
-taking_in (phase.Execute execution) busy held = refl
+taking_in _ busy held = refl
 
 pub not_command : (order : Order) (scene : Scene) (past : Past) (fdc : Fdc) → May order scene past fdc → fdc.phase ≡ phase.Command → ⊥
 not_command Identify scene past fdc may is = subst (λ p. MayIn Identify scene past p fdc.asking fdc.fifo) is may

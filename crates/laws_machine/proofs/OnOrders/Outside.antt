@@ -1,12 +1,7 @@
 -- A READ DATA puts bytes into its range alone, whatever the drive is.
 use Rattle.std.proofs.Common.{◌≡◌, ◌⊎◌, inl, inr, ℕ, ◌+◌, ◌≤◌, ◌==◌, Bool, true, false, length, if◌then◌else◌, refl, sym, ◌∙◌, ap, subst}
-use Rattle.std.proofs.lemmas.Bool.{false≢true}
-use Rattle.laws_machine.proofs.Common.{Channel, is_executing, given, polled, RestsIn, FlowsIn, Fdc, Command, Board, controller_of, memory_of, channel_of, lines_of, is_controllers, WritesPort, Inputs, Outputs, shown_again, Chips, StaysOutside, Scene, StandsStill, IsIdle, IsMoved, Steady, Moving, read_from, Read, Leaves}
+use Rattle.laws_machine.proofs.Common.{Channel, is_executing, given, polled, RestsIn, FlowsIn, Fdc, Command, Board, controller_of, memory_of, channel_of, lines_of, is_controllers, WritesPort, Inputs, Outputs, shown_again, Chips, StaysOutside, Scene, StandsStill, IsIdle, IsMoved, Steady, Moving, read_from, Read, Leaves, false≢true, after_read, new_past, past_after, Follows, Runs, RestsIdle}
 use Rattle.laws_machine.proofs.Facts.{either_is, polled_phase}
-use Rattle.dma_8237.specs.Channel.{after_read}
-use Rattle.fdc_stages.specs.History.{begun as new_past}
-use Rattle.fdc_core.specs.Listening.{after_step as past_after, Follows}
-use Rattle.pc_bus.specs.Steps.{Runs}
 use Rattle.laws_machine.proofs.OnReads.Accesses.{none_moved, still_busy}
 use Rattle.laws_machine.proofs.OnSteps.Controllers.{step_command}
 use Rattle.laws_machine.proofs.OnReads.Results.{stays_outside}
@@ -15,7 +10,6 @@ use Rattle.laws_machine.proofs.OnSteps.Runs.{gap, outputs, runs}
 use Rattle.laws_machine.proofs.OnSteps.Transfers.{after_moves}
 use Rattle.laws_machine.proofs.OnSteps.Words.{controller}
 use Rattle.laws_machine.proofs.OnWrites.IdlePorts.{inputs_idle}
-use Rattle.laws_machine.specs.OnWrites.Heads.{RestsIdle}
 use Rattle.laws_machine.specs.OnOrders.Outside.{Fetches, IsFetching, CanFetch}
 use Rattle.laws_machine.proofs.OnOrders.Accesses.{may_given, shows_given, moves_flipped, moves_read}
 use Rattle.laws_machine.proofs.OnOrders.Beginning.{begun}

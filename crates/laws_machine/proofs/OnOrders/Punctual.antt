@@ -1,16 +1,13 @@
 -- A command that writes begins on time.
 use Rattle.std.proofs.Common.{◌≡◌, ◌⊎◌, inl, inr, ℕ, ◌%◌, [], Bool, true, refl, sym, ◌∙◌, ap, subst, arith}
-use Rattle.laws_machine.proofs.Common.{Rose, emptied, dor_of, is_gated, Fdc, Task, Format, next_entry, Low, Board, controller_of, holds_of, selected_of, Outputs, shown_again, Scene, fills_task, IsOnTime, Laid, Window, Track, MayLayIn, IsSetFor, CanBegin, Channel, Fifo, Past, Execute}
+use Rattle.laws_machine.proofs.Common.{Rose, emptied, dor_of, is_gated, Fdc, Task, Format, next_entry, Low, Board, controller_of, holds_of, selected_of, Outputs, shown_again, Scene, fills_task, IsOnTime, Laid, Window, Track, MayLayIn, IsSetFor, CanBegin, Channel, Fifo, Past, Execute, IsPunctualWrite, grants, new_past}
 use Rattle.laws_machine.proofs.Facts.{shown_stalls}
 use Rattle.fdc_phases.specs.declared.phases.Task.TheVariants.{Write}
 use Rattle.laws_machine.specs.OnReads.Timely.{Stalled}
 use Rattle.laws_machine.proofs.OnReads.Accesses.{gapped}
-use Rattle.laws_machine.specs.OnWrites.Timely.{IsPunctualWrite}
 use Rattle.laws_machine.proofs.OnWrites.OnTime.{begun_punctual, on_time}
 use Rattle.laws_machine.specs.OnOrders.Orders as order
 use Rattle.laws_machine.proofs.OnOrders.Beginning.{begun_at}
-use Rattle.dma_8237.specs.Channel.{grants}
-use Rattle.fdc_stages.specs.History.{begun as new_past}
 use Rattle.laws_machine.proofs.OnSteps.Stalls.{runs_until}
 
 -- a command that writes fills its FIFO from memory

@@ -1,18 +1,13 @@
 -- A device step of a data command.
 use Rattle.std.proofs.Common.{◌≡◌, ℕ, ◌+◌, ◌%◌, ◌≤◌, ◌==◌, Bool, true, false, List, length, [], ◌∷◌, ◌++◌, if◌then◌else◌, refl, sym, ◌∙◌, ap, subst}
-use Rattle.std.proofs.lemmas.Bool.{false≢true}
-use Rattle.laws_machine.proofs.Common.{DriveState, after_transfer, Past, taken_in, told_count, phase_told, told_in, is_executing, is_read, is_reading, asks, Fdc, Phase, Task, Answer, Short, Long, Fifo, Board, controller_of, drive_in, Step, can_move, moved_to_memory, moved_from_memory, byte_read, told_if, Chips, Scene, StandsStill, IsTaken, refuses, Steady, Moving, IsUnderwayOn, Laid, Window, Track, Order, Identify, Read, Write, MayLayIn, MayLay, AtDrive, IsDoneBy, Underway}
+use Rattle.laws_machine.proofs.Common.{DriveState, after_transfer, Past, taken_in, told_count, phase_told, told_in, is_executing, is_read, is_reading, asks, Fdc, Phase, Task, Answer, Short, Long, Fifo, Board, controller_of, drive_in, Step, can_move, moved_to_memory, moved_from_memory, byte_read, told_if, Chips, Scene, StandsStill, IsTaken, refuses, Steady, Moving, IsUnderwayOn, Laid, Window, Track, Order, Identify, Read, Write, MayLayIn, MayLay, AtDrive, IsDoneBy, Underway, false≢true, grants, took, outset_of, drive_less}
 use Rattle.laws_machine.proofs.Facts.{told_busy}
-use Rattle.dma_8237.specs.Channel.{grants}
 use Rattle.fdc_core.proofs.MayWrite.{in_writes, in_formats, told_writes, told_formats}
-use Rattle.fdc_phases.specs.Written.{took}
 use Rattle.fdc_phases.specs.declared.phases.Phase.TheVariants as phase
 use Rattle.fdc_phases.specs.declared.phases.Task.TheVariants as task
 use Rattle.pc_bus.specs.Transfers.{moved}
 use Rattle.laws_machine.proofs.OnReads.Steps as reads
 use Rattle.laws_machine.proofs.OnWrites.Bytes as taking_bytes
-use Rattle.laws_machine.specs.OnReads.Scenes.{outset_of}
-use Rattle.fdc_core.proofs.drives.Writing.{drive_less}
 use Rattle.laws_machine.proofs.OnSteps.Transfers.{after_moves}
 use Rattle.laws_machine.proofs.OnSteps.Words.{selected}
 use Rattle.laws_machine.proofs.OnOrders.Behind.{KeepsOn, laid_on, IsDoing, IsOfWords}
@@ -156,8 +151,7 @@ at_bytes Read scene drive = record {
 pub drive_on : (order : Order) (scene : Scene) (past : Past) (before now : Bool) (drive : DriveState) → (now ≡ true → before ≡ true) → AtDrive order scene past before drive → AtDrive order scene past now drive
 drive_on (Write laid) scene past before now drive less was =
     laid_on laid scene past past before now drive drive (drive_less (outset_of scene) past before now drive past.given past.taken past.counted less) refl refl was
-drive_on Identify scene past before now drive less was = hearing_less scene past before now drive less was
-drive_on Read scene past before now drive less was = hearing_less scene past before now drive less was
+drive_on _ scene past before now drive less was = hearing_less scene past before now drive less was
 
 pub at_drive : (order : Order) (scene : Scene) → KeepsOn order scene (AtDrive order scene)
 at_drive order scene = record { word_time = word_time order scene; bytes = at_bytes order scene; less = drive_on order scene }

@@ -1,17 +1,14 @@
 -- The word time of a data command.
 use Rattle.std.proofs.Common.{◌≡◌, ℕ, ◌==◌, ◌&&◌, not, Bool, true, false, List, refl, sym, ◌∙◌, ap, subst, arith}
-use Rattle.laws_machine.proofs.Common.{DriveState, Fifo, with_polls, Past, is_executing, is_held, polled, RestsIn, MovesIn, WordTime, Saw, KeptOut, Wrote, Stopped, after_time, WritesIn, Fdc, Execution, Phase, Command, Execute, Result, Works, Chips, Scene, IsScene, IsTaken, refuses, Laid, Window, Track, Order, Identify, Read, Write, MayLayIn, MayLay, LaysOn, AtDrive, IsDoneBy, led, IsGuarded}
+use Rattle.laws_machine.proofs.Common.{DriveState, Fifo, with_polls, Past, is_executing, is_held, polled, RestsIn, MovesIn, WordTime, Saw, KeptOut, Wrote, Stopped, after_time, WritesIn, Fdc, Execution, Phase, Command, Execute, Result, Works, Chips, Scene, IsScene, IsTaken, refuses, Laid, Window, Track, Order, Identify, Read, Write, MayLayIn, MayLay, LaysOn, AtDrive, IsDoneBy, led, IsGuarded, outset_of, rests_on, led_none}
 use Rattle.laws_machine.proofs.Facts.{if_both, polled_phase}
 use Rattle.fdc_core.specs.Writes.{RestsWritten}
 use Rattle.laws_machine.proofs.OnReads.IdWords as ids
 use Rattle.laws_machine.proofs.OnReads.Steps as reads
 use Rattle.laws_machine.proofs.OnReads.Steps.{moves_faults}
-use Rattle.laws_machine.specs.OnReads.Scenes.{outset_of}
-use Rattle.fdc_core.proofs.drives.Writing.{rests_on}
 use Rattle.laws_machine.proofs.OnWrites.Guards.{moves_same}
 use Rattle.laws_machine.proofs.OnWrites.Steps as writes
 use Rattle.laws_machine.proofs.OnFormats.Steps as formats
-use Rattle.fdc_core.proofs.drives.Late.{led_none}
 use Rattle.laws_machine.proofs.OnOrders.Behind.{IsDoing, IsBehind, IsTimed, IsTimedLed, Laying, laid_on}
 
 -- ---- of a command that writes

@@ -1,11 +1,8 @@
 -- Between two data commands: what port accesses set.
 use Rattle.std.proofs.Common.{◌≡◌, ℕ, ◌==◌, not, ◌||◌, Bool, true, false, [], ◌∷◌, ◌++◌, if◌then◌else◌, refl, sym, ◌∙◌, ap, subst}
-use Rattle.std.proofs.lemmas.Bool.{false_from_ne_true, false≢true}
-use Rattle.laws_machine.proofs.Common.{answer, kept, More, TakesAs, is_executing, given, interrupt_after, phase_after, takes_in, is_taking, dsr_resets, is_held, Fdc, Phase, Command, Execute, Result, Board, controller_of, lines_of, is_controllers, port_read, WritesPort, RunsGap, Inputs, Outputs, sets_lines, shown_again, Chips, drive_stays, only_listens, HoldsOn, HaveTurned, IsHushed, Setting, ChipsStand, Stands}
+use Rattle.laws_machine.proofs.Common.{answer, kept, More, TakesAs, is_executing, given, interrupt_after, phase_after, takes_in, is_taking, dsr_resets, is_held, Fdc, Phase, Command, Execute, Result, Board, controller_of, lines_of, is_controllers, port_read, WritesPort, RunsGap, Inputs, Outputs, sets_lines, shown_again, Chips, drive_stays, only_listens, HoldsOn, HaveTurned, IsHushed, Setting, ChipsStand, Stands, false_from_ne_true, false≢true, after_write, after_read, ccr_written, result_byte, dor_resets}
 use Rattle.laws_machine.proofs.Facts.{if_both, idle_read, number_is, shown_stalls}
-use Rattle.dma_8237.specs.Channel.{after_write, after_read}
 use Rattle.fdc_phases.specs.Answers.{is_fresh}
-use Rattle.fdc_core.specs.Ports.{ccr_written, result_byte, dor_resets}
 use Rattle.laws_machine.specs.OnQuiet.Settings.{with_byte, with_rate, with_write, with_read}
 use Rattle.laws_machine.proofs.OnQuiet.Steps.{drives_on, like_holds, like_mode}
 use Rattle.laws_machine.proofs.OnQuiet.Standing.{standing}
@@ -132,9 +129,8 @@ rate_stands start set byte old new access was =
 -- ---- reads
 
 pub idle_listens : (phase : Phase) → is_executing phase ≡ false → only_listens phase ≡ true
-idle_listens Command idle = refl
-idle_listens (Result answer) idle = refl
 idle_listens (Execute execution) idle = absurd (false≢true (sym idle))
+idle_listens _ idle = refl
 
 -- what a read of a port sets
 abbrev read_by : Bool → Bool → ℕ → Setting → Setting
@@ -167,19 +163,16 @@ read_chips old set now port idle was false data_port = record {
 
 read_idle : (set : Setting) (port : ℕ) → is_executing set.phase ≡ false → (controllers data_port : Bool) → is_executing (read_by controllers data_port port set).phase ≡ false
 read_idle set port idle true true = idle_read set.phase idle
-read_idle set port idle true false = idle
-read_idle set port idle false data_port = idle
+read_idle set port idle _ _ = idle
 
 low_after : (phase : Phase) (interrupt : Bool) → interrupt ≡ false → interrupt_after phase interrupt ≡ false
-low_after Command interrupt low = low
-low_after (Execute execution) interrupt low = low
 low_after (Result answer) interrupt low = if_both (is_fresh answer) false interrupt (λ z. z ≡ false) refl low
+low_after _ interrupt low = low
 
 read_as : (P : Fdc → Type 0) (chips : Chips) (port : ℕ) → P chips.controller → P (given chips.controller) → (controllers data_port : Bool)
     → P (if controllers then shown_again (record chips { controller = if data_port then given chips.controller else chips.controller }) else record chips { channel = after_read port chips.channel }).controller
 read_as P chips port was now true true = now
-read_as P chips port was now true false = was
-read_as P chips port was now false data_port = was
+read_as P chips port was now _ _ = was
 
 pub input_stands : (start : Board) (set : Setting) (port value : ℕ) (old new : Board) → Inputs port old value new → Stands set start old → Stands (with_read port set) start new
 input_stands start set port value old new access was =

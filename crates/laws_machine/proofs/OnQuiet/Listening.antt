@@ -1,12 +1,10 @@
 -- A quiet controller in its word time.
 use Rattle.std.proofs.Common.{◌≡◌, inl, inr, ℕ, ◌+◌, ◌==◌, Bool, true, false, Option, Some, None, length, if◌then◌else◌, refl, sym, ◌∙◌, ap, subst}
-use Rattle.std.proofs.lemmas.Bool.{false≢true}
-use Rattle.laws_machine.proofs.Common.{Seeking, pulse_due, ReadOutcome, SearchOutcome, Ending, Overrun, is_executing, StepsOn, ExecutesIn, ExecutesTask, is_listening, ending_of, after_searched, after_heard, over_or_on, gone_on_reading, at_stage, pushed, is_full, finished, RestsIn, Fdc, Phase, Command, Execute, Result, Reading, Task, ReadId, Format, only_listens}
+use Rattle.laws_machine.proofs.Common.{Seeking, pulse_due, ReadOutcome, SearchOutcome, Ending, Overrun, is_executing, StepsOn, ExecutesIn, ExecutesTask, is_listening, ending_of, after_searched, after_heard, over_or_on, gone_on_reading, at_stage, pushed, is_full, finished, RestsIn, Fdc, Phase, Command, Execute, Result, Reading, Task, ReadId, only_listens, false≢true, Hears}
 use Rattle.fdc_commands.specs.Seeking.{stepped}
 use Rattle.fdc_stages.specs.Readings as given
 use Rattle.fdc_stages.specs.Searches as searched
-use Rattle.fdc_core.specs.Listening.{Hears}
-use Rattle.fdc_phases.specs.declared.phases.Task.TheVariants.{Read, Write}
+use Rattle.fdc_phases.specs.declared.phases.Task.TheVariants.{Read}
 
 -- ---- the seeks
 
@@ -73,8 +71,7 @@ hears_heard : (head_drive steps : ℕ) (task : Task) (index : Bool) (word : ℕ)
 hears_heard head_drive steps (ReadId search) index word old new listens (after, hears, is) = subst (Heard old) (sym is) (searched_on head_drive steps after old)
 hears_heard head_drive steps (Read reading) index word old new listens (after, hears, is) =
     subst (Heard old) (sym is) (read_heard head_drive steps reading after old)
-hears_heard head_drive steps (Write writing) index word old new listens hears = absurd (false≢true listens)
-hears_heard head_drive steps (Format formatting) index word old new listens hears = absurd (false≢true listens)
+hears_heard head_drive steps _ index word old new listens hears = absurd (false≢true listens)
 
 steps_heard : (head_drive steps : ℕ) (task : Task) (index : Bool) (word : ℕ) (old new : Fdc) → is_listening task ≡ true
     → StepsOn head_drive steps task index word old new → Heard old new
@@ -87,11 +84,10 @@ steps_heard head_drive steps task index word old new listens does = elim does [
 -- in execution
 pub word_heard : (phase : Phase) (polls new : Fdc) (index : Bool) (word : ℕ) → is_executing phase ≡ true → only_listens phase ≡ true
     → ExecutesIn phase index word polls new → Heard polls new
-word_heard Command polls new index word busy listens executes = absurd (false≢true busy)
-word_heard (Result answer) polls new index word busy listens executes = absurd (false≢true busy)
 word_heard (Execute execution) polls new index word busy listens executes =
     steps_heard execution.head_drive execution.steps execution.task index word polls new listens
     (subst (λ b. ExecutesTask b execution.head_drive execution.steps execution.task index word polls new) listens executes)
+word_heard _ polls new index word busy listens executes = absurd (false≢true busy)
 
 -- ---- the word time
 

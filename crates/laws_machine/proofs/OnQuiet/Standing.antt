@@ -1,9 +1,7 @@
 -- Between two data commands: device steps leave a setting.
 use Rattle.std.proofs.Common.{◌≡◌, ◌==◌, ◌&&◌, ◌||◌, Bool, false, None, refl, sym, ◌∙◌, ap, subst}
-use Rattle.std.proofs.lemmas.Bool.{and_right, false≢true}
-use Rattle.laws_machine.proofs.Common.{DmaRequest, Low, is_executing, polled, seek_stepped, RestsIn, Stays, Fdc, Phase, Command, Execute, Result, Board, controller_of, Step, Chips, Seeking, is_seeking, interrupts, is_gated, IsQuiet, HoldsOn, StandsStill, IsHushed, Setting, setting_of, ChipsStand, Stands, regapped, Steady}
+use Rattle.laws_machine.proofs.Common.{DmaRequest, Low, is_executing, polled, seek_stepped, RestsIn, Stays, Fdc, Phase, Execute, Board, controller_of, Step, Chips, Seeking, is_seeking, interrupts, is_gated, IsQuiet, HoldsOn, StandsStill, IsHushed, Setting, setting_of, ChipsStand, Stands, regapped, Steady, and_right, false≢true, dma_stepped}
 use Rattle.laws_machine.proofs.Facts.{polled_asking, polled_phase}
-use Rattle.pc_bus.specs.Transfers.{dma_stepped}
 use Rattle.laws_machine.proofs.OnQuiet.Steps.{step_works, drives_on, drives_still, starts_quietly, idles_still}
 use Rattle.laws_machine.proofs.OnSteps.Words.{controller}
 use Rattle.laws_machine.proofs.OnSteps.Controllers.{idle_dma}
@@ -20,9 +18,8 @@ stepped_stayed old new track0 is = record {
 }
 
 rests_stayed : (phase : Phase) (old new : Fdc) (track0 : Bool) → is_executing phase ≡ false → RestsIn phase track0 (polled old) new → Stayed old new
-rests_stayed Command old new track0 idle rests = stepped_stayed old new track0 rests
-rests_stayed (Result answer) old new track0 idle rests = stepped_stayed old new track0 rests
 rests_stayed (Execute execution) old new track0 idle rests = absurd (false≢true (sym idle))
+rests_stayed _ old new track0 idle rests = stepped_stayed old new track0 rests
 
 pub rested : (old new : Fdc) (track0 : Bool) → is_executing old.phase ≡ false → RestsIn (polled old).phase track0 (polled old) new → Stayed old new
 rested old new track0 idle rests = rests_stayed old.phase old new track0 idle (subst (λ phase. RestsIn phase track0 (polled old) new) (polled_phase old) rests)
@@ -53,9 +50,8 @@ stepped_low old new track0 none unpolled low is =
 
 rests_low : (phase : Phase) (old new : Fdc) (track0 : Bool) → is_executing phase ≡ false → old.seeks.seek ≡ None → old.poll_due ≡ false → old.interrupt ≡ false
     → RestsIn phase track0 (polled old) new → StaysLow new
-rests_low Command old new track0 idle none unpolled low rests = stepped_low old new track0 none unpolled low rests
-rests_low (Result answer) old new track0 idle none unpolled low rests = stepped_low old new track0 none unpolled low rests
 rests_low (Execute execution) old new track0 idle none unpolled low rests = absurd (false≢true (sym idle))
+rests_low _ old new track0 idle none unpolled low rests = stepped_low old new track0 none unpolled low rests
 
 low_rested : (old new : Fdc) (track0 : Bool) → is_executing old.phase ≡ false → old.seeks.seek ≡ None → old.poll_due ≡ false → old.interrupt ≡ false
     → RestsIn (polled old).phase track0 (polled old) new → StaysLow new

@@ -63,9 +63,8 @@ holds_alone begun start old new was works =
 
 -- the drive
 moves_in : (phase : Phase) (polls : Fdc) (before after : DriveState) → polls.seeks.seek ≡ None → only_listens phase ≡ true → MovesIn phase polls before after → Turned before after
-moves_in Command polls before after none listens moves = turned_moves _ before after (pulse_none polls.seeks (before.cylinder == 0) none) moves
-moves_in (Result answer) polls before after none listens moves = turned_moves _ before after (pulse_none polls.seeks (before.cylinder == 0) none) moves
 moves_in (Execute execution) polls before after none listens moves = turned_let before after (subst (λ b. MovesTask b before after) listens moves)
+moves_in _ polls before after none listens moves = turned_moves _ before after (pulse_none polls.seeks (before.cylinder == 0) none) moves
 
 turned_works : (old : Fdc) (before : DriveState) (new : Fdc) (after : DriveState) → IsQuiet old → Works old before new after → Turned before after
 turned_works old before new after quiet works =

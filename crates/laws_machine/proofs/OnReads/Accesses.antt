@@ -1,7 +1,6 @@
 -- What port accesses leave of a command that listens.
 use Rattle.std.proofs.Common.{◌≡◌, ℕ, ◌+◌, ◌==◌, ◌||◌, Bool, true, false, not, List, [], length, slice_index, if◌then◌else◌, refl, sym, ◌∙◌, ap, subst, arith}
-use Rattle.std.proofs.lemmas.Bool.{false≢true}
-use Rattle.laws_machine.proofs.Common.{DriveState, Channel, answer, Past, is_executing, phase_after, Phase, Command, Execute, Result, rest_of, Board, port_read, Scene, IsHearing, IsSet, IsMoved, is_late}
+use Rattle.laws_machine.proofs.Common.{DriveState, Channel, answer, Past, is_executing, phase_after, Phase, Command, Execute, Result, rest_of, Board, port_read, Scene, IsHearing, IsSet, IsMoved, is_late, false≢true}
 use Rattle.laws_machine.proofs.Facts.{given_down, idle_after}
 use Rattle.dma_8237.specs.Channel.{grants, after_read}
 

@@ -1,15 +1,13 @@
 -- A command that listens and begins after port accesses.
 use Rattle.std.proofs.Common.{◌≡◌, ℕ, ◌+◌, ◌%◌, ◌<◌, ◌≤◌, ◌==◌, Bool, true, false, [], ◌∷◌, ◌++◌, length, min, if◌then◌else◌, refl, sym, ◌∙◌, ap, subst, arith}
-use Rattle.laws_machine.proofs.Common.{last_count, Disk, track_words, Channel, writes_memory, answer, Sent, is_listening, Fdc, Task, next_entry, counted, Board, controller_of, channel_of, drive_in, memory_of, Outputs, drive_stays, Turned, HaveTurned, HoldsOn, GoesQuietly, Setting, Stands, Order, Identify, Read, Write, May, IsSetFor, IsLast, CanBegin, seek_bits, is_taking, Command, Scene, IsSet}
+use Rattle.laws_machine.proofs.Common.{last_count, Disk, track_words, Channel, writes_memory, answer, Sent, is_listening, Fdc, Task, next_entry, counted, Board, controller_of, channel_of, drive_in, memory_of, Outputs, drive_stays, Turned, HaveTurned, HoldsOn, GoesQuietly, Setting, Stands, Order, Identify, Read, Write, May, IsSetFor, IsLast, CanBegin, seek_bits, is_taking, Command, Scene, IsSet, IsSetForId, id_scene, sent_id, new_past}
 use Rattle.dma_8237.specs.SetUp.{IsSetUp}
 use Rattle.laws_machine.proofs.OnQuiet.Accesses.{port_takes}
 use Rattle.laws_machine.proofs.OnQuiet.Steps.{quietly, drives_on}
 use Rattle.laws_machine.proofs.OnQuiet.Turning.{turned_still}
 use Rattle.laws_machine.specs.OnReads.Begins.{IsReadyIn, IsSetFor as IsSetForRead, scene_of}
-use Rattle.laws_machine.specs.OnReads.Ids.{IsSetForId, id_scene, sent_id}
 use Rattle.laws_machine.proofs.OnReads.IdWords.{listens_id}
 use Rattle.laws_machine.proofs.OnOrders.Beginning.{HasBegun, begun_as, begun_at}
-use Rattle.fdc_stages.specs.History.{begun as new_past}
 use Rattle.laws_machine.proofs.OnReads.Accesses.{gapped}
 use Rattle.laws_machine.proofs.OnReads.Steps.{listens_task}
 use Rattle.laws_machine.proofs.OnSteps.Runs.{runs}

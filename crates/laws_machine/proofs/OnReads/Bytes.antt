@@ -1,12 +1,8 @@
 -- One more byte in memory, and the channel after it.
 use Rattle.std.proofs.Common.{◌≡◌, ◌⊎◌, inl, inr, ℕ, ◌+◌, ◌-◌, ◌%◌, ◌<◌, ◌≤◌, ◌==◌, Bool, true, false, List, [], ◌∷◌, ◌++◌, length, slice_set, if◌then◌else◌, refl, sym, ◌∙◌, subst, arith}
-use Rattle.std.proofs.Math.ListN.{get_or-append, length-set}
-use Rattle.std.proofs.lemmas.List.{get_or_push, get_or-set_other}
+use Rattle.laws_machine.proofs.Common.{Channel, after_transfer, place_of, writes_memory, Scene, HasBytes, IsSet, IsMoved, get_or-append, length-set, get_or_push, get_or-set_other, nat_tests, grants}
 use Rattle.std.proofs.lemmas.Grind.{get_or-set_at}
-use Rattle.std.proofs.lemmas.Bool.Decides.{nat_tests}
-use Rattle.laws_machine.proofs.Common.{Channel, after_transfer, place_of, writes_memory, Scene, HasBytes, IsSet, IsMoved}
 use Rattle.laws_machine.proofs.Facts.{length_more, not_granting, same_grants, set_over, some_of, zero_is}
-use Rattle.dma_8237.specs.Channel.{grants}
 
 early_or_last : (i n : ℕ) → i < n + 1 → (i < n) ⊎ (i ≡ n)
 early_or_last i n h = grind (arith, nat_tests)

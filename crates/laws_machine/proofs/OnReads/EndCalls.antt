@@ -1,10 +1,7 @@
 -- A READ DATA that ends soon, through the port write that begins it, waits and port reads.
 use Rattle.std.proofs.Common.{◌≡◌, ◌⊎◌, inl, inr, ℕ, ◌≤◌, ◌==◌, ◌&&◌, Bool, true, false, length, if◌then◌else◌, refl, sym, ◌∙◌, ap, subst, arith, [], ◌∷◌, ◌++◌}
-use Rattle.std.proofs.lemmas.Bool.{false≢true}
-use Rattle.laws_machine.proofs.Common.{Rose, begun, TakesAs, IsReadingData, kept, Accepted, Ready, ReadData, Sent, is_executing, given, phase_after, interrupt_after, asks, is_gated, Fdc, Phase, Command, Execute, Task, next_entry, AreShort, Holds, IsShort, shown, Board, controller_of, holds_of, lines_of, is_controllers, WritesPort, Inputs, Outputs, shown_again, Chips, StandsStill, read_from, CanBegin, Scene, wait_left, IsSoonOver, ReadSoon, ReadPrompt}
+use Rattle.laws_machine.proofs.Common.{Rose, begun, TakesAs, IsReadingData, kept, Accepted, Ready, ReadData, Sent, is_executing, given, phase_after, interrupt_after, asks, is_gated, Fdc, Phase, Command, Execute, Task, next_entry, AreShort, Holds, IsShort, shown, Board, controller_of, holds_of, lines_of, is_controllers, WritesPort, Inputs, Outputs, shown_again, Chips, StandsStill, read_from, CanBegin, Scene, wait_left, IsSoonOver, ReadSoon, ReadPrompt, false≢true, after_read, controller_after, IsGrantedSoon}
 use Rattle.laws_machine.proofs.Facts.{quiet_task}
-use Rattle.dma_8237.specs.Channel.{after_read}
-use Rattle.fdc_core.specs.Ports.{after_read as controller_after}
 use Rattle.laws_machine.proofs.OnSteps.Runs.{gap, outputs}
 use Rattle.laws_machine.proofs.OnSteps.Stalls.{runs_until}
 use Rattle.laws_machine.specs.OnOrders.Orders as order
@@ -14,7 +11,6 @@ use Rattle.laws_machine.proofs.OnOrders.Steps.{still_keeps}
 use Rattle.laws_machine.specs.OnReads.Timely.{Stalled}
 use Rattle.laws_machine.proofs.OnReads.HeldCalls.{still_in_time, read_in_time, read_stalls}
 use Rattle.laws_machine.proofs.OnReads.InTime.{begun_in_time}
-use Rattle.laws_machine.specs.OnReads.Ends.{IsGrantedSoon}
 use Rattle.laws_machine.proofs.OnSteps.Short.{shown_short}
 use Rattle.laws_machine.proofs.OnReads.EndMoves.{request_short, asks_up}
 use Rattle.laws_machine.proofs.OnReads.EndSteps.{soon_over, prompting}
@@ -90,9 +86,8 @@ same_busy fdc busy = by_phase fdc.phase busy
 
 -- the request is as it was while DRQ is up
 wait_shown : (none line : Bool) (holding : Holds) → (none ≡ false → line ≡ true) → wait_left none (shown line holding).request ≤ wait_left none holding.request
-wait_shown true line holding up = omega arith
-wait_shown false true holding up = omega arith
 wait_shown false false holding up = absurd (false≢true (up refl))
+wait_shown _ _ holding up = omega arith
 
 shown_soon : (words : ℕ) (chips : Chips) → is_gated chips.controller ≡ true → IsGrantedSoon words chips → IsGrantedSoon words (shown_again chips)
 shown_soon words chips gated was = record {

@@ -1,10 +1,8 @@
 -- The transfers after the word time of a READ DATA that ends soon.
 use Rattle.std.proofs.Common.{◌≡◌, ◌⊎◌, inl, inr, ℕ, ◌+◌, ◌-◌, ◌*◌, ◌≤◌, ◌==◌, ◌&&◌, ◌||◌, not, nat_le, nat_lt, Bool, true, false, [], length, drop, if◌then◌else◌, refl, sym, ◌∙◌, ap, subst, arith}
-use Rattle.std.proofs.lemmas.Bool.{and_from, cases_lt, cond_both, cond-true, eqb-false, false_from_ne_true, false≢true, lt-ltb}
-use Rattle.laws_machine.proofs.Common.{Rose, Fifo, room_of, worth_fetching, ReadStage, fifo_told, taken_out, to_memory_of, phase_asks, task_asks, phase_told, is_executing, is_over, is_reading, asks, is_gated, phase_counted, Fdc, Phase, Command, Execute, Result, Task, next_entry, Holds, IsShort, is_due, looked, shown, waited, counted, DmaRequest, Low, High, can_move, moved_to_memory, moved_from_memory, told_if, looked_at, shown_again, Chips, IsRuled, lingers, task_lingers, steps_taken, wait_left, most_steps_of, IsSoonOver}
-use Rattle.dma_8237.specs.Channel.{grants}
+use Rattle.laws_machine.proofs.Common.{Rose, Fifo, room_of, worth_fetching, ReadStage, fifo_told, taken_out, to_memory_of, phase_asks, task_asks, phase_told, is_executing, is_over, is_reading, asks, is_gated, phase_counted, Fdc, Phase, Command, Execute, Result, Task, next_entry, Holds, IsShort, is_due, looked, shown, waited, counted, DmaRequest, Low, High, can_move, moved_to_memory, moved_from_memory, told_if, looked_at, shown_again, Chips, IsRuled, lingers, task_lingers, steps_taken, wait_left, most_steps_of, IsSoonOver, and_from, cases_lt, cond_both, cond-true, eqb-false, false_from_ne_true, false≢true, lt-ltb, grants, moved_up_to}
 use Rattle.fdc_phases.specs.declared.phases.Task.TheVariants.{Read}
-use Rattle.pc_bus.specs.Transfers.{moved, moved_up_to, granted, dma_stepped}
+use Rattle.pc_bus.specs.Transfers.{moved, granted, dma_stepped}
 use Rattle.laws_machine.proofs.OnSteps.Stalls.{up_to_holding}
 use Rattle.laws_machine.proofs.OnSteps.Transfers.{up_to}
 use Rattle.laws_machine.proofs.OnReads.Served.{served, left_reading}
@@ -70,9 +68,8 @@ wait_some (High left) = omega arith
 
 -- a controller that executes nothing stays so
 idle_told : (phase : Phase) → is_executing phase ≡ false → phase_told phase ≡ phase
-idle_told Command idle = refl
-idle_told (Result answer) idle = refl
 idle_told (Execute execution) idle = absurd (false≢true (sym idle))
+idle_told _ idle = refl
 
 idle_moved : (phase : Phase) → is_executing phase ≡ false → (chips : Chips) → chips.controller.phase ≡ phase → (moved chips).controller.phase ≡ phase
 unfolding moved

@@ -1,11 +1,7 @@
 -- A READ DATA in time, through waits and port reads.
 use Rattle.std.proofs.Common.{◌≡◌, ◌⊎◌, inl, inr, ℕ, ◌-◌, ◌≤◌, ◌==◌, Bool, true, false, length, if◌then◌else◌, refl, sym, ◌∙◌, ap, subst}
-use Rattle.std.proofs.lemmas.Bool.{false≢true}
-use Rattle.laws_machine.proofs.Common.{Rose, phase_asks, is_executing, is_overrun, is_reading, given, phase_after, asks, is_gated, Fdc, Phase, Command, Execute, Result, next_entry, rest_of, Holds, IsReady, shown, Board, controller_of, holds_of, is_controllers, Inputs, shown_again, Chips, StandsStill, Scene, slack_of, IsPunctualRead, ReadInTime, read_from, Stalled}
+use Rattle.laws_machine.proofs.Common.{Rose, phase_asks, is_executing, is_overrun, is_reading, given, phase_after, asks, is_gated, Fdc, Phase, Command, Result, next_entry, rest_of, Holds, IsReady, shown, Board, controller_of, holds_of, is_controllers, Inputs, shown_again, Chips, StandsStill, Scene, slack_of, IsPunctualRead, ReadInTime, read_from, Stalled, false≢true, after_read, controller_after, IsEmptiedInTime}
 use Rattle.laws_machine.proofs.Facts.{given_down, shown_stalls}
-use Rattle.dma_8237.specs.Channel.{after_read}
-use Rattle.fdc_core.specs.Ports.{after_read as controller_after}
-use Rattle.laws_machine.specs.OnReads.Timely.{IsEmptiedInTime}
 use Rattle.laws_machine.proofs.OnReads.InTime.{in_time}
 use Rattle.laws_machine.proofs.OnSteps.Stalls.{runs_until}
 use Rattle.laws_machine.proofs.OnReads.Accesses.{read_board, grants_read, busy_before}
@@ -27,9 +23,8 @@ calm_read : (phase : Phase) → is_overrun phase ≡ false → is_overrun (phase
 calm_read = given_down is_overrun refl (λ next last. refl) (λ ending results taken. refl)
 
 pub same_busy : (phase : Phase) → is_executing phase ≡ true → phase_after phase ≡ phase
-same_busy Command busy = refl
-same_busy (Execute execution) busy = refl
 same_busy (Result answer) busy = absurd (false≢true busy)
+same_busy _ busy = refl
 
 -- the request after DRQ is shown again
 ready_shown : (line : Bool) (holding : Holds) (slack : ℕ) → (line ≡ false → 9 ≤ slack) → IsReady holding.request slack → IsReady (shown line holding).request slack

@@ -1,13 +1,7 @@
 -- From the words that a READ ID heard to the track.
 use Rattle.std.proofs.Common.{◌≡◌, ℕ, ◌+◌, ◌*◌, false, [], None, sym, subst}
-use Rattle.std.proofs.lemmas.Bool.{false≢true}
-use Rattle.laws_machine.proofs.Common.{Chrn, IsAddressAt, HasAddressMark, HasAddress, FindsNoSector, Past, HasNoClear, Ending, Done, NoMark, NoSector, NoField, BadCheck, Overrun, NoCount, Protected, Late, IdMeansIn, Short, Long, Phase, Command, Execute, Result, IsHeardFrom, IsWholeFrom, Scene, track_met, ends_late, is_late, IdEndedIn}
-use Rattle.fdc_core.specs.Meaning.{IdMeans}
-use Rattle.fdc_core.proofs.drives.Fields.{mark_heard, address_heard}
-use Rattle.fdc_core.specs.Drives.Hearing.{IsCalm}
-use Rattle.fdc_core.proofs.drives.Turns.{turn_heard, between_is}
+use Rattle.laws_machine.proofs.Common.{Chrn, IsAddressAt, HasAddressMark, HasAddress, FindsNoSector, Past, HasNoClear, Ending, Done, NoMark, NoSector, Late, IdMeansIn, Long, Phase, Result, IsHeardFrom, IsWholeFrom, Scene, track_met, ends_late, is_late, IdEndedIn, false≢true, IdMeans, mark_heard, address_heard, IsCalm, turn_heard, between_is, IdEndsAs}
 use Rattle.laws_machine.proofs.OnReads.Results.{mark_ends}
-use Rattle.laws_machine.specs.OnReads.Ids.{IdEndsAs}
 
 module _ (scene : Scene) (past : Past) (faults : ℕ)
     (heard : IsHeardFrom (track_met scene) scene.from past.turns past.seen)
@@ -28,15 +22,9 @@ module _ (scene : Scene) (past : Past) (faults : ℕ)
   ends key (Done deleted) calm means = address_ends key means
   ends key NoMark calm means = mark_ends scene past faults [] heard whole means
   ends key NoSector calm means = sector_ends means
-  ends key NoField calm means = means
-  ends key BadCheck calm means = means
-  ends key Overrun calm means = means
-  ends key NoCount calm means = means
-  ends key Protected calm means = means
   ends key Late calm means = absurd (false≢true (sym calm))
+  ends key _ calm means = means
 
   pub ended : (phase : Phase) → is_late phase ≡ false → IdMeansIn past scene.sent.head_drive phase → IdEndedIn scene faults phase
-  ended Command calm means = tt
-  ended (Execute execution) calm means = tt
-  ended (Result (Short next last)) calm means = tt
   ended (Result (Long ending results taken)) calm (is, means) = (is, ends results.key ending calm means)
+  ended _ calm means = tt

@@ -1,11 +1,8 @@
 -- The word time of a READ ID.
 use Rattle.std.proofs.Common.{◌≡◌, inl, inr, ℕ, ◌+◌, ◌<◌, ◌==◌, Bool, true, false, refl, ◌∙◌, ap, subst, arith}
-use Rattle.laws_machine.proofs.Common.{DriveState, at_index, Fifo, Past, heard, SearchOutcome, Ending, Late, phase_asks, stepped, is_executing, StepHears, StepsOn, ExecutesTask, PacedIn, IsPaced, is_hearing, is_listening, after_searched, polled, RestsIn, FlowsIn, Fdc, Phase, Command, Execute, Result, Task, ReadId, Works, Chips, Scene, IsScene, track_met, IsHearing, ends_late, is_late, Identify, IsDoneBy}
+use Rattle.laws_machine.proofs.Common.{DriveState, at_index, Fifo, Past, heard, SearchOutcome, Ending, Late, phase_asks, stepped, is_executing, StepHears, StepsOn, ExecutesTask, PacedIn, IsPaced, is_hearing, is_listening, after_searched, polled, RestsIn, FlowsIn, Fdc, Phase, Command, Execute, Result, Task, ReadId, Works, Chips, Scene, IsScene, track_met, IsHearing, ends_late, is_late, Identify, IsDoneBy, IsMiss, MissesWell, MayReadIdIn, MayReadIdTask, paced_id}
 use Rattle.laws_machine.proofs.Facts.{polled_asking, polled_phase}
-use Rattle.fdc_stages.specs.Searches.{IsMiss, MissesWell}
 use Rattle.fdc_stages.specs.Searches as searched
-use Rattle.fdc_phases.specs.Heard.{MayReadIdIn, MayReadIdTask}
-use Rattle.fdc_core.proofs.Meanings.{paced_id}
 use Rattle.laws_machine.proofs.OnReads.Steps.{Hearkens, listened_as, listening}
 use Rattle.laws_machine.proofs.OnReads.Words.{length-met}
 use Rattle.laws_machine.proofs.OnReads.EndWords.{words_few}
@@ -28,9 +25,8 @@ low_task past sent head_drive steps (ReadId search) asking fifo was = refl
 low_task past sent head_drive steps _ asking fifo was = absurd was
 
 low_in : (past : Past) (sent : ℕ) (phase : Phase) (asking : Bool) (fifo : Fifo) → MayReadIdIn past sent phase → phase_asks phase asking fifo ≡ false
-low_in past sent Command asking fifo was = refl
-low_in past sent (Result answer) asking fifo was = refl
 low_in past sent (Execute execution) asking fifo was = low_task past sent execution.head_drive execution.steps execution.task asking fifo was
+low_in past sent _ asking fifo was = refl
 
 -- ---- how long it takes
 
@@ -48,9 +44,8 @@ misses_late Late is = absurd is
 misses_late _ is = refl
 
 searched_late : (head_drive steps : ℕ) (after : SearchOutcome) (old : Fdc) → MissesWell after → is_late (after_searched head_drive steps after old).phase ≡ false
-searched_late head_drive steps (searched.On search) old well = refl
-searched_late head_drive steps (searched.Met key separator) old well = refl
 searched_late head_drive steps (searched.Missed ending) old well = misses_late ending well
+searched_late head_drive steps _ old well = refl
 
 late_task : (past : Past) (sent head_drive steps : ℕ) (task : Task) (index : Bool) (word : ℕ) (polls new : Fdc) → MayReadIdTask past sent head_drive steps task → steps < 65535
     → StepsOn head_drive steps task index word polls new → is_late new.phase ≡ false

@@ -1,9 +1,7 @@
 -- A READ DATA in time, through device steps.
 use Rattle.std.proofs.Common.{◌≡◌, ◌⊎◌, inl, inr, ℕ, ◌%◌, ◌&&◌, Bool, true, false, [], ◌∷◌, ◌++◌, refl, sym, ◌∙◌, ap, subst, arith}
-use Rattle.std.proofs.lemmas.Bool.{and_right, false≢true}
-use Rattle.laws_machine.proofs.Common.{Rose, emptied, kept, Accepted, Ready, ReadData, TakesAs, begun, IsReadingData, Sent, is_gated, Fdc, Task, next_entry, rest_of, Holds, IsReady, shown, Low, Board, controller_of, drive_in, holds_of, selected_of, lines_of, Outputs, Step, shown_again, Chips, CanBegin, Scene, Keeping, Stalled, IsPunctualRead, ReadInTime}
+use Rattle.laws_machine.proofs.Common.{Rose, emptied, kept, Accepted, Ready, ReadData, TakesAs, begun, IsReadingData, Sent, is_gated, Fdc, Task, next_entry, rest_of, Holds, IsReady, shown, Low, Board, controller_of, drive_in, holds_of, selected_of, lines_of, Outputs, Step, shown_again, Chips, CanBegin, Scene, Keeping, Stalled, IsPunctualRead, ReadInTime, and_right, false≢true, dma_stepped}
 use Rattle.laws_machine.proofs.Facts.{quiet_task, shown_stalls}
-use Rattle.pc_bus.specs.Transfers.{dma_stepped}
 use Rattle.laws_machine.specs.OnOrders.Orders as order
 use Rattle.laws_machine.proofs.OnSteps.Words.{selected}
 use Rattle.laws_machine.proofs.OnSteps.Stalls.{runs_until}

@@ -1,8 +1,7 @@
 -- The mode of a READ DATA on time, which transfers keep.
 use Rattle.std.proofs.Common.{◌≡◌, ℕ, ◌==◌, true, length, ◌∙◌}
-use Rattle.laws_machine.proofs.Common.{room_of, is_reading, is_gated, Fdc, Chips, Transferred}
+use Rattle.laws_machine.proofs.Common.{room_of, is_reading, is_gated, Fdc, Chips, Transferred, moved_up_to}
 use Rattle.laws_machine.proofs.Facts.{told_on, told_threshold}
-use Rattle.pc_bus.specs.Transfers.{moved_up_to}
 use Rattle.laws_machine.proofs.OnSteps.Controllers.{by_bytes, by_phase, byte_on, byte_threshold, told_reading}
 use Rattle.laws_machine.proofs.OnSteps.Transfers.{up_to}
 

@@ -1,14 +1,8 @@
 -- From the words that were heard to the track.
 use Rattle.std.proofs.Common.{◌≡◌, inl, inr, ℕ, ◌+◌, ◌*◌, ◌<◌, ◌≤◌, Bool, true, false, List, Some, length, refl, sym, ◌∙◌, subst, arith}
-use Rattle.std.proofs.lemmas.Bool.{false≢true}
-use Rattle.laws_machine.proofs.Common.{NoData, BadCrc, IsSizeCode, content_size, content_at, HasAddressMark, IsIntact, HasDataField, Past, HasNoClear, IsFoundAt, FindsNoSector, Ending, Done, NoMark, NoSector, NoField, BadCheck, Overrun, NoCount, Protected, Late, ReadMeansIn, Short, Long, Phase, Command, Execute, Result, IsHeardFrom, IsWholeFrom, intact_of, Scene, track_met, HasBytes, IsMoved, Channel, ReadEndedIn, StaysOutside}
-use Rattle.sector_map.specs.Met.{HasLook}
+use Rattle.laws_machine.proofs.Common.{NoData, BadCrc, IsSizeCode, content_size, content_at, HasAddressMark, IsIntact, HasDataField, Past, HasNoClear, IsFoundAt, FindsNoSector, Ending, Done, NoMark, NoSector, NoField, BadCheck, NoCount, Protected, ReadMeansIn, Long, Phase, Result, IsHeardFrom, IsWholeFrom, intact_of, Scene, track_met, HasBytes, IsMoved, Channel, ReadEndedIn, StaysOutside, false≢true, HasLook, ReadMeans, FindsUncounted, mark_heard, address_heard, data_mark_heard, field_heard, found_on, lone_found, IsCalm, between_is, turn_heard}
 use Rattle.fdc_stages.specs.Findings.{FindsBadCheck, FindsNoField, FindsNoMark}
-use Rattle.fdc_core.specs.Meaning.{ReadMeans, FindsUncounted}
-use Rattle.fdc_core.proofs.drives.Fields.{mark_heard, address_heard, data_mark_heard, field_heard, found_on, lone_found}
 use Rattle.fdc_core.proofs.drives.Looks.{bad_met, no_field_met}
-use Rattle.fdc_core.specs.Drives.Hearing.{IsCalm}
-use Rattle.fdc_core.proofs.drives.Turns.{between_is, turn_heard}
 use Rattle.laws_machine.specs.OnReads.Results.{FindsField, ReadEndsAs}
 
 -- ---- the endings
@@ -69,17 +63,14 @@ module _ (scene : Scene) (past : Past) (faults : ℕ) (memory : List ℕ)
   ends NoSector coded bytes all few means = sector_ends means
   ends NoField coded bytes all few means = field_ends means
   ends BadCheck coded bytes all few means = bad_ends means
-  ends Overrun coded bytes all few means = tt
   ends NoCount coded bytes all few means = count_ends few means
   ends Protected coded bytes all few means = means
-  ends Late coded bytes all few means = tt
+  ends _ coded bytes all few means = tt
 
   pub ended : (phase : Phase) → IsSizeCode scene.sent.key.n → HasBytes scene.address past.given scene.memory memory
       → (past.counted ≡ true → length past.given ≡ content_size scene.sent.key.n) → (past.counted ≡ false → length past.given < content_size scene.sent.key.n) → ReadMeansIn past scene.sent phase → ReadEndedIn scene faults memory phase
-  ended Command coded bytes all few means = tt
-  ended (Execute execution) coded bytes all few means = tt
-  ended (Result (Short next last)) coded bytes all few means = tt
   ended (Result (Long ending results taken)) coded bytes all few (is, means) = (is, ends ending coded bytes all few means)
+  ended _ coded bytes all few means = tt
 
 -- ---- memory
 

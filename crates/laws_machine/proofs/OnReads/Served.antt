@@ -1,9 +1,7 @@
 -- A request that is served falls.
 use Rattle.std.proofs.Common.{◌≡◌, ℕ, zero, suc, ◌+◌, ◌-◌, ◌≤◌, ◌==◌, ◌&&◌, ◌||◌, not, nat_le, Bool, true, false, List, [], ◌∷◌, ◌++◌, length, drop, if◌then◌else◌, refl, sym, ◌∙◌, subst, arith, length-append}
-use Rattle.std.proofs.lemmas.Bool.{and_parts, false≢true}
-use Rattle.laws_machine.proofs.Common.{Fifo, room_of, worth_fetching, taken_out, taken_in, with_byte, fifo_told, asking_told, task_asks, phase_asks, task_told, phase_told, is_reading, is_read, is_moving, is_over, asks, is_gated, Fdc, Phase, Command, Execute, Result, Task, ReadId, Format, can_move, moved_to_memory, moved_from_memory, byte_read, told_if, Chips, IsRuled}
+use Rattle.laws_machine.proofs.Common.{Fifo, room_of, worth_fetching, taken_out, taken_in, with_byte, fifo_told, asking_told, task_asks, phase_asks, task_told, phase_told, is_reading, is_read, is_moving, is_over, asks, is_gated, Fdc, Phase, Execute, Task, ReadId, Format, can_move, moved_to_memory, moved_from_memory, byte_read, told_if, Chips, IsRuled, and_parts, false≢true, grants}
 use Rattle.laws_machine.proofs.Facts.{different}
-use Rattle.dma_8237.specs.Channel.{grants}
 use Rattle.fdc_registers.specs.Fifo.{low_level}
 use Rattle.fdc_phases.specs.declared.phases.Task.TheVariants.{Read, Write}
 use Rattle.pc_bus.specs.Transfers.{moved, moved_up_to}
@@ -46,21 +44,17 @@ task_again (Write writing) asking fifo = again_filling (not (writing.counted || 
 task_again (Format formatting) asking fifo = again_filling (not (formatting.counted || length fifo.bytes == room_of fifo.on)) asking (nat_le (length fifo.bytes) (low_level fifo))
 
 pub phase_again : (phase : Phase) (asking : Bool) (fifo : Fifo) → phase_asks phase (phase_asks phase asking fifo) fifo ≡ phase_asks phase asking fifo
-phase_again Command asking fifo = refl
-phase_again (Result answer) asking fifo = refl
 phase_again (Execute execution) asking fifo = task_again execution.task asking fifo
+phase_again _ asking fifo = refl
 
 -- a READ DATA that asks has a byte
 some_task : (task : Task) (asking : Bool) (fifo : Fifo) → is_read task ≡ true → true ≡ task_asks task asking fifo → (length fifo.bytes == 0) ≡ false
 some_task (Read reading) asking fifo is up = not_first (length fifo.bytes == 0) _ up
-some_task (ReadId search) asking fifo is up = absurd (false≢true is)
-some_task (Write writing) asking fifo is up = absurd (false≢true is)
-some_task (Format formatting) asking fifo is up = absurd (false≢true is)
+some_task _ asking fifo is up = absurd (false≢true is)
 
 some_byte : (phase : Phase) (asking : Bool) (fifo : Fifo) → is_reading phase ≡ true → true ≡ phase_asks phase asking fifo → (length fifo.bytes == 0) ≡ false
-some_byte Command asking fifo is up = absurd (false≢true is)
-some_byte (Result answer) asking fifo is up = absurd (false≢true is)
 some_byte (Execute execution) asking fifo is up = some_task execution.task asking fifo is up
+some_byte _ asking fifo is up = absurd (false≢true is)
 
 -- a command that writes and asks has room
 room_task : (task : Task) (asking : Bool) (fifo : Fifo) → is_read task ≡ false → true ≡ task_asks task asking fifo → (length fifo.bytes == room_of fifo.on) ≡ false
@@ -70,9 +64,8 @@ room_task (Write writing) asking fifo is up = neither writing.counted (length fi
 room_task (Format formatting) asking fifo is up = neither formatting.counted (length fifo.bytes == room_of fifo.on) _ up
 
 some_room : (phase : Phase) (asking : Bool) (fifo : Fifo) → is_reading phase ≡ false → true ≡ phase_asks phase asking fifo → (length fifo.bytes == room_of fifo.on) ≡ false
-some_room Command asking fifo is up = absurd (false≢true (sym up))
-some_room (Result answer) asking fifo is up = absurd (false≢true (sym up))
 some_room (Execute execution) asking fifo is up = room_task execution.task asking fifo is up
+some_room _ asking fifo is up = absurd (false≢true (sym up))
 
 -- ---- one byte
 
@@ -130,16 +123,13 @@ told_task_ruled : (head_drive steps : ℕ) (task : Task) (asking : Bool) (fifo :
 told_task_ruled head_drive steps (ReadId search) asking fifo before was = was
 told_task_ruled head_drive steps (Read reading) asking fifo before was =
     let fewer = was.fewer in record { ruled = record { rule = refl; room = omega arith }; fewer = omega arith }
-told_task_ruled head_drive steps (Write writing) asking fifo before was =
-    record { ruled = record { rule = refl; room = was.ruled.room }; fewer = was.fewer }
-told_task_ruled head_drive steps (Format formatting) asking fifo before was =
+told_task_ruled head_drive steps _ asking fifo before was =
     record { ruled = record { rule = refl; room = was.ruled.room }; fewer = was.fewer }
 
 told_ruled : (phase : Phase) (asking : Bool) (fifo : Fifo) (before : ℕ) → GoesOnFewer phase asking fifo before
     → GoesOnFewer (phase_told phase) (asking_told (is_moving phase) asking) (fifo_told (is_reading phase) fifo) before
-told_ruled Command asking fifo before was = was
-told_ruled (Result answer) asking fifo before was = was
 told_ruled (Execute execution) asking fifo before was = told_task_ruled execution.head_drive execution.steps execution.task asking fifo before was
+told_ruled _ asking fifo before was = was
 
 abbrev Fewer : Fdc → ℕ → Type 0
 Fewer controller before = GoesOnFewer controller.phase controller.asking controller.fifo before

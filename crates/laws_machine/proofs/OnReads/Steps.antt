@@ -1,12 +1,9 @@
 -- The word time of a READ DATA.
 use Rattle.std.proofs.Common.{◌≡◌, inl, inr, ℕ, ◌/◌, ◌%◌, ◌≤◌, ◌==◌, Bool, true, false, List, Option, Some, None, if◌then◌else◌, refl, sym, ◌∙◌, ap, subst, arith}
-use Rattle.std.proofs.lemmas.Bool.{false≢true}
-use Rattle.laws_machine.proofs.Common.{DriveState, at_index, Fifo, Past, phase_asks, Sent, MayReadIn, MayReadTask, is_executing, StepHears, SeesUnder, is_listening, is_reading, polled, RestsIn, Moves, MovesTask, MovesIn, FlowsIn, Fdc, Phase, Command, Execute, Result, Task, Works, Chips, place_in, IsHeardFrom, IsWholeFrom, Scene, IsScene, head_sent, track_met, IsHearing, IsMoved, IsDoneBy, Order, May, Shows}
+use Rattle.laws_machine.proofs.Common.{DriveState, at_index, Fifo, Past, phase_asks, Sent, MayReadIn, MayReadTask, is_executing, StepHears, SeesUnder, is_listening, is_reading, polled, RestsIn, Moves, MovesTask, MovesIn, FlowsIn, Fdc, Phase, Command, Execute, Result, Task, Works, Chips, place_in, IsHeardFrom, IsWholeFrom, Scene, IsScene, head_sent, track_met, IsHearing, IsMoved, IsDoneBy, Order, May, Shows, false≢true, past_after, SeesTask, Moved}
 use Rattle.laws_machine.proofs.Facts.{polled_asking, polled_phase}
-use Rattle.fdc_core.specs.Listening.{after_step as past_after, SeesTask}
 use Rattle.fdc_phases.specs.declared.phases.Task.TheVariants.{Read}
 use Rattle.laws_machine.proofs.OnReads.Words.{hearing_on, hearing_over}
-use Rattle.laws_machine.specs.OnOrders.Orders.{Moves as Moved}
 use Rattle.laws_machine.specs.OnOrders.Orders as order
 use Rattle.laws_machine.proofs.OnOrders.Behind.{IsDoing, IsBehind, Listening}
 
@@ -25,9 +22,8 @@ listens_task past sent head_drive steps (Read reading) asking fifo was = refl
 listens_task past sent head_drive steps _ asking fifo was = absurd was
 
 pub asks_busy : (phase : Phase) (asking : Bool) (fifo : Fifo) → phase_asks phase asking fifo ≡ true → is_executing phase ≡ true
-asks_busy Command asking fifo up = absurd (false≢true up)
 asks_busy (Execute execution) asking fifo up = refl
-asks_busy (Result answer) asking fifo up = absurd (false≢true up)
+asks_busy _ asking fifo up = absurd (false≢true up)
 
 pub moves_faults : (pulse : Option Bool) (before after : DriveState) → Moves pulse before after → before.faults ≤ after.faults
 moves_faults None before after is = let same : after.faults ≡ before.faults = ap (λ s. s.faults) is in omega arith
@@ -47,9 +43,8 @@ same_given false index word past P was = was
 
 pub still_quiet : (p : Phase) (track0 : Bool) (old between : Fdc) → (polled old).phase ≡ p → (old.asking ≡ true → is_executing p ≡ true) → RestsIn p track0 (polled old) between → FlowsIn p old.asking between
     → between.asking ≡ true → is_executing between.phase ≡ true
-still_quiet Command track0 old between is quiet rests flows up = absurd (false≢true (quiet (sym (ap (λ fdc. fdc.asking) rests ∙ polled_asking old) ∙ up)))
-still_quiet (Result answer) track0 old between is quiet rests flows up = absurd (false≢true (quiet (sym (ap (λ fdc. fdc.asking) rests ∙ polled_asking old) ∙ up)))
 still_quiet (Execute execution) track0 old between is quiet rests flows up = asks_busy between.phase old.asking between.fifo (sym flows ∙ up)
+still_quiet _ track0 old between is quiet rests flows up = absurd (false≢true (quiet (sym (ap (λ fdc. fdc.asking) rests ∙ polled_asking old) ∙ up)))
 
 -- a command in execution listens under the scene's head
 abbrev pub Hearkens : Scene → Phase → Type 0
@@ -71,9 +66,7 @@ heard_at scene P listening past old between drive after rate (Execute execution)
     (subst (λ byte. SeesUnder old.rate (byte / 4 % 2) drive steps.word after) head
     (subst (λ b. SeesTask b (execution.head_drive / 4 % 2) old.rate drive steps.word after) listens steps.sees)) in
     listening.hears past drive after steps.word (is_executing between.phase) hears sees (subst (λ b. MovesTask b drive after) listens moves)
-heard_at scene P listening past old between drive after rate Command is hearkens hears steps rests moves =
-    subst (λ b. P past b after) (sym (ap is_executing (ap (λ fdc. fdc.phase) rests ∙ is))) (listening.rests past drive after hears (moves_faults _ drive after moves))
-heard_at scene P listening past old between drive after rate (Result answer) is hearkens hears steps rests moves =
+heard_at scene P listening past old between drive after rate _ is hearkens hears steps rests moves =
     subst (λ b. P past b after) (sym (ap is_executing (ap (λ fdc. fdc.phase) rests ∙ is))) (listening.rests past drive after hears (moves_faults _ drive after moves))
 
 -- what a command hears, by its order

@@ -1,16 +1,10 @@
 -- A READ DATA in time, step by step.
 use Rattle.std.proofs.Common.{◌≡◌, ◌⊎◌, inl, inr, ℕ, ◌+◌, ◌<◌, ◌≤◌, ◌==◌, ◌&&◌, ◌||◌, not, nat_le, Bool, true, false, List, length, refl, sym, ◌∙◌, ap, subst, arith}
-use Rattle.std.proofs.lemmas.Bool.{false_from_ne_true, false≢true}
-use Rattle.std.proofs.lemmas.Bool.Decides.{nat_tests}
-use Rattle.laws_machine.proofs.Common.{Rose, DriveState, Fifo, room_of, worth_fetching, Past, task_asks, phase_asks, Sent, MayReadIn, MayReadTask, is_executing, is_reading, is_read, is_overrun, is_over, is_full, asks, is_gated, polled, RestsIn, FlowsIn, Fdc, Phase, Command, Execute, Result, Task, Holds, IsReady, IsInTime, is_due, shown, DmaRequest, Low, High, in_time, Works, looked_at, shown_again, Chips, Scene, IsDoneBy, IsRuled, slack_of, IsPunctualRead}
+use Rattle.laws_machine.proofs.Common.{Rose, DriveState, Fifo, room_of, worth_fetching, Past, task_asks, phase_asks, Sent, MayReadIn, MayReadTask, is_executing, is_reading, is_read, is_overrun, is_over, is_full, asks, is_gated, polled, RestsIn, FlowsIn, Fdc, Phase, Command, Execute, Result, Task, Holds, IsReady, IsInTime, is_due, shown, DmaRequest, Low, High, in_time, Works, looked_at, shown_again, Chips, Scene, IsDoneBy, IsRuled, slack_of, IsPunctualRead, false_from_ne_true, false≢true, nat_tests, grants, OverrunsIn, OverrunsTask, moved_up_to, dma_stepped, IsEmptiedInTime}
 use Rattle.laws_machine.proofs.Facts.{number_is, polled_phase, some_of}
-use Rattle.dma_8237.specs.Channel.{grants}
-use Rattle.fdc_core.specs.Listening.{OverrunsIn, OverrunsTask}
 use Rattle.fdc_phases.specs.declared.phases.Task.TheVariants.{Read}
-use Rattle.pc_bus.specs.Transfers.{moved_up_to, dma_stepped}
 use Rattle.laws_machine.specs.OnOrders.Orders as order
 use Rattle.laws_machine.proofs.OnReads.Steps.{reads_there, IsBetween}
-use Rattle.laws_machine.specs.OnReads.Timely.{IsEmptiedInTime}
 use Rattle.laws_machine.proofs.OnSteps.Stalls.{dma_stalls}
 use Rattle.laws_machine.proofs.OnReads.Served.{phase_again, served, left_reading, IsServed}
 use Rattle.laws_machine.proofs.OnSteps.Controllers.{dma_executing, dma_overrun, gated_same, polled_fifo}
@@ -23,9 +17,8 @@ above : (a b : ℕ) → nat_le a b ≡ false → b < a
 above a b h = grind (arith, nat_tests)
 
 last_of : (a b l : Bool) → false ≡ (a || b || l) → l ≡ false
-last_of true b l h = absurd (false≢true h)
-last_of false true l h = absurd (false≢true h)
 last_of false false l h = sym h
+last_of _ _ l h = absurd (false≢true h)
 
 -- ---- the word time
 
@@ -46,14 +39,12 @@ over_in past sent (Execute execution) asking fifo index word polls between track
     over_task past sent execution.head_drive execution.steps execution.task asking fifo index word polls between was overruns (λ uncounted full. room uncounted refl full)
 
 pub busy_in : (phase : Phase) (polls between : Fdc) (track0 : Bool) → RestsIn phase track0 polls between → polls.phase ≡ phase → is_executing between.phase ≡ true → is_executing phase ≡ true
-busy_in Command polls between track0 rests same busy = absurd (false≢true (sym (ap (λ fdc. is_executing fdc.phase) rests ∙ ap is_executing same) ∙ busy))
-busy_in (Result answer) polls between track0 rests same busy = absurd (false≢true (sym (ap (λ fdc. is_executing fdc.phase) rests ∙ ap is_executing same) ∙ busy))
 busy_in (Execute execution) polls between track0 rests same busy = refl
+busy_in _ polls between track0 rests same busy = absurd (false≢true (sym (ap (λ fdc. is_executing fdc.phase) rests ∙ ap is_executing same) ∙ busy))
 
 pub flows_in : (phase : Phase) (asking : Bool) (new : Fdc) → is_executing phase ≡ true → FlowsIn phase asking new → new.asking ≡ phase_asks new.phase asking new.fifo
-flows_in Command asking new busy flows = absurd (false≢true busy)
-flows_in (Result answer) asking new busy flows = absurd (false≢true busy)
 flows_in (Execute execution) asking new busy flows = flows
+flows_in _ asking new busy flows = absurd (false≢true busy)
 
 -- ---- the rule
 
@@ -67,9 +58,8 @@ few_task (Read reading) asking fifo is eight low = few_of (length fifo.bytes == 
 few_task _ asking fifo is eight low = absurd (false≢true is)
 
 few_bytes : (phase : Phase) (asking : Bool) (fifo : Fifo) → is_reading phase ≡ true → worth_fetching fifo ≡ 8 → false ≡ phase_asks phase asking fifo → length fifo.bytes ≤ 7
-few_bytes Command asking fifo is eight low = absurd (false≢true is)
-few_bytes (Result answer) asking fifo is eight low = absurd (false≢true is)
 few_bytes (Execute execution) asking fifo is eight low = few_task execution.task asking fifo is eight low
+few_bytes _ asking fifo is eight low = absurd (false≢true is)
 
 worth_is : (fifo : Fifo) → fifo.on ≡ true → fifo.threshold ≡ 8 → worth_fetching fifo ≡ 8
 worth_is fifo on eight = rw (on, eight) refl

@@ -1,12 +1,9 @@
 -- The track that passes under the head.
 use Rattle.std.proofs.Common.{◌≡◌, ℕ, ◌&&◌, nat_lt, Bool, Some, if◌then◌else◌, refl, sym, ◌∙◌, ap}
-use Rattle.laws_machine.proofs.Common.{Chrn, track_of, IsAddressAt, rate_fits, Scene, head_sent, track_met, IsRecorded}
+use Rattle.laws_machine.proofs.Common.{Chrn, track_of, IsAddressAt, rate_fits, Scene, head_sent, track_met, IsRecorded, unrecorded, same_rate, met_in, data_rate, outset_of, recorded_since}
 use Rattle.flop_base.specs.declared.answers.Rate.{Rate}
 use Rattle.flop_base.specs.declared.answers.Rate.TheVariants.{R500, R250}
-use Rattle.sector_map.specs.Met.{unrecorded, same_rate, met_in}
 use Rattle.sector_map.proofs.MetTracks.{rates_same}
-use Rattle.laws_machine.specs.OnReads.Scenes.{data_rate, outset_of}
-use Rattle.fdc_core.proofs.drives.Passing.{recorded as recorded_since}
 
 fits_same : (a b : Rate) → rate_fits (data_rate a) b ≡ same_rate b a
 fits_same R500 R500 = refl

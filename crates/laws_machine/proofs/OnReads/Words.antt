@@ -1,8 +1,6 @@
 -- The words of a scene's track, as they are heard.
 use Rattle.std.proofs.Common.{◌≡◌, ℕ, ◌≤◌, Bool, true, false, length}
-use Rattle.fdc_core.proofs.drives.Passing.{hearing_on as hearing_since, hearing_over as over_since, length_heard}
-use Rattle.laws_machine.proofs.Common.{IsDisk, DriveState, Becomes, at_index, Past, heard, stepped, SeesUnder, let_pass, Scene, head_sent, track_met, IsHearing}
-use Rattle.laws_machine.specs.OnReads.Scenes.{outset_of}
+use Rattle.laws_machine.proofs.Common.{IsDisk, DriveState, Becomes, at_index, Past, heard, stepped, SeesUnder, let_pass, Scene, head_sent, track_met, IsHearing, hearing_since, over_since, length_heard, outset_of}
 
 pub length-met : (scene : Scene) → IsDisk scene.disk → length (track_met scene) ≡ scene.disk.words_per_track
 length-met scene valid = length_heard (outset_of scene) valid

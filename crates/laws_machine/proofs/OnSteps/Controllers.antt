@@ -1,11 +1,10 @@
 -- What a poll and transfers leave of the controller.
 use Rattle.std.proofs.Common.{◌≡◌, ℕ, ◌==◌, bit_and, Bool, true, false, List, if◌then◌else◌, refl, ◌∙◌, ap, ◌&&◌, sym, subst}
-use Rattle.laws_machine.proofs.Common.{Fifo, gate, Dor, taken_in, taken_out, to_memory_of, told_count, phase_told, task_told, is_executing, is_overrun, is_read, is_reading, is_gated, polled, Fdc, Phase, Command, Execute, Result, Task, ReadId, Format, moved_to_memory, moved_from_memory, byte_read, told_if, Chips, Transferred, dor_of, asks, is_due, looked, Low, RestsIn, Board, controller_of, Step}
+use Rattle.laws_machine.proofs.Common.{Fifo, gate, Dor, taken_in, taken_out, to_memory_of, told_count, phase_told, task_told, is_executing, is_overrun, is_read, is_reading, is_gated, polled, Fdc, Phase, Command, Execute, Result, Task, ReadId, Format, moved_to_memory, moved_from_memory, byte_read, told_if, Chips, Transferred, dor_of, asks, is_due, looked, Low, RestsIn, Board, controller_of, Step, granted, and_right, false≢true}
 use Rattle.laws_machine.proofs.Facts.{polled_keeps, told_busy, polled_phase}
 use Rattle.fdc_phases.specs.declared.phases.Task.TheVariants.{Read, Write}
-use Rattle.pc_bus.specs.Transfers.{moved, dma_stepped, granted}
+use Rattle.pc_bus.specs.Transfers.{moved, dma_stepped}
 use Rattle.laws_machine.proofs.OnSteps.Transfers.{served, after_step}
-use Rattle.std.proofs.lemmas.Bool.{and_right, false≢true}
 use Rattle.laws_machine.proofs.OnSteps.Words.{controller}
 
 -- ---- a poll

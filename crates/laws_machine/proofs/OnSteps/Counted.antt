@@ -1,7 +1,6 @@
 -- Device steps are counted.
 use Rattle.std.proofs.Common.{◌≡◌, ℕ, ◌+◌, min, refl, ap, arith}
-use Rattle.laws_machine.proofs.Common.{last_count, Board, Acts, Goes, Lasting}
-use Rattle.laws_machine.specs.OnSteps.Ends.{Counts}
+use Rattle.laws_machine.proofs.Common.{last_count, Board, Acts, Goes, Lasting, Counts}
 use Rattle.laws_machine.proofs.OnSteps.Moves.{lasts}
 
 -- no act counts as a device step

@@ -1,16 +1,12 @@
 -- A data command ends in time, whatever is done in the meantime.
 use Rattle.std.proofs.Common.{◌≡◌, ◌⊎◌, inl, inr, ℕ, suc, ◌+◌, ◌-◌, ◌≤◌, ◌==◌, nat_le, min, Bool, true, false, Option, Some, None, List, [], ◌∷◌, ◌++◌, if◌then◌else◌, refl, sym, ◌∙◌, ap, subst, arith}
-use Rattle.std.proofs.lemmas.Bool.{false≢true}
-use Rattle.std.proofs.lemmas.Bool.Decides.{nat_tests}
-use Rattle.laws_machine.proofs.Common.{last_count, sensed, seek_bits, answer, kept, Accepted, More, Ready, Invalid, after_byte, Obeys, TakesAs, sensing_by, answered, taken_out, taken_in, to_memory_of, phase_told, is_executing, dsr_resets, phase_after, is_taking, rate_chosen, reset, polled, RestsIn, Answer, Short, Long, Fdc, Lines, Phase, Board, controller_of, Step, moved_to_memory, moved_from_memory, byte_read, told_if, Chips, Meets, Goes, Lasting, Marching}
+use Rattle.laws_machine.proofs.Common.{last_count, sensed, seek_bits, answer, kept, Accepted, More, Ready, Invalid, after_byte, Obeys, TakesAs, sensing_by, answered, taken_out, taken_in, to_memory_of, phase_told, is_executing, dsr_resets, phase_after, is_taking, rate_chosen, reset, polled, RestsIn, Answer, Short, Long, Fdc, Lines, Phase, Board, controller_of, Step, moved_to_memory, moved_from_memory, byte_read, told_if, Chips, Meets, Goes, Lasting, Marching, false≢true, nat_tests, BeginsData, Begins, ObeysAtRest, Elapses, IsOver}
 use Rattle.fdc_commands.specs.declared.command.Command.{Command}
 use Rattle.fdc_commands.specs.declared.command.Command.TheVariants as command
-use Rattle.fdc_core.specs.Commands.{BeginsData, Begins, ObeysAtRest}
 use Rattle.fdc_core.specs.Ports.{Writes}
 use Rattle.fdc_core.specs.Steps.{steps_left, EndsIn, IsCounted}
 use Rattle.fdc_phases.specs.declared.phases.Phase.TheVariants as phase
 use Rattle.pc_bus.specs.Transfers.{moved}
-use Rattle.laws_machine.specs.OnSteps.Ends.{Elapses, IsOver}
 use Rattle.laws_machine.proofs.OnSteps.Acts.{Touches, at_controller}
 use Rattle.laws_machine.proofs.Facts.{polled_phase}
 use Rattle.laws_machine.proofs.OnSteps.Moves.{lasts, meets_behind}
@@ -101,9 +97,8 @@ keeps_same : (old new : Phase) → new ≡ old → Keeps old new
 keeps_same old new same = let left = ap steps_left same in record { left = omega arith; counted = λ was. subst IsCounted (sym same) was }
 
 keeps_idle : (old new : Phase) → is_executing new ≡ false → Keeps old new
-keeps_idle old phase.Command none = record { left = omega arith; counted = λ was. tt }
-keeps_idle old (phase.Result answer) none = record { left = omega arith; counted = λ was. tt }
 keeps_idle old (phase.Execute execution) none = absurd (false≢true (sym none))
+keeps_idle old _ none = record { left = omega arith; counted = λ was. tt }
 
 same_phase : (old new : Fdc) → new.data_commands ≡ old.data_commands → new.phase ≡ old.phase → Holds old new
 same_phase old new count stays = Holds.Same count (keeps_same old.phase new.phase stays)
@@ -247,9 +242,8 @@ elapses old new n goes =
 
 -- if no step is left, the command is over
 over_of : (p : Phase) → IsCounted p → steps_left p ≡ 0 → is_executing p ≡ false
-over_of phase.Command counted none = refl
-over_of (phase.Result answer) counted none = refl
 over_of (phase.Execute execution) counted none = absurd (omega arith)
+over_of _ counted none = refl
 
 most_left : (p : Phase) → steps_left p ≤ 65536
 most_left phase.Command = omega arith

@@ -1,9 +1,9 @@
 -- The word time of a device step, at both drives. What holds of a drive over a word that passes after a pulse or
 -- without one, over a word that is heard, and over a word time of a command that records.
 use Rattle.std.proofs.Common.{ℕ, ◌/◌, ◌%◌, Bool, Option, None, subst}
-use Rattle.laws_machine.proofs.Common.{Becomes, DriveState, Fifo, let_pass, is_listening, polled, Moves, MovesIn, MovesTask, WordTime, IsTime, WritesIn, WritesTask, Fdc, Phase, Command, Execute, Result, Task, ReadId, Format, DataRate, Board, controller_of, Works, Step}
+use Rattle.laws_machine.proofs.Common.{Becomes, DriveState, Fifo, let_pass, is_listening, polled, Moves, MovesIn, MovesTask, WordTime, IsTime, WritesIn, WritesTask, Fdc, Phase, Execute, Task, ReadId, DataRate, Board, controller_of, Works, Step}
 use Rattle.laws_machine.proofs.Facts.{polled_phase}
-use Rattle.fdc_phases.specs.declared.phases.Task.TheVariants.{Read, Write}
+use Rattle.fdc_phases.specs.declared.phases.Task.TheVariants.{Read}
 use Rattle.laws_machine.proofs.OnSteps.Words.{drives}
 
 module _ (D : DriveState → DriveState → Type 0) (moved : (pulse : Option Bool) (before after : DriveState) → Moves pulse before after → D before after)
@@ -14,17 +14,14 @@ module _ (D : DriveState → DriveState → Type 0) (moved : (pulse : Option Boo
       → WritesTask task head_drive steps asking fifo polls before after new → D before after
   by_task (ReadId search) head_drive steps asking fifo polls before after new moves writes = heard before after moves
   by_task (Read reading) head_drive steps asking fifo polls before after new moves writes = heard before after moves
-  by_task (Write writing) head_drive steps asking fifo polls before after new moves writes =
-      timed writes.step.does.time polls.rate (head_drive / 4 % 2) before after writes.step.does.is
-  by_task (Format formatting) head_drive steps asking fifo polls before after new moves writes =
+  by_task _ head_drive steps asking fifo polls before after new moves writes =
       timed writes.step.does.time polls.rate (head_drive / 4 % 2) before after writes.step.does.is
 
   by_phase : (phase : Phase) (asking : Bool) (fifo : Fifo) (polls : Fdc) (before after : DriveState) (new : Fdc) → MovesIn phase polls before after
       → WritesIn phase asking fifo polls before after new → D before after
-  by_phase Command asking fifo polls before after new moves writes = moved _ before after moves
-  by_phase (Result answer) asking fifo polls before after new moves writes = moved _ before after moves
   by_phase (Execute execution) asking fifo polls before after new moves writes =
       by_task execution.task execution.head_drive execution.steps asking fifo polls before after new moves writes
+  by_phase _ asking fifo polls before after new moves writes = moved _ before after moves
 
   worked : (old : Fdc) (before : DriveState) (new : Fdc) (after : DriveState) → Works old before new after → D before after
   worked old before new after works =

@@ -1,8 +1,6 @@
 -- Every call is a course. What each step and each act carries on holds at the end of every course.
 use Rattle.std.proofs.Common.{◌≡◌, inl, inr, ℕ, suc, ◌+◌, ◌≤◌, Bool, List, sym, ap, subst, arith}
-use Rattle.std.proofs.lemmas.Bool.{cases_lt}
-use Rattle.laws_machine.proofs.Common.{next_entry, Board, Inputs, Outputs, Step, Waits, stirred, regapped, Marching, Meets, read_from, Acts, Goes, Lasting}
-use Rattle.pc_bus.specs.Steps.{Runs, RunsUnset}
+use Rattle.laws_machine.proofs.Common.{next_entry, Board, Inputs, Outputs, Step, Waits, stirred, regapped, Marching, Meets, read_from, Acts, Goes, Lasting, cases_lt, Runs, RunsUnset}
 use Rattle.laws_machine.proofs.OnSteps.Runs.{unset_runs, march_wait, march_gap}
 
 -- the only induction: what is carried on holds at the end of a course

@@ -1,19 +1,15 @@
 -- A seek ends in time, whatever is done in the meantime.
 use Rattle.std.proofs.Common.{◌≡◌, ℕ, zero, suc, ◌+◌, ◌-◌, ◌^◌, ◌≤◌, ◌==◌, ◌&&◌, nat_lt, not, Bool, true, false, Option, Some, None, IsSomeAnd, List, [], ◌∷◌, ◌++◌, if◌then◌else◌, refl, sym, ◌∙◌, ap, subst, arith}
 use Rattle.std.specs.Option.{ForSome, option_map_or}
-use Rattle.std.proofs.lemmas.Bool.{false≢true}
-use Rattle.std.proofs.lemmas.Bool.Decides.{nat_tests}
-use Rattle.laws_machine.proofs.Common.{Seeking, with_polls, is_seeking, sensed, seek_bits, Seek, answer, kept, Accepted, More, Ready, Invalid, Obeys, TakesAs, sensing_by, answered, taken_out, taken_in, to_memory_of, phase_told, is_executing, dsr_resets, phase_after, is_taking, rate_chosen, reset, polled, RestsIn, seek_stepped, Fdc, Lines, Phase, Board, controller_of, Step, moved_to_memory, moved_from_memory, byte_read, told_if, Chips, Meets, Acts, Goes}
-use Rattle.fdc_commands.specs.Seeking.{IsMotion, with_motion, ended, recalibrated, sought, neighbour, stepped, stepped_seek, has_ended, first_pending, without_result, released}
+use Rattle.laws_machine.proofs.Common.{Seeking, with_polls, is_seeking, sensed, seek_bits, Seek, answer, kept, Accepted, More, Ready, Invalid, Obeys, TakesAs, sensing_by, answered, taken_out, taken_in, to_memory_of, phase_told, is_executing, dsr_resets, phase_after, is_taking, rate_chosen, reset, polled, RestsIn, seek_stepped, Fdc, Lines, Phase, Board, controller_of, Step, moved_to_memory, moved_from_memory, byte_read, told_if, Chips, Meets, Acts, Goes, false≢true, nat_tests, IsMotion, with_motion, ended, recalibrated, sought, neighbour, stepped_seek, has_ended, first_pending, without_result, released, IsInRange, motion_left, seek_left, pulses_left, seeks, RunsNoSeek, Recalibrates}
+use Rattle.fdc_commands.specs.Seeking.{stepped}
 use Rattle.fdc_commands.specs.declared.motion.Motion.{Motion}
 use Rattle.fdc_commands.specs.declared.motion.Motion.TheVariants.{Outward, Toward, Ended}
 use Rattle.fdc_commands.specs.declared.command.Command.{Command}
 use Rattle.fdc_commands.specs.declared.command.Command.TheVariants as command
 use Rattle.fdc_core.specs.Ports.{Writes}
 use Rattle.fdc_phases.specs.declared.phases.Phase.TheVariants as phase
-use Rattle.pc_bus.specs.Boards.{IsInRange}
 use Rattle.pc_bus.specs.Transfers.{moved}
-use Rattle.laws_machine.specs.OnSteps.Ends.{motion_left, seek_left, pulses_left, seeks, RunsNoSeek, Recalibrates}
 use Rattle.laws_machine.proofs.OnSteps.Acts.{Touches, at_controller}
 use Rattle.laws_machine.proofs.OnSteps.DataEnds.{idle_answer, port_is, zero_of}
 use Rattle.laws_machine.proofs.OnSteps.Moves.{lasts, meets_act, meets_here, meets_step, meets_within}
@@ -103,9 +99,8 @@ polls_of old = by_poll _
     by_poll false = record { phase_is = refl; seek = refl; runs = refl }
 
 idle_rests : (p : Phase) (track0 : Bool) (polls new : Fdc) → is_executing p ≡ false → RestsIn p track0 polls new → new ≡ seek_stepped track0 polls
-idle_rests phase.Command track0 polls new idle rests = rests
-idle_rests (phase.Result answer) track0 polls new idle rests = rests
 idle_rests (phase.Execute execution) track0 polls new idle rests = absurd (false≢true (sym idle))
+idle_rests _ track0 polls new idle rests = rests
 
 word_has : (old new : Fdc) (track0 : Bool) → is_executing old.phase ≡ false → is_seeking old.seeks ≡ true → RestsIn (polled old).phase track0 (polled old) new → Has (seek_left old.seeks.seek - 1) new
 word_has old new track0 idle runs rests =

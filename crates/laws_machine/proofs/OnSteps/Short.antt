@@ -1,9 +1,8 @@
 -- DMA latencies stay bytes.
 use Rattle.std.proofs.Common.{ℕ, suc, ◌≤◌, Bool, true, false, List, [], ◌∷◌, if◌then◌else◌, sym, ap, subst, arith}
 use Rattle.std.specs.List.{All}
-use Rattle.laws_machine.proofs.Common.{next_entry, rest_of, Holds, AreShort, IsShort, is_due, looked, shown, waited, DmaRequest, Low, High, holds_of, looked_at, shown_again, Chips, Steady}
-use Rattle.dma_8237.specs.Channel.{grants}
-use Rattle.pc_bus.specs.Transfers.{moved_up_to, dma_stepped, granted}
+use Rattle.laws_machine.proofs.Common.{next_entry, rest_of, Holds, AreShort, IsShort, is_due, looked, shown, waited, DmaRequest, Low, High, holds_of, looked_at, shown_again, Chips, Steady, grants, moved_up_to}
+use Rattle.pc_bus.specs.Transfers.{dma_stepped, granted}
 use Rattle.laws_machine.proofs.OnSteps.Stalls.{up_to_holding}
 
 next_short : (entries : List ℕ) → All (λ entry. entry ≤ 255) entries → next_entry entries ≤ 255
@@ -35,8 +34,7 @@ dma_short chips short = by_due (is_due (looked_at chips).holding.request) (grant
 
     by_due : (due granting : Bool) → AreShort (if due then (if granting then shown_again (moved_up_to 16 (looked_at chips)) else looked_at chips) else looked_at chips).holding
     by_due true true = shown_short _ (moved_up_to 16 (looked_at chips)).holding (subst AreShort (sym (up_to_holding 16 (looked_at chips))) look)
-    by_due true false = look
-    by_due false granting = look
+    by_due _ _ = look
 
 pub holds_stay_short : Steady (λ board. AreShort (holds_of board))
 holds_stay_short = record {

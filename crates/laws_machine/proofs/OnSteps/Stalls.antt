@@ -1,9 +1,8 @@
 -- What holds until a late DMA (stall) is counted.
 use Rattle.std.proofs.Common.{◌≡◌, ◌⊎◌, inl, inr, ℕ, nat_lt, Bool, true, false, if◌then◌else◌, refl, sym, ◌∙◌, ap, subst, arith}
-use Rattle.laws_machine.proofs.Common.{to_memory_of, next_entry, Holds, looked, waited, shown, counted, DmaRequest, Low, High, Board, holds_of, RunsGap, Step, moved_to_memory, moved_from_memory, looked_at, Chips, Steady, Stalled, Keeping}
+use Rattle.laws_machine.proofs.Common.{to_memory_of, next_entry, Holds, looked, waited, shown, counted, DmaRequest, Low, High, Board, holds_of, RunsGap, Step, moved_to_memory, moved_from_memory, looked_at, Chips, Steady, Stalled, Keeping, Runs, moved_up_to, dma_stepped}
 use Rattle.laws_machine.proofs.Facts.{if_both, shown_stalls}
-use Rattle.pc_bus.specs.Steps.{Runs}
-use Rattle.pc_bus.specs.Transfers.{moved, moved_up_to, dma_stepped}
+use Rattle.pc_bus.specs.Transfers.{moved}
 use Rattle.laws_machine.specs.OnSteps.Stalls.{Grows, UntilStalled}
 use Rattle.laws_machine.proofs.OnSteps.Runs.{runs, gap}
 use Rattle.laws_machine.proofs.OnSteps.Transfers.{by_request, up_to}

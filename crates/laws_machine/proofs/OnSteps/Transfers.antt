@@ -1,7 +1,6 @@
 -- What transfers keep.
 use Rattle.std.proofs.Common.{◌≡◌, ℕ, zero, suc, Bool, true, false, if◌then◌else◌, refl, sym, ap, subst}
-use Rattle.laws_machine.proofs.Common.{is_due, Board, Step, can_move, looked_at, shown_again, Chips, Transferred, Moving}
-use Rattle.dma_8237.specs.Channel.{grants}
+use Rattle.laws_machine.proofs.Common.{is_due, Board, Step, can_move, looked_at, shown_again, Chips, Transferred, Moving, grants}
 use Rattle.pc_bus.specs.Transfers.{moved, moved_up_to, granted, dma_stepped}
 
 up_to_if : (P : Chips → Type 0) (n : ℕ) (chips : Chips) → P chips → (can : Bool) → (can ≡ true → P (moved_up_to n (moved chips))) → P (if can then moved_up_to n (moved chips) else chips)

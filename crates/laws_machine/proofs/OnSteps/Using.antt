@@ -1,11 +1,8 @@
 -- How many port accesses calls make, as the gaps after them show.
 use Rattle.std.proofs.Common.{◌≡◌, ℕ, zero, suc, ◌+◌, ◌-◌, ◌≤◌, Bool, true, false, List, [], ◌∷◌, length, min, if◌then◌else◌, ◌∙◌, ap, arith}
 use Rattle.flop_base.proofs.Costs.{used_none, used_twice, used_within}
-use Rattle.laws_machine.proofs.Common.{last_count, next_entry, rest_of, Board, RunsGap, Inputs, Outputs, Waits, stirred, irq_taken, regapped, read_from}
-use Rattle.irq_events.specs.Holds.{counted}
-use Rattle.pc_bus.specs.Boards.{latch_of}
-use Rattle.pc_bus.specs.Handling.{Touches, byte_set}
-use Rattle.pc_bus.specs.Steps.{Runs, RunsUnset}
+use Rattle.laws_machine.proofs.Common.{last_count, next_entry, rest_of, Board, RunsGap, Inputs, Outputs, Waits, stirred, irq_taken, regapped, read_from, counted, latch_of, Touches, byte_set, RunsUnset}
+use Rattle.pc_bus.specs.Steps.{Runs}
 use Rattle.laws_machine.specs.OnSteps.Uses.{Uses}
 use Rattle.laws_machine.proofs.OnSteps.Lasting.{runs_gaps, gap_gaps}
 use Rattle.laws_machine.proofs.OnSteps.Runs.{unset_runs}

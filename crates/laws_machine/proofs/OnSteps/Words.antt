@@ -1,7 +1,6 @@
 -- The word time of a device step, at the drive that is selected.
 use Rattle.std.proofs.Common.{◌≡◌, ◌⊎◌, inl, inr, ℕ, zero, suc, ◌≤◌, ◌==◌, false, refl, sym, ◌∙◌, subst, arith}
-use Rattle.std.proofs.lemmas.Bool.Decides.{nat_tests}
-use Rattle.laws_machine.proofs.Common.{DriveState, Board, controller_of, selected_of, drive_in, Works, WorksAlone, Step}
+use Rattle.laws_machine.proofs.Common.{DriveState, Board, controller_of, selected_of, drive_in, Works, WorksAlone, Step, nat_tests}
 use Rattle.fdc_core.specs.Drives.WordTimes.{Passes}
 
 first_second_or_none : (n : ℕ) → (n ≡ 0) ⊎ ((n ≡ 1) ⊎ (2 ≤ n))

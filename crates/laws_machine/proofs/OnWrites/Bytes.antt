@@ -1,11 +1,8 @@
 -- One more byte of the range, and the channel after it.
 use Rattle.std.proofs.Common.{◌≡◌, ℕ, ◌+◌, ◌-◌, ◌%◌, ◌<◌, ◌≤◌, ◌==◌, Bool, true, false, List, [], ◌∷◌, ◌++◌, length, slice_index, take, drop, if◌then◌else◌, refl, sym, ◌∙◌, ap, subst, arith, add-one}
 use Rattle.std.proofs.Math.Seq.{take-suc}
-use Rattle.std.proofs.lemmas.List.{get_or-drop, length-drop}
-use Rattle.std.proofs.lemmas.Bool.{false≢true}
-use Rattle.laws_machine.proofs.Common.{Channel, after_transfer, place_of, byte_read, Scene, IsTaken}
+use Rattle.laws_machine.proofs.Common.{Channel, after_transfer, place_of, byte_read, Scene, IsTaken, get_or-drop, length-drop, false≢true, grants, reads_memory}
 use Rattle.laws_machine.proofs.Facts.{length_more, not_granting, same_grants, set_over, some_of, zero_is}
-use Rattle.dma_8237.specs.Channel.{grants, reads_memory}
 use Rattle.laws_machine.specs.OnWrites.Underway.{IsReadSet}
 
 -- one element more

@@ -1,9 +1,6 @@
 -- What was handed in is from the range.
 use Rattle.std.proofs.Common.{◌≡◌, inl, inr, ℕ, ◌+◌, ◌<◌, ◌≤◌, Bool, false, List, ◌++◌, length, get_or, take, drop, replicate, sym, ◌∙◌, ap, arith, length-append}
-use Rattle.std.proofs.Math.ListN.{get_or-append}
-use Rattle.std.proofs.lemmas.Bool.{false≢true}
-use Rattle.std.proofs.lemmas.List.{ext_get_or, get_or-take, length-take, length-drop, take_all, take-append-drop}
-use Rattle.laws_machine.proofs.Common.{Channel, IsContent, Scene, IsScene, IsTaken, range_of}
+use Rattle.laws_machine.proofs.Common.{Channel, IsContent, Scene, IsScene, IsTaken, range_of, get_or-append, false≢true, ext_get_or, get_or-take, length-take, length-drop, take_all, take-append-drop}
 
 module _ (scene : Scene) (taken : List ℕ) (counted : Bool) (memory : List ℕ) (channel : Channel) (whole : IsScene scene) (was : IsTaken scene taken counted memory channel) where
   abbrev rest_of_memory : List ℕ

@@ -1,9 +1,8 @@
 -- NW comes of a protected medium alone.
 use Rattle.std.proofs.Common.{inl, inr, ◌≡◌, ℕ, ◌+◌, Bool, true, false, Option, refl, sym, ◌∙◌, ap}
-use Rattle.std.proofs.lemmas.Bool.{false≢true}
-use Rattle.laws_machine.proofs.Common.{DriveState, is_protected, Ending, Protected, WriteNext, phase_after, WordTime, Saw, KeptOut, Wrote, Stopped, WriteDoes, after_next, Fdc, Phase, Writing, refuses, refuses_as}
+use Rattle.laws_machine.proofs.Common.{DriveState, is_protected, Ending, Protected, WriteNext, phase_after, WordTime, Saw, KeptOut, Wrote, Stopped, WriteDoes, after_next, Fdc, Phase, Writing, refuses, refuses_as, false≢true, IsFailure}
 use Rattle.laws_machine.proofs.Facts.{either_is, given_down}
-use Rattle.fdc_stages.specs.Writings.{IsEnd, IsFailure, FailsWell, EndsWell}
+use Rattle.fdc_stages.specs.Writings.{IsEnd, FailsWell, EndsWell}
 use Rattle.fdc_stages.specs.declared.writing.WriteNext.TheVariants as next
 use Rattle.fdc_core.specs.Writing.{Stops}
 

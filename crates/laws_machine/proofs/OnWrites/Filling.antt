@@ -1,10 +1,7 @@
 -- What transfers leave of a command that takes bytes from memory.
 use Rattle.std.proofs.Common.{◌≡◌, ℕ, ◌≤◌, ◌<◌, ◌==◌, Bool, true, false, List, [], ◌∷◌, ◌++◌, length, if◌then◌else◌, refl, sym, ◌∙◌, ap, subst, arith, length-append}
-use Rattle.std.proofs.lemmas.Bool.{false≢true}
-use Rattle.std.proofs.lemmas.Bool.Decides.{nat_tests}
-use Rattle.laws_machine.proofs.Common.{Channel, after_transfer, Fifo, room_of, asking_told, fifo_told, taken_in, told_count, with_byte, phase_asks, phase_told, task_asks, task_told, is_moving, is_read, is_reading, asks, PhaseWaits, phase_counted, task_counted, Phase, Command, Execute, Result, Task, ReadId, Format, Holds, byte_read, moved_from_memory, moved_to_memory, told_if, Chips, fills, fills_task, IsFilling}
+use Rattle.laws_machine.proofs.Common.{Channel, after_transfer, Fifo, room_of, asking_told, fifo_told, taken_in, told_count, with_byte, phase_asks, phase_told, task_asks, task_told, is_moving, is_read, is_reading, asks, PhaseWaits, phase_counted, task_counted, Phase, Command, Execute, Result, Task, ReadId, Format, Holds, byte_read, moved_from_memory, moved_to_memory, told_if, Chips, fills, fills_task, IsFilling, false≢true, nat_tests, grants}
 use Rattle.laws_machine.proofs.Facts.{same_grants}
-use Rattle.dma_8237.specs.Channel.{grants}
 use Rattle.fdc_phases.specs.Waiting.{TaskWaits}
 use Rattle.fdc_phases.specs.declared.phases.Task.TheVariants.{Read, Write}
 use Rattle.fdc_core.proofs.Feeding.{in_waits, told_waits, low_waits}
@@ -20,15 +17,12 @@ ruled_by phase asking now fifo rule = rule ∙ (sym (phase_again phase asking fi
 -- ---- phases
 
 not_read : (task : Task) → fills_task task ≡ true → is_read task ≡ false
-not_read (ReadId search) is = refl
 not_read (Read reading) is = absurd (false≢true is)
-not_read (Write writing) is = refl
-not_read (Format formatting) is = refl
+not_read _ is = refl
 
 pub not_reading : (phase : Phase) → fills phase ≡ true → is_reading phase ≡ false
-not_reading Command is = refl
-not_reading (Result answer) is = refl
 not_reading (Execute execution) is = not_read execution.task is
+not_reading _ is = refl
 
 -- the command after the terminal count
 told_fills : (phase : Phase) → fills (phase_told phase) ≡ fills phase
@@ -69,13 +63,11 @@ told_low (Execute execution) asking fifo is = in_task execution.task is
 counted_task : (slack : ℕ) (task : Task) (fifo : Fifo) → fills_task task ≡ true → task_counted task ≡ true → TaskWaits slack task fifo
 counted_task slack (ReadId search) fifo is counted = tt
 counted_task slack (Read reading) fifo is counted = absurd (false≢true is)
-counted_task slack (Write writing) fifo is counted = λ uncounted. absurd (false≢true (sym uncounted ∙ counted))
-counted_task slack (Format formatting) fifo is counted = λ uncounted. absurd (false≢true (sym uncounted ∙ counted))
+counted_task slack _ fifo is counted = λ uncounted. absurd (false≢true (sym uncounted ∙ counted))
 
 pub counted_waits : (slack : ℕ) (phase : Phase) (fifo : Fifo) → fills phase ≡ true → phase_counted phase ≡ true → PhaseWaits slack phase fifo
-counted_waits slack Command fifo is counted = tt
-counted_waits slack (Result answer) fifo is counted = tt
 counted_waits slack (Execute execution) fifo is counted = counted_task slack execution.task fifo is counted
+counted_waits slack _ fifo is counted = tt
 
 -- ---- a byte
 

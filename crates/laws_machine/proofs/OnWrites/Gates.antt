@@ -1,15 +1,12 @@
 -- The write gates, step by step.
 use Rattle.std.proofs.Common.{◌≡◌, ◌⊎◌, inl, inr, ℕ, ◌+◌, ◌<◌, ◌/◌, ◌%◌, ◌&&◌, not, Bool, true, false, Option, Some, None, if◌then◌else◌, refl, sym, ◌∙◌, ap, subst}
-use Rattle.std.proofs.lemmas.Bool.{and_parts, false≢true}
-use Rattle.laws_machine.proofs.Common.{Becomes, DriveState, Writes, at_speed, can_write, rewritten, Fifo, FormatNext, WriteNext, FormatDoes, after_laid, is_listening, let_pass, polled, Moves, MovesIn, MovesTask, WordTime, Saw, KeptOut, Wrote, Stopped, IsTime, Closes, WritesIn, WritesTask, WriteDoes, after_next, is_ended, Fdc, Phase, Command, Execute, Result, Task, ReadId, Format, DataRate, Formatting, Writing, Board, controller_of, selected_of, Works, Step, Marching}
+use Rattle.laws_machine.proofs.Common.{Becomes, DriveState, Writes, at_speed, can_write, rewritten, Fifo, FormatNext, WriteNext, FormatDoes, after_laid, is_listening, let_pass, polled, Moves, MovesIn, MovesTask, WordTime, Saw, KeptOut, Wrote, Stopped, IsTime, Closes, WritesIn, WritesTask, WriteDoes, after_next, is_ended, Fdc, Phase, Execute, Task, Format, DataRate, Formatting, Writing, Board, controller_of, selected_of, Works, Step, Marching, and_parts, false≢true, GatesDrives, HoldsGates, IsGated, IsGateOf, IsGivenIn, MakesTask, MakesTime, PassesClosed, is_recording, closes_same, opens_same}
 use Rattle.laws_machine.proofs.Facts.{polled_phase}
 use Rattle.fdc_stages.specs.declared.formatting.FormatNext.TheVariants as format_next
 use Rattle.fdc_stages.specs.declared.writing.WriteNext.TheVariants as write_next
 use Rattle.fdc_phases.specs.Formatting as laying
-use Rattle.fdc_phases.specs.declared.phases.Task.TheVariants.{Read, Write}
-use Rattle.laws_machine.specs.OnWrites.Guards.{GatesDrives, HoldsGates, IsGated, IsGateOf, IsGivenIn, MakesTask, MakesTime, PassesClosed, is_recording}
+use Rattle.fdc_phases.specs.declared.phases.Task.TheVariants.{Write}
 use Rattle.laws_machine.proofs.OnQuiet.Steps.{listens_told}
-use Rattle.fdc_core.proofs.drives.WritingWords.{closes_same, opens_same}
 use Rattle.laws_machine.proofs.OnWrites.Guards.{moves_same, step_leaves}
 use Rattle.laws_machine.proofs.OnSteps.Controllers.{dma_controller}
 use Rattle.laws_machine.proofs.OnSteps.Words.{bays}
@@ -115,8 +112,6 @@ recording (inr given) = inr (refl, given)
 by_task : (task : Task) (head_drive steps : ℕ) (asking : Bool) (fifo : Fifo) (polls : Fdc) (before after : DriveState) (new : Fdc) → MovesTask (is_listening task) before after
     → WritesTask task head_drive steps asking fifo polls before after new
     → IsWorked (not (is_listening task)) (λ time. MakesTask task head_drive steps time polls before new) before after new
-by_task (ReadId search) head_drive steps asking fifo polls before after new moves writes = worked_closed false _ before after new (heard_closed before after moves)
-by_task (Read reading) head_drive steps asking fifo polls before after new moves writes = worked_closed false _ before after new (heard_closed before after moves)
 by_task (Write writing) head_drive steps asking fifo polls before after new moves writes =
     let does = writes.step.does in record {
       time = recording (time_gates (λ time. WriteDoes time head_drive steps writing polls before new) does.time polls.rate (head_drive / 4 % 2) before after does.is does.does);
@@ -127,13 +122,13 @@ by_task (Format formatting) head_drive steps asking fifo polls before after new 
       time = recording (time_gates (λ time. FormatDoes time head_drive steps formatting polls before new) does.time polls.rate (head_drive / 4 % 2) before after does.is does.does);
       goes_on = format_goes does.time polls.rate (head_drive / 4 % 2) head_drive steps formatting polls before after new does.is does.does;
     }
+by_task _ head_drive steps asking fifo polls before after new moves writes = worked_closed false _ before after new (heard_closed before after moves)
 
 by_phase : (phase : Phase) (asking : Bool) (fifo : Fifo) (polls : Fdc) (before after : DriveState) (new : Fdc) → MovesIn phase polls before after
     → WritesIn phase asking fifo polls before after new → IsWorked (is_recording phase) (λ time. MakesTime phase time polls before new) before after new
-by_phase Command asking fifo polls before after new moves writes = worked_closed false _ before after new (moves_closed _ before after moves)
-by_phase (Result answer) asking fifo polls before after new moves writes = worked_closed false _ before after new (moves_closed _ before after moves)
 by_phase (Execute execution) asking fifo polls before after new moves writes =
     by_task execution.task execution.head_drive execution.steps asking fifo polls before after new moves writes
+by_phase _ asking fifo polls before after new moves writes = worked_closed false _ before after new (moves_closed _ before after moves)
 
 works_gate : (old : Fdc) (before : DriveState) (new : Fdc) (after : DriveState) → Works old before new after
     → IsWorked (is_recording old.phase) (λ time. MakesTime old.phase time (polled old) before new) before after new

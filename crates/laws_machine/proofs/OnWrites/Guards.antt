@@ -1,10 +1,8 @@
 -- A device step writes one word at most.
 use Rattle.std.proofs.Common.{◌≡◌, inl, inr, ℕ, ◌%◌, ◌==◌, ◌&&◌, not, Bool, true, false, Option, Some, None, if◌then◌else◌, refl, sym, ◌∙◌, ap, subst}
-use Rattle.std.proofs.lemmas.Bool.{false≢true}
-use Rattle.laws_machine.proofs.Common.{Disk, DriveState, Writes, can_write, has_track, is_protected, rewritten, dor_of, Moves, WordTime, Saw, KeptOut, Wrote, Stopped, IsTime, Opens, Closes, DataRate, Board, controller_of, drive_in, selected_of, Step, LeavesOthers, Steady, Progress}
+use Rattle.laws_machine.proofs.Common.{Disk, DriveState, Writes, can_write, has_track, is_protected, rewritten, dor_of, Moves, WordTime, Saw, KeptOut, Wrote, Stopped, IsTime, DataRate, Board, controller_of, drive_in, selected_of, Step, LeavesOthers, Steady, Progress, false≢true, closes_same, opens_same, GuardsMedia}
 use Rattle.raw_image.specs.Disk.{with_word}
-use Rattle.fdc_core.proofs.drives.WritingWords.{closes_same, opens_same}
-use Rattle.laws_machine.specs.OnWrites.Guards.{IsGuarded, GuardsMedia}
+use Rattle.laws_machine.specs.OnWrites.Guards.{IsGuarded}
 use Rattle.laws_machine.proofs.OnSteps.Words.{controller, first_passes, second_passes}
 use Rattle.laws_machine.proofs.OnSteps.Controllers.{dma_dor}
 use Rattle.laws_machine.proofs.OnSteps.Drives.{both}

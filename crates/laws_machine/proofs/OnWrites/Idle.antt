@@ -1,7 +1,6 @@
 -- Device steps of an idle machine.
 use Rattle.std.proofs.Common.{◌≡◌, false, refl, sym, ◌∙◌, ap, subst}
-use Rattle.std.proofs.lemmas.Bool.{false≢true}
-use Rattle.laws_machine.proofs.Common.{DriveState, is_executing, polled, MovesIn, Fdc, Phase, Command, Execute, Result, Board, controller_of, Works, Step, IsIdle, StaysIdle, Steady}
+use Rattle.laws_machine.proofs.Common.{DriveState, is_executing, polled, MovesIn, Fdc, Phase, Execute, Board, controller_of, Works, Step, IsIdle, StaysIdle, Steady, false≢true}
 use Rattle.laws_machine.proofs.Facts.{polled_phase}
 use Rattle.laws_machine.proofs.OnWrites.Guards.{moves_same}
 use Rattle.laws_machine.proofs.OnSteps.Words.{drives}
@@ -11,9 +10,8 @@ use Rattle.laws_machine.proofs.OnSteps.Controllers.{idle_dma}
 -- ---- the word time
 
 idle_moves : (phase : Phase) (polls : Fdc) (before after : DriveState) → is_executing phase ≡ false → MovesIn phase polls before after → after.medium ≡ before.medium
-idle_moves Command polls before after idle moves = moves_same _ before after moves
-idle_moves (Result answer) polls before after idle moves = moves_same _ before after moves
 idle_moves (Execute execution) polls before after idle moves = absurd (false≢true (sym idle))
+idle_moves _ polls before after idle moves = moves_same _ before after moves
 
 idle_medium : (old new : Fdc) (before after : DriveState) → is_executing old.phase ≡ false → Works old before new after → after.medium ≡ before.medium
 idle_medium old new before after idle works = idle_moves old.phase (polled old) before after idle (subst (λ phase. MovesIn phase (polled old) before after) (polled_phase old) works.drive)

@@ -1,9 +1,6 @@
 -- Port accesses of an idle machine.
 use Rattle.std.proofs.Common.{◌≡◌, ℕ, ◌%◌, ◌==◌, Bool, true, false, if◌then◌else◌, refl, ◌∙◌, ap, arith}
-use Rattle.laws_machine.proofs.Common.{is_executing, given, Seeking, Low, Board, selected_of, Inputs, Outputs, is_controllers, shown_again, Chips, write_leaves, LeavesOthers, HasNoSeek, IsIdle, StaysStill, StaysIdle, read_from}
-use Rattle.dma_8237.specs.Channel.{after_read}
-use Rattle.fdc_core.specs.Ports.{after_read as controller_after}
-use Rattle.laws_machine.specs.OnWrites.Heads.{RestsIdle}
+use Rattle.laws_machine.proofs.Common.{is_executing, given, Seeking, Low, Board, selected_of, Inputs, Outputs, is_controllers, shown_again, Chips, write_leaves, LeavesOthers, HasNoSeek, IsIdle, StaysStill, StaysIdle, read_from, after_read, controller_after, RestsIdle}
 use Rattle.laws_machine.proofs.OnWrites.Guards.{leaving}
 use Rattle.laws_machine.proofs.OnSteps.Runs.{from_start, gap}
 use Rattle.laws_machine.proofs.OnWrites.Idle.{idling, idle_none}

@@ -1,15 +1,10 @@
 -- A command that takes bytes from memory, on time through device steps.
 use Rattle.std.proofs.Common.{◌≡◌, ◌⊎◌, inl, inr, ℕ, ◌+◌, ◌-◌, ◌%◌, ◌≤◌, ◌==◌, Bool, true, false, length, if◌then◌else◌, refl, sym, ◌∙◌, ap, subst, arith}
-use Rattle.std.proofs.lemmas.Bool.{false≢true}
-use Rattle.std.proofs.lemmas.List.{length-drop}
-use Rattle.laws_machine.proofs.Common.{Rose, DriveState, Fifo, emptied, room_of, FormatNext, WriteNext, begun, WaitsAtFirst, asked, FormatDoes, after_laid, is_executing, is_overrun, is_reading, asks, is_gated, polled, WordTime, Saw, KeptOut, Wrote, Stopped, PhaseWaits, phase_counted, WritesIn, WritesTask, WriteDoes, after_next, without_byte, Fdc, Phase, Command, Execute, Result, Task, ReadId, Format, Formatting, Writing, IsInTime, IsReady, looked, DmaRequest, Low, in_time, IsRuled, Stalled, drive_in, Board, selected_of, Works, Step, can_move, looked_at, shown_again, Chips, fills, fills_task, IsFilling, IsFedInTime, IsOnTime, Keeping, Stalled}
-use Rattle.dma_8237.specs.Channel.{grants}
+use Rattle.laws_machine.proofs.Common.{Rose, DriveState, Fifo, emptied, room_of, FormatNext, WriteNext, begun, WaitsAtFirst, asked, FormatDoes, after_laid, is_executing, is_overrun, is_reading, asks, is_gated, polled, WordTime, Saw, KeptOut, Wrote, Stopped, PhaseWaits, phase_counted, WritesIn, WritesTask, WriteDoes, after_next, without_byte, Fdc, Phase, Execute, Task, Format, Formatting, Writing, IsInTime, IsReady, looked, DmaRequest, Low, in_time, IsRuled, Stalled, drive_in, Board, selected_of, Works, Step, can_move, looked_at, shown_again, Chips, fills, fills_task, IsFilling, IsFedInTime, IsOnTime, Keeping, false≢true, length-drop, grants, moved_up_to, dma_stepped, IsPunctualWrite}
 use Rattle.fdc_stages.specs.declared.formatting.FormatNext.TheVariants as format_next
 use Rattle.fdc_stages.specs.declared.writing.WriteNext.TheVariants as write_next
 use Rattle.fdc_core.specs.Waiting.{Lasts, LastsIn}
-use Rattle.fdc_phases.specs.declared.phases.Task.TheVariants.{Read, Write}
-use Rattle.pc_bus.specs.Transfers.{moved_up_to, dma_stepped}
-use Rattle.laws_machine.specs.OnWrites.Timely.{IsPunctualWrite}
+use Rattle.fdc_phases.specs.declared.phases.Task.TheVariants.{Write}
 use Rattle.laws_machine.proofs.OnWrites.Filling.{counted_waits, filling_held, filling_low, filling_moved, not_reading, ruled_by}
 use Rattle.laws_machine.proofs.OnWrites.Guards.{step_leaves}
 use Rattle.laws_machine.proofs.OnSteps.Words.{some_drive}
@@ -62,15 +57,13 @@ format_fills Stopped head_drive steps formatting old before new does = over_fill
 
 task_fills : (task : Task) (head_drive steps : ℕ) (asking : Bool) (fifo : Fifo) (polls : Fdc) (before after : DriveState) (new : Fdc) → fills_task task ≡ true
     → WritesTask task head_drive steps asking fifo polls before after new → GoesOnFilling polls.fifo new
-task_fills (ReadId search) head_drive steps asking fifo polls before after new is writes = absurd (false≢true is)
-task_fills (Read reading) head_drive steps asking fifo polls before after new is writes = absurd (false≢true is)
 task_fills (Write writing) head_drive steps asking fifo polls before after new is writes = write_fills writes.step.does.time head_drive steps writing polls before new writes.step.does.does
 task_fills (Format formatting) head_drive steps asking fifo polls before after new is writes = format_fills writes.step.does.time head_drive steps formatting polls before new writes.step.does.does
+task_fills _ head_drive steps asking fifo polls before after new is writes = absurd (false≢true is)
 
 phase_fills : (phase : Phase) (asking : Bool) (fifo : Fifo) (polls : Fdc) (before after : DriveState) (new : Fdc) → fills phase ≡ true → WritesIn phase asking fifo polls before after new → GoesOnFilling polls.fifo new
-phase_fills Command asking fifo polls before after new is writes = absurd (false≢true is)
-phase_fills (Result answer) asking fifo polls before after new is writes = absurd (false≢true is)
 phase_fills (Execute execution) asking fifo polls before after new is writes = task_fills execution.task execution.head_drive execution.steps asking fifo polls before after new is writes
+phase_fills _ asking fifo polls before after new is writes = absurd (false≢true is)
 
 -- ---- the request
 
@@ -143,9 +136,8 @@ behind before slack chips was less ready false is true line_is =
 -- ---- the device step
 
 lasts_in : (phase : Phase) (old new : Fdc) (slack : ℕ) → is_executing phase ≡ true → LastsIn phase old new → PhaseWaits (slack + 1) phase old.fifo → Lasts slack old new
-lasts_in Command old new slack busy lasts waits = absurd (false≢true busy)
-lasts_in (Result answer) old new slack busy lasts waits = absurd (false≢true busy)
 lasts_in (Execute execution) old new slack busy lasts waits = lasts slack waits
+lasts_in _ old new slack busy lasts waits = absurd (false≢true busy)
 
 -- the slack of the step
 pub record HasSlack (request : DmaRequest) (old : Fdc) : Type 0 where

@@ -1,10 +1,6 @@
 -- From the words that were written to the medium.
 use Rattle.std.proofs.Common.{true, false, ◌≡◌, ◌⊎◌, inl, inr, ℕ, ◌+◌, ◌*◌, ◌≤◌, Bool, List, [], ◌∷◌, ◌++◌, Some, length, get_or, take, drop, refl, sym, ◌∙◌, ap, subst, arith, length-append}
-use Rattle.std.proofs.Math.ListN.{get_or-append}
-use Rattle.std.proofs.lemmas.Bool.{false≢true}
-use Rattle.std.proofs.lemmas.List.{append-nil, ext_get_or, get_or-take, length-take}
-use Rattle.laws_machine.proofs.Common.{Disk, HasTrack, IsWithTrack, track_of, Chrn, IsAddressAt, content_size, HasAddressMark, length-track_of, Channel, DriveState, Fifo, Past, IsTurnIn, IsAmong, HasNoClear, Ending, Done, NoMark, NoSector, NoField, BadCheck, Overrun, NoCount, Protected, Late, IsFirstOf, IsWhole, IsWriting, WriteStage, Results, is_overrun, IsContent, MayWriteIn, MayWriteTask, Short, Long, Phase, Command, Execute, Result, Task, content_of, start_of, IsHeard, AreHeard, IsHeardFrom, IsCalm, Scene, IsScene, head_sent, track_met, IsAtWindow, IsTaken, range_of, refuses, refuses_as}
-use Rattle.flop_base.specs.Lists.{with_items}
+use Rattle.laws_machine.proofs.Common.{Disk, HasTrack, IsWithTrack, track_of, Chrn, IsAddressAt, content_size, HasAddressMark, length-track_of, Channel, DriveState, Fifo, Past, IsTurnIn, IsAmong, HasNoClear, Ending, Done, NoMark, NoSector, NoField, BadCheck, Overrun, NoCount, Protected, Late, IsFirstOf, IsWhole, IsWriting, WriteStage, Results, is_overrun, IsContent, MayWriteIn, MayWriteTask, Short, Long, Phase, Command, Execute, Result, Task, content_of, start_of, IsHeard, AreHeard, IsHeardFrom, IsCalm, Scene, IsScene, head_sent, track_met, IsAtWindow, IsTaken, range_of, refuses, refuses_as, get_or-append, false≢true, append-nil, ext_get_or, get_or-take, length-take, with_items, IsMissed, HasBegun, HasNoWindow, HasWritten, overran, address_heard, mark_heard, ChangesTo, ChangesWhole, WriteEndedIn, WriteEndsAs, HasChanged, IsUnchanged, WritesWell, window_in, written_in, heard_met, outset_of, between_is}
 use Rattle.track_model.specs.Windows.{IsCuttable, cut_of, window_word}
 use Rattle.track_model.specs.Writing.{window}
 use Rattle.track_model.proofs.Frames.{same_address_at}
@@ -12,18 +8,10 @@ use Rattle.track_model.proofs.Splices.{same_before}
 use Rattle.track_model.proofs.Written.{length-window}
 use Rattle.sector_map.specs.Changes.{Change, IsChange}
 use Rattle.fdc_stages.specs.Windows.{words_behind}
-use Rattle.fdc_stages.specs.Searches.{IsMissed}
-use Rattle.fdc_stages.specs.Writings.{HasBegun, HasNoWindow, HasWritten}
 use Rattle.fdc_stages.specs.declared.writing.WriteStage.TheVariants as stage
-use Rattle.fdc_phases.specs.Phases.{overran}
 use Rattle.fdc_phases.specs.declared.phases.Task.TheVariants.{Write}
-use Rattle.fdc_core.proofs.drives.Fields.{address_heard, mark_heard}
 use Rattle.laws_machine.proofs.OnReads.Words.{length-met}
-use Rattle.laws_machine.specs.OnWrites.Results.{ChangesTo, ChangesWhole, WriteEndedIn, WriteEndsAs, HasChanged, IsUnchanged, WritesWell, window_in, written_in}
 use Rattle.laws_machine.proofs.OnWrites.Content.{handed_all, handed_rest, not_all}
-use Rattle.fdc_core.proofs.drives.WritingWords.{heard_met}
-use Rattle.laws_machine.specs.OnReads.Scenes.{outset_of}
-use Rattle.fdc_core.proofs.drives.Turns.{between_is}
 
 -- ---- the words
 
@@ -56,8 +44,6 @@ begun_of scene deleted past memory channel handed whole taken size content (inr 
 stage_of : (scene : Scene) (deleted : Bool) (past : Past) (memory : List ℕ) (channel : Channel) (handed : List ℕ) → IsScene scene → IsTaken scene past.taken past.counted memory channel
     → scene.size ≡ content_size scene.sent.key.n → IsContent past.counted past.taken handed → (now : WriteStage) → IsWriting past scene.sent.key deleted handed now
     → (past.words ≡ []) ⊎ IsOfWindow scene deleted past
-stage_of scene deleted past memory channel handed whole taken size content (stage.Search searching) was = inl was.1.1.0
-stage_of scene deleted past memory channel handed whole taken size content (stage.Gap left) was = inl was.1.1.0
 stage_of scene deleted past memory channel handed whole taken size content (stage.Window window) (at, ((p, within), some)) =
     let bytes = within.bytes in
     let rest = drop (length handed) (range_of scene) in
@@ -69,6 +55,7 @@ stage_of scene deleted past memory channel handed whole taken size content (stag
       some = some;
       first = first_of_range scene deleted past.words handed rest all (words_behind (Some window) rest, sym (within.goes_on rest (omega arith)));
     })
+stage_of scene deleted past memory channel handed whole taken size content _ was = inl was.1.1.0
 
 -- what the command has written, whatever its phase is
 pub words_of : (scene : Scene) (deleted : Bool) (past : Past) (memory : List ℕ) (channel : Channel) → IsScene scene → IsTaken scene past.taken past.counted memory channel
@@ -262,23 +249,19 @@ module _ (scene : Scene) (deleted executes : Bool) (past : Past) (drive : DriveS
   ends handed content Late covered has = late_ends has.cause
 
   pub ended : (phase : Phase) (asking : Bool) (fifo : Fifo) → (refuses phase ≡ true → scene.disk.protected ≡ true) → MayWriteIn past scene.sent deleted phase asking fifo → WriteEndedIn scene deleted drive phase
-  ended Command asking fifo covered may = tt
-  ended (Execute execution) asking fifo covered may = tt
-  ended (Result (Short next last)) asking fifo covered may = tt
   ended (Result (Long ending results taken)) asking fifo covered (low, are, (handed, has)) = (are, ends handed has.content ending covered has.written)
+  ended _ asking fifo covered may = tt
 
 -- if nothing disturbed the write, the whole window stands wherever it is inside the track
 pub well : (scene : Scene) (deleted : Bool) (drive : DriveState) (ending : Ending) → IsCalm scene.faults drive.faults → overran ending ≡ false → WriteEndsAs scene deleted drive ending → WritesWell scene deleted drive
 well scene deleted drive (Done marked) calm on_time says = inr (says.changed, λ inside. says.whole calm)
-well scene deleted drive NoMark calm on_time says = inl says.0
-well scene deleted drive NoSector calm on_time says = inl says.0
 well scene deleted drive NoField calm on_time (inl same, out) = inl same
 well scene deleted drive NoField calm on_time (inr short, out) = inr (short.changed, λ inside. absurd (short.out inside))
 well scene deleted drive Overrun calm on_time says = absurd (false≢true (sym on_time))
-well scene deleted drive Protected calm on_time says = inl says.0
 well scene deleted drive BadCheck calm on_time says = absurd says
 well scene deleted drive NoCount calm on_time says = absurd says
 well scene deleted drive Late calm on_time says = absurd says
+well scene deleted drive _ calm on_time says = inl says.0
 
 pub ended_well : (scene : Scene) (deleted : Bool) (drive : DriveState) (phase : Phase) (ending : Ending) (results : Results) (read : ℕ) → phase ≡ Result (Long ending results read)
     → IsCalm scene.faults drive.faults → is_overrun phase ≡ false → WriteEndedIn scene deleted drive phase → WritesWell scene deleted drive

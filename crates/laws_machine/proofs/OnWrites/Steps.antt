@@ -1,29 +1,19 @@
 -- The word time of a write.
 use Rattle.std.proofs.Common.{◌≡◌, ◌⊎◌, inl, inr, ℕ, zero, suc, ◌+◌, ◌/◌, ◌%◌, ◌≤◌, Bool, true, false, List, [], ◌∷◌, ◌++◌, length, refl, sym, ◌∙◌, ap, subst, arith, length-append}
-use Rattle.std.proofs.lemmas.Bool.{false≢true}
-use Rattle.laws_machine.proofs.Common.{Chrn, DriveState, is_protected, rate_of, Fifo, Past, heard, wrote, turns_after, IsWriting, WriteNext, WriteStage, IsAddressAt, with_word, Sent, stepped, is_executing, rate_fits, WordTime, Saw, KeptOut, Wrote, Stopped, IsTime, after_time, WritesTask, WriteDoes, after_next, is_ended, MayWriteIn, MayWriteTask, Fdc, Phase, Command, Execute, Result, Task, Writing, led, Scene, IsRecorded, IsScene, head_sent, IsAtDrive, IsAtWindow, Window}
-use Rattle.fdc_stages.specs.Searches.{HasTurned}
-use Rattle.fdc_stages.specs.Writings.{is_due, opens, IsAtStage}
+use Rattle.laws_machine.proofs.Common.{Chrn, DriveState, is_protected, rate_of, Fifo, Past, heard, wrote, turns_after, IsWriting, WriteNext, WriteStage, IsAddressAt, with_word, Sent, stepped, is_executing, rate_fits, WordTime, Saw, KeptOut, Wrote, Stopped, IsTime, after_time, WritesTask, WriteDoes, after_next, is_ended, MayWriteIn, MayWriteTask, Fdc, Phase, Command, Execute, Result, Task, Writing, led, Scene, IsRecorded, IsScene, head_sent, IsAtDrive, IsAtWindow, Window, false≢true, HasTurned, opens, IsAtStage, MayWrite, IsWritingOn, address_in, few_led, saw_on, wrote_on, stopped_on, still_unprotected, heard_met, outset_of}
+use Rattle.fdc_stages.specs.Writings.{is_due}
 use Rattle.fdc_stages.specs.declared.writing.WriteNext.TheVariants as next
 use Rattle.fdc_stages.specs.declared.writing.WriteStage.TheVariants as stage
-use Rattle.fdc_core.specs.Written.{MayWrite}
-use Rattle.fdc_phases.specs.Written.{IsWritingOn}
 use Rattle.fdc_phases.specs.declared.phases.Task.TheVariants.{Write}
-use Rattle.fdc_core.proofs.drives.LateFields.{address_in}
-use Rattle.fdc_core.proofs.drives.Late.{few_led}
 use Rattle.laws_machine.proofs.OnWrites.Covered.{does_covered}
-use Rattle.fdc_core.proofs.drives.Writing.{saw_on, wrote_on, stopped_on, still_unprotected}
-use Rattle.fdc_core.proofs.drives.WritingWords.{heard_met}
-use Rattle.laws_machine.specs.OnReads.Scenes.{outset_of}
 use Rattle.laws_machine.proofs.OnOrders.Behind.{IsTimedLed}
 
 -- ---- stages
 
 -- there are no words, or the gate is open
 due_words : (past : Past) (key : Chrn) (deleted : Bool) (handed : List ℕ) (now : WriteStage) → IsWriting past key deleted handed now → is_due now ≡ false → past.words ≡ []
-due_words past key deleted handed (stage.Search searching) was due = was.1.1.0
-due_words past key deleted handed (stage.Gap left) was due = was.1.1.0
 due_words past key deleted handed (stage.Window window) was due = absurd (false≢true (sym due))
+due_words past key deleted handed _ was due = was.1.1.0
 
 -- if a word is due, it is the first one or some were written, and an address field was heard
 pub record IsDueNow (past : Past) (key : Chrn) (now : WriteStage) : Type 0 where
@@ -33,18 +23,15 @@ pub record IsDueNow (past : Past) (key : Chrn) (now : WriteStage) : Type 0 where
   pub later : opens now ≡ false → 1 ≤ length past.words
 
 pub due_now : (past : Past) (key : Chrn) (deleted : Bool) (handed : List ℕ) (now : WriteStage) → IsWriting past key deleted handed now → is_due now ≡ true → IsDueNow past key now
-due_now past key deleted handed (stage.Search searching) was due = absurd (false≢true due)
 due_now past key deleted handed (stage.Gap zero) (place, ((p, before), unwritten)) due =
     record { place = p; address = before.address; first = λ _. unwritten.0; later = λ no. absurd (false≢true (sym no)) }
-due_now past key deleted handed (stage.Gap (suc left)) was due = absurd (false≢true due)
 due_now past key deleted handed (stage.Window window) (place, ((p, inside), some)) due =
     record { place = p; address = inside.address; first = λ no. absurd (false≢true no); later = λ _. some }
+due_now past key deleted handed _ was due = absurd (false≢true due)
 
 pub opens_due : (now : WriteStage) → opens now ≡ true → is_due now ≡ true
-opens_due (stage.Search searching) opening = absurd (false≢true opening)
 opens_due (stage.Gap zero) opening = refl
-opens_due (stage.Gap (suc left)) opening = absurd (false≢true opening)
-opens_due (stage.Window window) opening = absurd (false≢true opening)
+opens_due _ opening = absurd (false≢true opening)
 
 -- at most one index has passed, or words were heard after the last index
 few_turned : (turned : Bool) (turns : List (List ℕ)) → HasTurned turned turns → length turns ≤ 1

@@ -1,10 +1,7 @@
 -- Device steps with no seek.
 use Rattle.std.proofs.Common.{◌≡◌, ℕ, zero, suc, ◌^◌, ◌%◌, ◌≤◌, ◌==◌, ◌&&◌, nat_le, Bool, true, Option, Some, None, is_some, refl, ◌∙◌, ap, subst, arith}
-use Rattle.std.proofs.lemmas.Bool.{and_from, and_parts}
-use Rattle.std.proofs.lemmas.Bool.Decides.{nat_tests}
-use Rattle.laws_machine.proofs.Common.{spends_twice, DriveState, turns, Fifo, Seeking, pulse_due, seek_bits, Seek, ExecutesIn, polled, Moves, MovesIn, RestsIn, WritesIn, Fdc, Phase, Command, Execute, Result, drive_in, Board, controller_of, selected_of, Works, Step, TurnsOn, Steady, HasNoSeek, StaysStill}
+use Rattle.laws_machine.proofs.Common.{spends_twice, DriveState, turns, Fifo, Seeking, pulse_due, seek_bits, Seek, ExecutesIn, polled, Moves, MovesIn, RestsIn, WritesIn, Fdc, Phase, Execute, drive_in, Board, controller_of, selected_of, Works, Step, TurnsOn, Steady, HasNoSeek, StaysStill, and_from, and_parts, nat_tests, IsStill}
 use Rattle.laws_machine.proofs.Facts.{polled_phase}
-use Rattle.laws_machine.specs.OnWrites.Heads.{IsStill}
 use Rattle.laws_machine.proofs.OnAwaits.Turning.{on_calm, on_still}
 use Rattle.laws_machine.proofs.OnAwaits.Words.{word_leaves}
 use Rattle.laws_machine.proofs.OnQuiet.Listening.{pulse_none, stepped_none}
@@ -62,15 +59,12 @@ at_rest track0 polls before after none moves = on_calm before after (subst (λ p
 
 still_phase : (phase : Phase) (asking : Bool) (fifo : Fifo) (index : Bool) (word : ℕ) (polls : Fdc) (before after : DriveState) (new : Fdc) → polls.seeks.seek ≡ None → MovesIn phase polls before after
     → WritesIn phase asking fifo polls before after new → ExecutesIn phase index word polls new → RestsIn phase (before.cylinder == 0) polls new → IsStillStep before after polls new
-still_phase Command asking fifo index word polls before after new none moves writes executes rests =
-    with_seeks before after polls new (at_rest (before.cylinder == 0) polls before after none moves)
-    (ap (λ fdc. fdc.seeks) rests ∙ stepped_none polls.seeks (before.cylinder == 0) none)
-still_phase (Result answer) asking fifo index word polls before after new none moves writes executes rests =
-    with_seeks before after polls new (at_rest (before.cylinder == 0) polls before after none moves)
-    (ap (λ fdc. fdc.seeks) rests ∙ stepped_none polls.seeks (before.cylinder == 0) none)
 still_phase (Execute execution) asking fifo index word polls before after new none moves writes executes rests =
     let leaves = word_leaves (Execute execution) asking fifo index word polls before after new refl moves writes executes in
     with_seeks before after polls new leaves.drive leaves.controller.seeks
+still_phase _ asking fifo index word polls before after new none moves writes executes rests =
+    with_seeks before after polls new (at_rest (before.cylinder == 0) polls before after none moves)
+    (ap (λ fdc. fdc.seeks) rests ∙ stepped_none polls.seeks (before.cylinder == 0) none)
 
 still_works : (old : Fdc) (before : DriveState) (new : Fdc) (after : DriveState) → old.seeks.seek ≡ None → Works old before new after → IsStillStep before after old new
 still_works old before new after none works =

@@ -1,14 +1,6 @@
 -- A data command from its beginning to the interrupt at its end.
 use Rattle.std.specs.Prelude.{◌≡◌, ◌≤◌, ◌%◌, ℕ, Bool, true, false, [], None, is_some}
-use Rattle.flop_base.specs.Counts.{Spends}
-use Rattle.drive_model.specs.Drive.{DriveState}
-use Rattle.fdc_phases.specs.Answers.{is_fresh}
-use Rattle.fdc_core.specs.Listening.{is_executing}
-use Rattle.fdc_core.specs.State.{dor_of, is_gated}
-use Rattle.fdc_core.specs.declared.controller.Fdc.{Fdc}
-use Rattle.fdc_phases.specs.declared.phases.Phase.{Phase}
-use Rattle.fdc_phases.specs.declared.phases.Phase.TheVariants.{Result}
-use Rattle.pc_bus.specs.Boards.{Board, controller_of, latch_of}
+use Rattle.laws_machine.specs.Common.{Spends, DriveState, is_fresh, is_executing, dor_of, is_gated, Fdc, Phase, Result, Board, controller_of, latch_of}
 use Rattle.laws_machine.specs.OnQuiet.Quiet.{IsHushed}
 
 -- heads, change line and motor stay; the medium stays in and loses no speed, whatever is written on it; no fault is

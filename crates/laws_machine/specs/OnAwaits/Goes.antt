@@ -1,11 +1,6 @@
 -- A data command, from its beginning until its end is reported.
 use Rattle.std.specs.Prelude.{◌≡◌, ◌⊎◌, ◌≤◌, ◌+◌, ℕ, min, true}
-use Rattle.flop_base.specs.Counts.{last_count}
-use Rattle.fdc_core.specs.State.{data_commands_of}
-use Rattle.irq_events.specs.Holds.{AreShort, counted}
-use Rattle.irq_events.specs.declared.holding.DmaRequest.TheVariants.{Low}
-use Rattle.pc_bus.specs.Boards.{Board, controller_of, holds_of}
-use Rattle.pc_bus.specs.Counts.{long_holds}
+use Rattle.laws_machine.specs.Common.{last_count, data_commands_of, AreShort, counted, Low, Board, controller_of, holds_of, long_holds}
 use Rattle.laws_machine.specs.OnQuiet.Quiet.{GoesQuietly, IsHushed}
 use Rattle.laws_machine.specs.OnReads.Ends.{ReadPrompt, ReadSoon}
 use Rattle.laws_machine.specs.OnReads.Scenes.{Scene}

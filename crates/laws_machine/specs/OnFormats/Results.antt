@@ -1,23 +1,10 @@
 -- What the results of a FORMAT TRACK say of the medium.
 use Rattle.std.specs.Prelude.{◌≡◌, ◌⊎◌, ℕ, ◌≤◌, true, false, Some, List, length, take}
 use Rattle.std.specs.List.{flat_map}
-use Rattle.flop_base.specs.declared.key.Chrn.{Chrn}
-use Rattle.raw_image.specs.Disk.{Disk, IsWithTrack, track_of}
+use Rattle.laws_machine.specs.Common.{Chrn, Disk, IsWithTrack, track_of, Laying, DriveState, Ending, Done, NoMark, NoField, Overrun, Protected, Numbers, results_of, rate_fits, Long, Phase, Result, IsCalm, Board, controller_of, memory_of, drive_in}
 use Rattle.track_model.specs.Layouts.{Fits, lay}
 use Rattle.flop_base.specs.Lists.{with_items}
 use Rattle.track_format.specs.Keys.{key_bytes}
-use Rattle.sector_map.specs.Layings.{Laying}
-use Rattle.drive_model.specs.Drive.{DriveState}
-use Rattle.fdc_stages.specs.declared.ending.Ending.{Ending}
-use Rattle.fdc_stages.specs.declared.ending.Ending.TheVariants.{Done, NoMark, NoField, Overrun, Protected}
-use Rattle.fdc_stages.specs.Formats.{Numbers}
-use Rattle.fdc_phases.specs.Answers.{results_of}
-use Rattle.fdc_phases.specs.Rates.{rate_fits}
-use Rattle.fdc_phases.specs.declared.answers.Answer.TheVariants.{Long}
-use Rattle.fdc_phases.specs.declared.phases.Phase.{Phase}
-use Rattle.fdc_phases.specs.declared.phases.Phase.TheVariants.{Result}
-use Rattle.fdc_core.specs.Drives.Hearing.{IsCalm}
-use Rattle.pc_bus.specs.Boards.{Board, controller_of, memory_of, drive_in}
 use Rattle.laws_machine.specs.OnReads.Scenes.{Scene, head_sent}
 use Rattle.laws_machine.specs.OnWrites.Results.{IsUnchanged}
 use Rattle.laws_machine.specs.OnWrites.Underway.{range_of}

@@ -1,10 +1,8 @@
 -- A data command, whatever the speed of its drive was when the command began: words 0000 pass until the medium is at
 -- speed.
 use Rattle.std.specs.Prelude.{◌≡◌, ◌⊎◌, ℕ, ◌≤◌, Bool, false}
-use Rattle.drive_model.specs.Drive.{DriveState}
-use Rattle.fdc_stages.specs.History.{Past}
+use Rattle.laws_machine.specs.Common.{DriveState, Past, Board}
 use Rattle.fdc_core.specs.Drives.Spinning.{IsUnheard, led, IsTurningIn as IsTurningSince, IsSpinning as IsSpinningSince}
-use Rattle.pc_bus.specs.Boards.{Board}
 use Rattle.laws_machine.specs.OnReads.Scenes.{Scene, outset_of}
 use Rattle.laws_machine.specs.OnOrders.Orders.{Order, Write, AtDrive, IsUnderwayOn, CanBeginAt}
 

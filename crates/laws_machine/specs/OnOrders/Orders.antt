@@ -1,19 +1,7 @@
 -- A data command between two device steps.
 use Rattle.std.specs.Prelude.{◌≡◌, ℕ, ◌+◌, ◌==◌, Bool, true, false, List}
-use Rattle.drive_model.specs.Drive.{DriveState}
-use Rattle.dma_8237.specs.Channel.{Channel, after_write}
-use Rattle.fdc_registers.specs.Fifo.{Fifo}
-use Rattle.fdc_stages.specs.History.{Past}
-use Rattle.fdc_stages.specs.Formats.{Numbers}
-use Rattle.fdc_phases.specs.Heard.{MayReadIn, MayReadIdIn}
-use Rattle.fdc_core.specs.Listening.{is_executing}
-use Rattle.fdc_core.specs.State.{dor_of}
+use Rattle.laws_machine.specs.Common.{DriveState, Channel, after_write, Fifo, Past, Numbers, MayReadIn, MayReadIdIn, is_executing, dor_of, Fdc, Phase, Board, controller_of, channel_of, memory_of, drive_in, is_controllers, Chips}
 use Rattle.fdc_phases.specs.Written.{MayWriteIn, MayFormatIn}
-use Rattle.fdc_core.specs.declared.controller.Fdc.{Fdc}
-use Rattle.fdc_phases.specs.declared.phases.Phase.{Phase}
-use Rattle.pc_bus.specs.Boards.{Board, controller_of, channel_of, memory_of, drive_in}
-use Rattle.pc_bus.specs.Ports.{is_controllers}
-use Rattle.pc_bus.specs.declared.chips.Chips.{Chips}
 use Rattle.laws_machine.specs.OnReads.Begins.{IsDriveOf}
 use Rattle.laws_machine.specs.OnReads.Begins as read_begins
 use Rattle.laws_machine.specs.OnReads.Ids.{IsLastOfId}

@@ -1,10 +1,7 @@
 -- What a READ DATA does to memory, whatever the drive is: absent, empty, spinning up, or another one.
 use Rattle.std.specs.Prelude.{◌≡◌, ◌≤◌, ◌+◌, ℕ, true, length}
-use Rattle.fdc_stages.specs.History.{Past}
+use Rattle.laws_machine.specs.Common.{Past, is_executing, Board, controller_of, memory_of, channel_of, Chips}
 use Rattle.fdc_core.specs.Heard.{MayRead}
-use Rattle.fdc_core.specs.Listening.{is_executing}
-use Rattle.pc_bus.specs.Boards.{Board, controller_of, memory_of, channel_of}
-use Rattle.pc_bus.specs.declared.chips.Chips.{Chips}
 use Rattle.laws_machine.specs.OnReads.Begins.{IsLastByte}
 use Rattle.laws_machine.specs.OnReads.Scenes.{Scene}
 use Rattle.laws_machine.specs.OnReads.Underway.{IsMoved, IsSet}

@@ -1,8 +1,6 @@
 -- What the results of a command that writes say.
 use Rattle.std.specs.Prelude.{◌≡◌, ◌*◌, List}
-use Rattle.flop_base.specs.declared.key.Chrn.{Chrn}
-use Rattle.track_model.specs.Fields.{content_size}
-use Rattle.pc_bus.specs.Boards.{Board}
+use Rattle.laws_machine.specs.Common.{Chrn, content_size, Board}
 use Rattle.laws_machine.specs.OnReads.Scenes.{Scene}
 use Rattle.laws_machine.specs.OnWrites.Results.{WriteEnded, WritesOnly}
 use Rattle.laws_machine.specs.OnFormats.Results.{FormatEnded, FormatsOnly, AreKeysOf}

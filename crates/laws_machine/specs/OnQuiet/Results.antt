@@ -1,10 +1,7 @@
 -- The result bytes of a data command, read one by one.
 use Rattle.std.specs.Prelude.{◌≡◌, ℕ, List, [], ◌∷◌}
 use Rattle.fdc_commands.specs.Results.{result_bytes}
-use Rattle.fdc_commands.specs.declared.results.Results.{Results}
-use Rattle.fdc_phases.specs.declared.phases.Phase.TheVariants.{Command}
-use Rattle.pc_bus.specs.Boards.{Board}
-use Rattle.pc_bus.specs.Ports.{Inputs}
+use Rattle.laws_machine.specs.Common.{Results, Command, Board, Inputs}
 use Rattle.laws_machine.specs.OnQuiet.Settings.{Setting, Stands}
 
 -- the data port was read once for each of these bytes, one read after the other, and gave them

@@ -1,14 +1,6 @@
 -- The machine between two data commands: what port accesses set, and what stays.
 use Rattle.std.specs.Prelude.{◌≡◌, ℕ, ◌==◌, ◌++◌, [], ◌∷◌, false, List, if◌then◌else◌}
-use Rattle.dma_8237.specs.Channel.{Channel, after_write, after_read}
-use Rattle.fdc_core.specs.Listening.{is_executing}
-use Rattle.fdc_core.specs.Ports.{phase_after}
-use Rattle.fdc_phases.specs.Rates.{rate_chosen}
-use Rattle.fdc_phases.specs.declared.phases.Phase.{Phase}
-use Rattle.fdc_phases.specs.declared.rates.DataRate.{DataRate}
-use Rattle.pc_bus.specs.Boards.{Board, controller_of, channel_of}
-use Rattle.pc_bus.specs.Ports.{is_controllers}
-use Rattle.pc_bus.specs.declared.chips.Chips.{Chips}
+use Rattle.laws_machine.specs.Common.{Channel, after_write, after_read, is_executing, phase_after, rate_chosen, Phase, DataRate, Board, controller_of, channel_of, is_controllers, Chips}
 use Rattle.laws_machine.specs.OnQuiet.Quiet.{HoldsOn, HaveTurned, IsHushed}
 
 -- what the accesses set: the phase, the bytes of the command that has begun, the rate, and the channel

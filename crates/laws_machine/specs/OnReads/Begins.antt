@@ -1,17 +1,6 @@
 -- How a READ DATA begins.
 use Rattle.std.specs.Prelude.{◌≡◌, ℕ, ◌%◌, ◌<◌, ◌≤◌, true, false, Some, [], ◌∷◌, ◌++◌}
-use Rattle.raw_image.specs.Disk.{Disk, IsDisk}
-use Rattle.drive_model.specs.Drive.{DriveState}
-use Rattle.fdc_commands.specs.Table.{answer}
-use Rattle.fdc_commands.specs.declared.bytes.Accepted.TheVariants.{Ready}
-use Rattle.fdc_commands.specs.declared.command.Command.TheVariants.{ReadData}
-use Rattle.fdc_commands.specs.Seeking.{seek_bits}
-use Rattle.fdc_phases.specs.Heard.{Sent}
-use Rattle.fdc_core.specs.Ports.{is_taking}
-use Rattle.fdc_core.specs.State.{dor_of, is_held}
-use Rattle.fdc_core.specs.declared.controller.Fdc.{Fdc}
-use Rattle.fdc_phases.specs.declared.phases.Phase.TheVariants.{Command}
-use Rattle.pc_bus.specs.Boards.{Board, controller_of, memory_of, drive_in}
+use Rattle.laws_machine.specs.Common.{Disk, IsDisk, DriveState, answer, Ready, ReadData, seek_bits, Sent, is_taking, dor_of, is_held, Fdc, Command, Board, controller_of, memory_of, drive_in}
 use Rattle.laws_machine.specs.OnQuiet.Settings.{Setting}
 use Rattle.laws_machine.specs.OnReads.Scenes.{Scene}
 use Rattle.laws_machine.specs.OnReads.Underway.{IsSet}

@@ -2,25 +2,13 @@
 use Rattle.std.specs.Prelude.{◌≡◌, ℕ, ◌+◌, ◌*◌, ◌≤◌, ◌==◌, ◌&&◌, not, bit_and, Bool, true, false, [], length}
 use Rattle.fdc_registers.specs.St1 as st1
 use Rattle.fdc_registers.specs.St2 as st2
-use Rattle.fdc_commands.specs.declared.results.Results.{Results}
-use Rattle.fdc_core.specs.Listening.{is_executing}
-use Rattle.fdc_phases.specs.Phases.{is_over}
-use Rattle.fdc_core.specs.State.{is_gated}
-use Rattle.fdc_phases.specs.Waiting.{phase_counted}
-use Rattle.fdc_phases.specs.declared.phases.Phase.{Phase}
-use Rattle.fdc_phases.specs.declared.phases.Phase.TheVariants.{Execute}
-use Rattle.fdc_phases.specs.declared.phases.Task.{Task}
-use Rattle.fdc_phases.specs.declared.phases.Task.TheVariants.{Read}
-use Rattle.irq_events.specs.Holds.{AreShort, IsShort}
+use Rattle.laws_machine.specs.Common.{Results, is_executing, is_over, is_gated, phase_counted, Phase, Execute, Task, Read, AreShort, IsShort, Low, High, Board, holds_of, Chips}
 use Rattle.irq_events.specs.declared.holding.DmaRequest.{DmaRequest}
-use Rattle.irq_events.specs.declared.holding.DmaRequest.TheVariants.{Low, High}
 use Rattle.laws_machine.specs.OnReads.Scenes.{Scene}
 use Rattle.laws_machine.specs.OnReads.Served.{IsRuled}
 use Rattle.laws_machine.specs.OnReads.Timely.{ReadInTime}
 use Rattle.laws_machine.specs.OnOrders.Orders as order
 pub use Rattle.laws_machine.specs.OnReads.Late.{ends_late, answers_late, is_late}
-use Rattle.pc_bus.specs.Boards.{Board, holds_of}
-use Rattle.pc_bus.specs.declared.chips.Chips.{Chips}
 
 -- the results report MA, and not MD
 abbrev pub tells_no_mark : Results → Bool

@@ -1,28 +1,9 @@
 -- READ ID on the machine: how it begins, and what its results say.
 use Rattle.std.specs.Prelude.{◌≡◌, ℕ, true, false, None, [], ◌∷◌, ◌++◌}
-use Rattle.flop_base.specs.declared.key.Chrn.{Chrn}
-use Rattle.raw_image.specs.Disk.{Disk}
-use Rattle.track_model.specs.Fields.{IsAddressAt}
-use Rattle.track_model.specs.Looks.{HasAddressMark}
-use Rattle.fdc_commands.specs.Table.{answer}
-use Rattle.fdc_commands.specs.declared.bytes.Accepted.TheVariants.{Ready}
-use Rattle.fdc_commands.specs.declared.command.Command.TheVariants.{ReadId}
-use Rattle.fdc_commands.specs.Seeking.{seek_bits}
-use Rattle.fdc_stages.specs.Searches.{HasNoClear}
-use Rattle.fdc_stages.specs.declared.ending.Ending.{Ending}
-use Rattle.fdc_stages.specs.declared.ending.Ending.TheVariants.{Done, NoMark, NoSector}
-use Rattle.fdc_phases.specs.Answers.{results_of, no_key}
-use Rattle.fdc_phases.specs.Heard.{Sent, key_met}
-use Rattle.fdc_core.specs.Ports.{is_taking}
-use Rattle.fdc_phases.specs.declared.answers.Answer.TheVariants.{Long}
-use Rattle.fdc_core.specs.declared.controller.Fdc.{Fdc}
-use Rattle.fdc_phases.specs.declared.phases.Phase.{Phase}
-use Rattle.fdc_phases.specs.declared.phases.Phase.TheVariants.{Command, Result}
-use Rattle.pc_bus.specs.Boards.{Board, controller_of, drive_in}
+use Rattle.laws_machine.specs.Common.{Chrn, Disk, IsAddressAt, HasAddressMark, answer, Ready, ReadId, seek_bits, HasNoClear, Ending, Done, NoMark, NoSector, results_of, no_key, Sent, key_met, is_taking, Long, Fdc, Phase, Command, Result, Board, controller_of, drive_in, IsCalm}
 use Rattle.laws_machine.specs.OnQuiet.Settings.{Setting}
 use Rattle.laws_machine.specs.OnReads.Begins.{scene_of}
 use Rattle.laws_machine.specs.OnReads.Scenes.{Scene, track_met}
-use Rattle.fdc_core.specs.Drives.Hearing.{IsCalm}
 
 -- ---- how it begins
 

@@ -1,11 +1,6 @@
 -- Results that report that a data command took all its steps.
 use Rattle.std.specs.Prelude.{Bool, true, false}
-use Rattle.fdc_stages.specs.declared.ending.Ending.{Ending}
-use Rattle.fdc_stages.specs.declared.ending.Ending.TheVariants.{Late}
-use Rattle.fdc_phases.specs.declared.answers.Answer.{Answer}
-use Rattle.fdc_phases.specs.declared.answers.Answer.TheVariants.{Long}
-use Rattle.fdc_phases.specs.declared.phases.Phase.{Phase}
-use Rattle.fdc_phases.specs.declared.phases.Phase.TheVariants.{Result}
+use Rattle.laws_machine.specs.Common.{Ending, Late, Answer, Long, Phase, Result}
 
 -- the ending is MA because all steps were taken
 abbrev pub ends_late : Ending → Bool

@@ -1,20 +1,9 @@
 -- What the results of a READ DATA say of the track under the head.
 use Rattle.std.specs.Prelude.{◌≡◌, ◌⊎◌, ℕ, ◌+◌, ◌<◌, ◌≤◌, Bool, Some, List, length, slice_index}
 use Rattle.track_model.specs.declared.Look.TheVariants.{Found, NoData, BadCrc}
-use Rattle.track_model.specs.Fields.{IsAddressAt, IsDataMark, IsWhole}
-use Rattle.track_model.specs.Looks.{HasAddressMark, LookAt}
+use Rattle.laws_machine.specs.Common.{IsAddressAt, IsDataMark, IsWhole, HasAddressMark, LookAt, HasLook, results_sent, Long, Phase, Result, HasNoClear, Ending, Done, NoMark, NoSector, NoField, BadCheck, NoCount, Protected, Board, controller_of, memory_of, drive_in, IsCalm}
 use Rattle.track_model.specs.Sectors.{IsLone}
-use Rattle.sector_map.specs.Met.{HasLook}
-use Rattle.fdc_phases.specs.Heard.{results_sent}
-use Rattle.fdc_phases.specs.declared.answers.Answer.TheVariants.{Long}
-use Rattle.fdc_phases.specs.declared.phases.Phase.{Phase}
-use Rattle.fdc_phases.specs.declared.phases.Phase.TheVariants.{Result}
-use Rattle.fdc_stages.specs.Searches.{HasNoClear}
-use Rattle.fdc_stages.specs.declared.ending.Ending.{Ending}
-use Rattle.fdc_stages.specs.declared.ending.Ending.TheVariants.{Done, NoMark, NoSector, NoField, BadCheck, NoCount, Protected}
-use Rattle.pc_bus.specs.Boards.{Board, controller_of, memory_of, drive_in}
 use Rattle.laws_machine.specs.OnReads.Scenes.{Scene, track_met}
-use Rattle.fdc_core.specs.Drives.Hearing.{IsCalm}
 use Rattle.laws_machine.specs.OnReads.Underway.{HasBytes}
 
 -- a field of the key with this mark and content is on the track, and the content is in memory. If the drive had no

@@ -1,14 +1,6 @@
 -- A READ DATA whose requests are granted in time.
 use Rattle.std.specs.Prelude.{◌≡◌, ℕ, ◌-◌, true, false, length}
-use Rattle.dma_8237.specs.Channel.{grants}
-use Rattle.fdc_phases.specs.Dma.{phase_asks}
-use Rattle.fdc_core.specs.Listening.{is_executing}
-use Rattle.fdc_phases.specs.Phases.{is_overrun}
-use Rattle.fdc_core.specs.State.{is_gated}
-use Rattle.fdc_core.specs.declared.controller.Fdc.{Fdc}
-use Rattle.irq_events.specs.Holds.{IsReady}
-use Rattle.pc_bus.specs.Boards.{Board}
-use Rattle.pc_bus.specs.declared.chips.Chips.{Chips}
+use Rattle.laws_machine.specs.Common.{grants, phase_asks, is_executing, is_overrun, is_gated, Fdc, IsReady, Board, Chips}
 use Rattle.laws_machine.specs.OnReads.Scenes.{Scene}
 pub use Rattle.laws_machine.specs.OnSteps.Stalls.{Stalled}
 use Rattle.laws_machine.specs.OnOrders.Orders.{Read, Underway}

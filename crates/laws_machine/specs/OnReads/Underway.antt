@@ -1,9 +1,6 @@
 -- What a command that listens heard, and the bytes that a READ DATA gave.
 use Rattle.std.specs.Prelude.{◌≡◌, ◌⊎◌, ℕ, ◌+◌, ◌<◌, ◌≤◌, Bool, true, false, List, length, slice_index}
-use Rattle.drive_model.specs.Drive.{DriveState}
-use Rattle.dma_8237.specs.Channel.{Channel, grants, writes_memory, place_of}
-use Rattle.fdc_stages.specs.History.{Past}
-use Rattle.fdc_core.specs.Drives.Hearing.{IsHearing as IsHearingSince}
+use Rattle.laws_machine.specs.Common.{DriveState, Channel, grants, writes_memory, place_of, Past, IsHearingSince}
 use Rattle.laws_machine.specs.OnReads.Scenes.{Scene, outset_of}
 
 -- ---- the words

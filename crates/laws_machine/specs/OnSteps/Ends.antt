@@ -1,14 +1,9 @@
 -- How long a command lasts, whatever is done in the meantime.
 use Rattle.std.specs.Prelude.{◌≡◌, ◌⊎◌, ◌≤◌, ◌+◌, ◌-◌, ℕ, min, false, true, Option, Some, None, IsSomeAnd}
-use Rattle.flop_base.specs.Counts.{last_count, Rose, RoseBy}
-use Rattle.fdc_commands.specs.Seeking.{is_seeking}
+use Rattle.laws_machine.specs.Common.{last_count, Rose, RoseBy, is_seeking, is_executing, data_commands_of, steps_left, IsCounted, Board, controller_of}
 use Rattle.fdc_commands.specs.declared.motion.Motion.{Motion}
 use Rattle.fdc_commands.specs.declared.motion.Motion.TheVariants.{Outward, Toward, Ended}
 use Rattle.fdc_commands.specs.declared.motion.Seek.{Seek}
-use Rattle.fdc_core.specs.Listening.{is_executing}
-use Rattle.fdc_core.specs.State.{data_commands_of}
-use Rattle.fdc_core.specs.Steps.{steps_left, IsCounted}
-use Rattle.pc_bus.specs.Boards.{Board, controller_of}
 use Rattle.laws_machine.specs.OnSteps.Moves.{Goes}
 
 -- a course of `n` device steps passes a board for which P holds, after at most `most` of them

@@ -1,6 +1,6 @@
 -- How long calls last, besides the gaps after port accesses, which are used up.
 use Rattle.std.specs.Prelude.{◌≤◌, ◌+◌, ℕ, List, [], ◌∷◌}
-use Rattle.pc_bus.specs.Boards.{Board}
+use Rattle.laws_machine.specs.Common.{Board}
 use Rattle.laws_machine.specs.OnSteps.Moves.{Goes}
 
 -- the device steps of these gaps

@@ -1,10 +1,7 @@
 -- Whatever is done with a machine: device steps, port accesses, waits, takes of the latch, and calls past the
 -- controller.
 use Rattle.std.specs.Prelude.{ℕ, zero, suc, Bool, false, List}
-use Rattle.pc_bus.specs.Boards.{Board}
-use Rattle.pc_bus.specs.Handling.{Touches, byte_set, irq_taken}
-use Rattle.pc_bus.specs.Ports.{port_read, WritesPort}
-use Rattle.pc_bus.specs.Steps.{Step}
+use Rattle.laws_machine.specs.Common.{Board, Touches, byte_set, irq_taken, port_read, WritesPort, Step}
 use Rattle.laws_machine.specs.OnSteps.Steady.{regapped}
 
 -- a port was read, and its gap is still to come

@@ -1,8 +1,6 @@
 -- Late DMAs (stalls), which are counted when a request waited too long.
 use Rattle.std.specs.Prelude.{◌⊎◌, ℕ, ◌≤◌, min, Bool, List}
-use Rattle.flop_base.specs.Counts.{last_count, Rose}
-use Rattle.pc_bus.specs.Boards.{Board, holds_of}
-use Rattle.pc_bus.specs.Steps.{Step}
+use Rattle.laws_machine.specs.Common.{last_count, Rose, Board, holds_of, Step}
 use Rattle.laws_machine.specs.OnSteps.Steady.{regapped}
 
 -- a late DMA was counted

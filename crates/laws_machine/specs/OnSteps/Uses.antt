@@ -1,7 +1,6 @@
 -- How many port accesses calls make. The gaps after them show it, since each access uses one up, while there are any.
 use Rattle.std.specs.Prelude.{◌-◌, ℕ, length}
-use Rattle.flop_base.specs.Counts.{RoseBy}
-use Rattle.pc_bus.specs.Boards.{Board}
+use Rattle.laws_machine.specs.Common.{RoseBy, Board}
 
 -- at most `most` gaps are used up, and one more for each interrupt that is taken
 abbrev pub Uses : ℕ → Board → Board → Type 0

@@ -1,7 +1,6 @@
 -- The drive of a command that writes, between two device steps.
 use Rattle.std.specs.Prelude.{ℕ, Bool}
-use Rattle.drive_model.specs.Drive.{DriveState}
-use Rattle.fdc_stages.specs.History.{Past}
+use Rattle.laws_machine.specs.Common.{DriveState, Past}
 use Rattle.fdc_core.specs.Drives.Writing.{IsAtDrive as IsAtDriveSince, IsAtWindow as IsAtWindowSince, IsThere as IsThereSince, start_in as start_since}
 use Rattle.laws_machine.specs.OnReads.Scenes.{Scene, outset_of}
 

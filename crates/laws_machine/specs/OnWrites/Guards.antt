@@ -1,18 +1,9 @@
 -- What any device step may do to the media.
 use Rattle.std.specs.Prelude.{◌≡◌, ◌⊎◌, ◌==◌, ℕ, Bool, true, false, not, Option, Some}
-use Rattle.raw_image.specs.Disk.{Disk, with_word}
-use Rattle.drive_model.specs.Drive.{DriveState, Becomes, Writes}
-use Rattle.fdc_core.specs.State.{dor_of}
+use Rattle.laws_machine.specs.Common.{Disk, with_word, DriveState, Becomes, Writes, dor_of, Moves, let_pass, polled, Fdc, Phase, Execute, Task, Write, Format, Board, controller_of, selected_of}
 use Rattle.fdc_core.specs.Formatting.{FormatDoes}
-use Rattle.fdc_core.specs.Steps.{Moves, let_pass, polled}
 use Rattle.fdc_core.specs.Times.{WordTime, Wrote, Opens, Closes}
 use Rattle.fdc_core.specs.Writing.{WriteDoes}
-use Rattle.fdc_core.specs.declared.controller.Fdc.{Fdc}
-use Rattle.fdc_phases.specs.declared.phases.Phase.{Phase}
-use Rattle.fdc_phases.specs.declared.phases.Phase.TheVariants.{Execute}
-use Rattle.fdc_phases.specs.declared.phases.Task.{Task}
-use Rattle.fdc_phases.specs.declared.phases.Task.TheVariants.{Write, Format}
-use Rattle.pc_bus.specs.Boards.{Board, controller_of, selected_of}
 use Rattle.laws_machine.specs.OnQuiet.Quiet.{only_listens}
 
 -- one word of an unprotected medium was replaced

@@ -1,23 +1,8 @@
 -- What the results of a WRITE DATA or WRITE DELETED say of the medium.
 use Rattle.std.specs.Prelude.{◌≡◌, ◌⊎◌, ℕ, ◌+◌, ◌≤◌, Bool, true, false, Some, List, length}
-use Rattle.flop_base.specs.declared.key.Chrn.{Chrn}
-use Rattle.raw_image.specs.Disk.{Disk, HasTrack, IsWithTrack, track_of}
-use Rattle.track_model.specs.Fields.{IsAddressAt}
-use Rattle.track_model.specs.Looks.{HasAddressMark}
+use Rattle.laws_machine.specs.Common.{Chrn, Disk, HasTrack, IsWithTrack, track_of, IsAddressAt, HasAddressMark, DriveState, HasNoClear, Ending, Done, NoMark, NoSector, NoField, Overrun, Protected, results_sent, rate_fits, Long, Phase, Result, Change, Written, IsCalm, Board, controller_of, memory_of, drive_in}
 use Rattle.track_model.specs.Windows.{IsCuttable, cut_of, window_word, window_words}
 use Rattle.track_model.specs.Writing.{window}
-use Rattle.drive_model.specs.Drive.{DriveState}
-use Rattle.fdc_stages.specs.Searches.{HasNoClear}
-use Rattle.fdc_stages.specs.declared.ending.Ending.{Ending}
-use Rattle.fdc_stages.specs.declared.ending.Ending.TheVariants.{Done, NoMark, NoSector, NoField, Overrun, Protected}
-use Rattle.fdc_phases.specs.Heard.{results_sent}
-use Rattle.fdc_phases.specs.Rates.{rate_fits}
-use Rattle.fdc_phases.specs.declared.answers.Answer.TheVariants.{Long}
-use Rattle.fdc_phases.specs.declared.phases.Phase.{Phase}
-use Rattle.fdc_phases.specs.declared.phases.Phase.TheVariants.{Result}
-use Rattle.sector_map.specs.Changes.{Change, Written}
-use Rattle.fdc_core.specs.Drives.Hearing.{IsCalm}
-use Rattle.pc_bus.specs.Boards.{Board, controller_of, memory_of, drive_in}
 use Rattle.laws_machine.specs.OnReads.Scenes.{Scene, head_sent, track_met}
 use Rattle.laws_machine.specs.OnWrites.Underway.{range_of}
 

@@ -1,12 +1,6 @@
 -- The bytes that are taken by a command that writes, and results that refuse the command.
 use Rattle.std.specs.Prelude.{◌≡◌, ℕ, ◌+◌, ◌<◌, Bool, true, false, List, length, take, drop}
-use Rattle.dma_8237.specs.Channel.{Channel, grants, reads_memory, place_of}
-use Rattle.fdc_stages.specs.declared.ending.Ending.{Ending}
-use Rattle.fdc_stages.specs.declared.ending.Ending.TheVariants.{Protected}
-use Rattle.fdc_phases.specs.declared.answers.Answer.{Answer}
-use Rattle.fdc_phases.specs.declared.answers.Answer.TheVariants.{Long}
-use Rattle.fdc_phases.specs.declared.phases.Phase.{Phase}
-use Rattle.fdc_phases.specs.declared.phases.Phase.TheVariants.{Result}
+use Rattle.laws_machine.specs.Common.{Channel, grants, reads_memory, place_of, Ending, Protected, Answer, Long, Phase, Result}
 use Rattle.laws_machine.specs.OnReads.Scenes.{Scene}
 
 -- ---- the bytes

@@ -1,7 +1,6 @@
 // What follows of the machine's steps. The bodies are empty.
 ghost use Rattle.std.specs.Prelude.{◌≡◌, ◌≤◌, ℕ, true, false, ◌==◌};
-ghost use Rattle.fdc_core.specs.Listening.{is_executing};
-ghost use Rattle.fdc_core.specs.State.{data_commands_of};
+ghost use Rattle.laws_machine.specs.Common.{is_executing, data_commands_of, AreShort, counted, Board, controller_of, holds_of, irq_taken, Inputs, Outputs};
 ghost use Rattle.laws_machine.specs.OnAwaits.Awaits.{IsAwaited, IsLetOut};
 ghost use Rattle.laws_machine.specs.OnAwaits.Goes.{GoesOn, StandsReady};
 ghost use Rattle.laws_machine.specs.OnOrders.Orders.{CanBegin, Order};
@@ -9,10 +8,6 @@ ghost use Rattle.laws_machine.specs.OnQuiet.Quiet.{IsHushed};
 ghost use Rattle.laws_machine.specs.OnReads.Ends.{most_steps_of, steps_taken};
 ghost use Rattle.laws_machine.specs.OnReads.Scenes.{Scene};
 ghost use Rattle.laws_machine.specs.OnSteps.Steady.{Steady};
-ghost use Rattle.irq_events.specs.Holds.{AreShort, counted};
-ghost use Rattle.pc_bus.specs.Boards.{Board, controller_of, holds_of};
-ghost use Rattle.pc_bus.specs.Handling.{irq_taken};
-ghost use Rattle.pc_bus.specs.Ports.{Inputs, Outputs};
 
 /// A data command that begins while INT is low, and the latch saw the line low, counts as one. It sets the latch when
 /// it ends, whatever spurious interrupts come and are taken before. What was set stays until then.

@@ -1,8 +1,6 @@
 // What follows of the machine's steps and port accesses. The bodies are empty.
 ghost use Rattle.std.specs.Prelude.{ℕ};
-ghost use Rattle.pc_bus.specs.Counts.{CountsGoOn};
-ghost use Rattle.pc_bus.specs.Boards.{Board};
-ghost use Rattle.pc_bus.specs.Ports.{Inputs, Outputs};
+ghost use Rattle.laws_machine.specs.Common.{CountsGoOn, Board, Inputs, Outputs};
 ghost use Rattle.laws_machine.specs.OnSteps.Steady.{Progress};
 
 /// The faults of a drive and the late DMAs never fall. The faults rise by no more than what the drive tells is left of

@@ -1,14 +1,11 @@
 // What follows of the machine's steps. The bodies are empty.
 ghost use Rattle.std.specs.Prelude.{◌≡◌, ◌*◌, List};
 ghost use Rattle.flop_base.specs.Standard.{standard_code};
-ghost use Rattle.flop_base.specs.declared.key.Chrn.{Chrn};
-ghost use Rattle.raw_image.specs.Disk.{Disk};
+ghost use Rattle.laws_machine.specs.Common.{Chrn, Disk, Numbers, Board};
 ghost use Rattle.sector_map.specs.Layings.{Format, IsLaying, Laying, format_keys};
-ghost use Rattle.fdc_stages.specs.Formats.{Numbers};
 ghost use Rattle.laws_machine.specs.OnFormats.Results.{AreKeysOf, FormatEnded, FormatsOnly, LaysTo};
 ghost use Rattle.laws_machine.specs.OnOrders.Orders.{Track, Underway, Write};
 ghost use Rattle.laws_machine.specs.OnReads.Scenes.{Scene, head_sent};
-ghost use Rattle.pc_bus.specs.Boards.{Board};
 
 mod holding;
 

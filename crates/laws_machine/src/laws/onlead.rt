@@ -1,11 +1,6 @@
 // What follows of the machine's steps. The bodies are empty.
 ghost use Rattle.std.specs.Prelude.{◌≡◌, ◌⊎◌, ◌*◌, ℕ, Bool, List};
-ghost use Rattle.fdc_commands.specs.declared.results.Results.{Results};
-ghost use Rattle.fdc_phases.specs.declared.answers.Answer.TheVariants.{Long};
-ghost use Rattle.fdc_phases.specs.declared.phases.Phase.TheVariants.{Command, Result};
-ghost use Rattle.fdc_stages.specs.declared.ending.Ending.TheVariants.{Done};
-ghost use Rattle.fdc_stages.specs.Formats.{Numbers};
-ghost use Rattle.flop_base.specs.declared.key.Chrn.{Chrn};
+ghost use Rattle.laws_machine.specs.Common.{Results, Long, Command, Result, Done, Numbers, Chrn, Board, controller_of, memory_of, Inputs, Outputs, IsSizeCode, content_size};
 ghost use Rattle.laws_machine.specs.OnFormats.Results.{AreKeysOf, FormatEnded};
 ghost use Rattle.laws_machine.specs.OnLead.Leads.{CanWarm, WarmsUp};
 ghost use Rattle.laws_machine.specs.OnOrders.Orders.{CanBegin, Identify, Laid, Leaves, Order, Read, Track, Window, Write};
@@ -16,9 +11,6 @@ ghost use Rattle.laws_machine.specs.OnReads.Results.{ReadEnded, StaysOutside};
 ghost use Rattle.laws_machine.specs.OnReads.Scenes.{Scene};
 ghost use Rattle.laws_machine.specs.OnSteps.Steady.{Steady};
 ghost use Rattle.laws_machine.specs.OnWrites.Results.{WriteEnded};
-ghost use Rattle.pc_bus.specs.Boards.{Board, controller_of, memory_of};
-ghost use Rattle.pc_bus.specs.Ports.{Inputs, Outputs};
-ghost use Rattle.track_model.specs.Fields.{IsSizeCode, content_size};
 
 /// A READ ID, READ DATA, write or FORMAT TRACK whose medium may not be at speed yet when its last byte is written
 /// begins and goes on as any other. It goes on through device steps, reads of ports, and writes that leave DOR, the

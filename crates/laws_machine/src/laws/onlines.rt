@@ -1,8 +1,7 @@
 // Change lines of empty drives. The bodies are empty.
 ghost use Rattle.std.specs.Prelude.{ℕ};
-ghost use Rattle.drive_model.specs.Drive.{DriveState};
+ghost use Rattle.laws_machine.specs.Common.{DriveState, AreSetIfEmpty, Board, IsEmpty, IsNew};
 ghost use Rattle.irq_events.specs.declared.pace.Pace.{Pace};
-ghost use Rattle.pc_bus.specs.Boards.{AreSetIfEmpty, Board, IsEmpty, IsNew};
 ghost use Rattle.pc_bus.specs.Calls.{AreCalled, IsCalled};
 ghost use Rattle.laws_machine.specs.OnSteps.Steady.{Steady};
 

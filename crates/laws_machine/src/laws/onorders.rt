@@ -1,7 +1,6 @@
 // What follows of the machine's steps. The bodies are empty.
 ghost use Rattle.std.specs.Prelude.{◌≡◌, ◌⊎◌, ◌≤◌, ◌+◌, ℕ, false, length};
-ghost use Rattle.fdc_core.specs.Listening.{is_executing};
-ghost use Rattle.fdc_phases.specs.declared.phases.Phase.TheVariants.{Command};
+ghost use Rattle.laws_machine.specs.Common.{is_executing, Command, Board, controller_of, memory_of, Inputs, Outputs, Runs};
 ghost use Rattle.laws_machine.specs.OnOrders.Orders.{CanBegin, Leaves, Order, Underway};
 ghost use Rattle.laws_machine.specs.OnOrders.Outside.{CanFetch, IsFetching};
 ghost use Rattle.laws_machine.specs.OnQuiet.Quiet.{StandsStill};
@@ -10,9 +9,6 @@ ghost use Rattle.laws_machine.specs.OnReads.Scenes.{Scene};
 ghost use Rattle.laws_machine.specs.OnSteps.Steady.{Steady};
 ghost use Rattle.laws_machine.specs.OnWrites.Guards.{LeavesOthers};
 ghost use Rattle.laws_machine.specs.OnWrites.Heads.{IsIdle, RestsIdle, StaysStill};
-ghost use Rattle.pc_bus.specs.Boards.{Board, controller_of, memory_of};
-ghost use Rattle.pc_bus.specs.Ports.{Inputs, Outputs};
-ghost use Rattle.pc_bus.specs.Steps.{Runs};
 
 /// Each device step keeps what is known of a READ ID, a READ DATA, a write or a FORMAT TRACK, whatever DMA latencies,
 /// spurious interrupts, gaps and faults of the drive there are. So does each call that leaves the chips and the drives

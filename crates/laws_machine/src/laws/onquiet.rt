@@ -1,19 +1,9 @@
 // What follows of the machine's steps and port accesses. The bodies are empty.
 ghost use Rattle.std.specs.Prelude.{◌≡◌, ◌++◌, [], ◌∷◌, ℕ, false};
-ghost use Rattle.fdc_commands.specs.declared.results.Results.{Results};
-ghost use Rattle.fdc_phases.specs.declared.answers.Answer.TheVariants.{Long};
-ghost use Rattle.fdc_stages.specs.declared.ending.Ending.{Ending};
+ghost use Rattle.laws_machine.specs.Common.{Results, Long, Ending, answer, More, is_executing, result_byte, data_commands_of, is_held, Command, Result, Board, controller_of, Inputs, Outputs, is_controllers};
 ghost use Rattle.laws_machine.specs.OnQuiet.Results.{GivesBytes, HasGiven};
-ghost use Rattle.fdc_commands.specs.Table.{answer};
-ghost use Rattle.fdc_commands.specs.declared.bytes.Accepted.TheVariants.{More};
-ghost use Rattle.fdc_core.specs.Listening.{is_executing};
-ghost use Rattle.fdc_core.specs.Ports.{result_byte};
-ghost use Rattle.fdc_core.specs.State.{data_commands_of, is_held};
-ghost use Rattle.fdc_phases.specs.declared.phases.Phase.TheVariants.{Command, Result};
 ghost use Rattle.laws_machine.specs.OnQuiet.Quiet.{IsQuiet, GoesQuietly, StandsStill};
 ghost use Rattle.laws_machine.specs.OnQuiet.Settings.{Setting, Stands, setting_of, with_byte, with_rate, with_read, with_write};
-ghost use Rattle.pc_bus.specs.Boards.{Board, controller_of};
-ghost use Rattle.pc_bus.specs.Ports.{Inputs, Outputs, is_controllers};
 ghost use Rattle.laws_machine.specs.OnSteps.Steady.{Steady};
 
 /// If no seek bit is set and no command writes, device steps turn the drives and leave what was set.

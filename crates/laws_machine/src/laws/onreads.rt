@@ -1,23 +1,13 @@
 // What follows of the machine's steps. The bodies are empty.
 ghost use Rattle.std.specs.Prelude.{◌≡◌, ◌⊎◌, ℕ, ◌+◌, ◌%◌, ◌<◌, ◌≤◌, Bool, false, length, Some};
-ghost use Rattle.dma_8237.specs.Channel.{Channel};
+ghost use Rattle.laws_machine.specs.Common.{Channel, Sent, is_executing, counted, Disk, IsAddressAt, IsSizeCode, content_size, Board, controller_of, memory_of, Outputs, Rate, Chrn, met_in};
 ghost use Rattle.dma_8237.specs.SetUp.{IsSetUp};
-ghost use Rattle.fdc_phases.specs.Heard.{Sent};
-ghost use Rattle.fdc_core.specs.Listening.{is_executing};
-ghost use Rattle.irq_events.specs.Holds.{counted};
-ghost use Rattle.raw_image.specs.Disk.{Disk};
-ghost use Rattle.track_model.specs.Fields.{IsAddressAt, IsSizeCode, content_size};
-ghost use Rattle.pc_bus.specs.Boards.{Board, controller_of, memory_of};
-ghost use Rattle.pc_bus.specs.Ports.{Outputs};
 ghost use Rattle.laws_machine.specs.OnOrders.Orders.{CanBegin, Read, Underway};
 ghost use Rattle.laws_machine.specs.OnQuiet.Quiet.{GoesQuietly};
 ghost use Rattle.laws_machine.specs.OnQuiet.Settings.{Setting, Stands};
 ghost use Rattle.laws_machine.specs.OnReads.Begins.{IsReadyIn, IsSetFor, scene_of};
 ghost use Rattle.laws_machine.specs.OnReads.Results.{ReadEnded, StaysOutside};
-ghost use Rattle.flop_base.specs.declared.answers.Rate.{Rate};
-ghost use Rattle.flop_base.specs.declared.key.Chrn.{Chrn};
 ghost use Rattle.laws_machine.specs.OnReads.Scenes.{IsRecorded, Scene, data_rate, head_sent, track_met};
-ghost use Rattle.sector_map.specs.Met.{met_in};
 ghost use Rattle.laws_machine.specs.OnReads.Underway.{IsSet};
 
 mod ending;

@@ -1,18 +1,12 @@
 // What follows of every course of calls: device steps, and whatever is done between them. The bodies are empty.
 ghost use Rattle.std.specs.Prelude.{◌≡◌, ◌≤◌, ◌+◌, ◌-◌, ℕ, Bool, false, true};
-ghost use Rattle.fdc_core.specs.Listening.{is_executing};
-ghost use Rattle.fdc_core.specs.Steps.{steps_left, IsCounted};
+ghost use Rattle.laws_machine.specs.Common.{is_executing, steps_left, IsCounted, AreShort, Board, IsInRange, controller_of, holds_of, latch_of, Touches, byte_set, irq_taken, Inputs, Outputs, Runs, RunsToIrq, Waits, stirred};
 ghost use Rattle.laws_machine.specs.OnSteps.Ends.{Counts, RunsNoSeek, IsOver, Meets, Recalibrates, pulses_left, seeks};
 ghost use Rattle.laws_machine.specs.OnSteps.Lasts.{Lasts, clock_of};
 ghost use Rattle.laws_machine.specs.OnSteps.Moves.{Goes};
 ghost use Rattle.laws_machine.specs.OnSteps.Steady.{Marching, Steady};
 ghost use Rattle.laws_machine.specs.OnSteps.Uses.{Uses};
 ghost use Rattle.irq_events.specs.Entries.{next_entry};
-ghost use Rattle.irq_events.specs.Holds.{AreShort};
-ghost use Rattle.pc_bus.specs.Boards.{Board, IsInRange, controller_of, holds_of, latch_of};
-ghost use Rattle.pc_bus.specs.Handling.{Touches, byte_set, irq_taken};
-ghost use Rattle.pc_bus.specs.Ports.{Inputs, Outputs};
-ghost use Rattle.pc_bus.specs.Steps.{Runs, RunsToIrq, Waits, stirred};
 
 /// Each call of the machine is a course of a known number of device steps.
 pub fn calls_are_courses()

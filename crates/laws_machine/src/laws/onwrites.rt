@@ -1,18 +1,9 @@
 // What follows of the machine's steps. The bodies are empty.
 ghost use Rattle.std.specs.Prelude.{◌≡◌, Bool, ℕ, false};
-ghost use Rattle.track_model.specs.Fields.{content_size};
-ghost use Rattle.raw_image.specs.Disk.{Disk};
-ghost use Rattle.sector_map.specs.Changes.{Change, IsChange};
-ghost use Rattle.fdc_phases.specs.declared.phases.Phase.TheVariants.{Result};
-ghost use Rattle.fdc_phases.specs.Phases.{is_overrun};
-ghost use Rattle.fdc_phases.specs.declared.answers.Answer.TheVariants.{Long};
-ghost use Rattle.fdc_stages.specs.declared.ending.Ending.{Ending};
-ghost use Rattle.fdc_commands.specs.declared.results.Results.{Results};
-ghost use Rattle.fdc_core.specs.Drives.Hearing.{IsCalm};
+ghost use Rattle.laws_machine.specs.Common.{content_size, Disk, Change, IsChange, Result, is_overrun, Long, Ending, Results, IsCalm, Board, controller_of, drive_in};
 ghost use Rattle.laws_machine.specs.OnOrders.Orders.{Underway, Window, Write};
 ghost use Rattle.laws_machine.specs.OnReads.Scenes.{Scene, head_sent};
 ghost use Rattle.laws_machine.specs.OnWrites.Results.{ChangesTo, WriteEnded, WritesOnly, WritesWell, written_in};
-ghost use Rattle.pc_bus.specs.Boards.{Board, controller_of, drive_in};
 
 mod guarding;
 mod heads;

@@ -1,8 +1,6 @@
 // What a write or a format keeps of a medium: laws over its states before and after.
 ghost use Rattle.std.specs.Prelude.{◌≡◌, length};
-ghost use Rattle.raw_image.specs.Disk.{Disk, track_of};
-ghost use Rattle.track_model.specs.Fields.{content_size};
-ghost use Rattle.track_model.specs.Writing.{window};
+ghost use Rattle.sector_map.specs.Common.{Disk, track_of, content_size, window};
 ghost use Rattle.sector_map.specs.Disks.{IsRegularDisk, IsOnMap};
 ghost use Rattle.sector_map.specs.Changes.{Change, IsChange};
 ghost use Rattle.sector_map.specs.Layings.{Laying, IsLaying, formatted};

@@ -1,12 +1,6 @@
 // What stays on a track when a data field is written over, whole or in part.
 ghost use Rattle.std.specs.Prelude.{◌≡◌, ◌+◌, ◌≤◌, ℕ, length, max, ◌⊎◌};
-ghost use Rattle.flop_base.specs.declared.key.Chrn.{Chrn};
-ghost use Rattle.track_model.specs.declared.Look.TheVariants.{Found, BadCrc, NoData};
-ghost use Rattle.track_model.specs.Fields.{IsAddressAt, content_at};
-ghost use Rattle.track_model.specs.Looks.{LookAt};
-ghost use Rattle.track_model.specs.Writing.{window};
-ghost use Rattle.track_model.specs.Windows.{window_words, window_place, cut_of, HasFieldFor, IsTidy, damaged_window, empty_window};
-ghost use Rattle.track_model.specs.Regular.{IsSpaced};
+ghost use Rattle.sector_map.specs.Common.{Chrn, Found, BadCrc, NoData, IsAddressAt, content_at, LookAt, window, window_words, window_place, cut_of, HasFieldFor, IsTidy, damaged_window, empty_window, IsSpaced};
 ghost use Rattle.track_model.specs.Kept.{KeepsOthers};
 
 use flop_base::Chrn;

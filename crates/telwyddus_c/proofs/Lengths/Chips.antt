@@ -1,12 +1,11 @@
 -- How many bytes the whole controller has in a state, except for its drives.
 use Rattle.std.proofs.Common.{◌+◌, ◌≤◌, ℕ, List, length, arith}
 use Rattle.fdc_sequencer.specs.AdapterSaving.{AdapterFits, spelled_adapter}
-use Rattle.fdc_sequencer.specs.declared.adapter.DisketteAdapter.{DisketteAdapter}
+use Rattle.telwyddus_c.proofs.Common.{DisketteAdapter, Chip, spelled_byte, spelled_each, spelled_flag, spelled_option, spelled_word}
 use Rattle.fdc_chip.specs.Interrupts.{AreFour, Interrupting}
 use Rattle.fdc_chip.specs.Saving as chips
 use Rattle.fdc_chip.specs.Saving.{ChipFits, spelled_answer, spelled_chip, spelled_interrupts, spelled_order, spelled_pace, spelled_place, spelled_registers, spelled_settings, spelled_task, spelled_track}
 use Rattle.fdc_chip.specs.declared.answer.ChipAnswer.TheVariants as answers
-use Rattle.fdc_chip.specs.declared.chip.Chip.{Chip}
 use Rattle.fdc_chip.specs.declared.stage.Place.TheVariants as places
 use Rattle.fdc_chip.specs.declared.stage.ChipStage.TheVariants as stages
 use Rattle.fdc_chip.specs.declared.stage.ChipTask.TheVariants as tasks
@@ -14,7 +13,6 @@ use Rattle.fdc_sequencer.specs.Saving.{SequencerFits, spelled_moving, spelled_op
 use Rattle.fdc_sequencer.specs.declared.opcode.Operation.TheVariants.{Read, Write}
 use Rattle.fdc_sequencer.specs.declared.sequencer.Sequencer.{Sequencer}
 use Rattle.fdc_sequencer.specs.declared.stage.FrontStage.TheVariants.{Through, Seeking, Moving, Telling}
-use Rattle.saved_state.specs.Saved.{spelled_byte, spelled_each, spelled_flag, spelled_option, spelled_word}
 use Rattle.telwyddus_c.proofs.Lengths.Bytes.{HasMost, length-byte, length-double, length-each, length-flag, length-key, length-word, most-byte, most-each, most-option}
 use Rattle.telwyddus_c.proofs.Lengths.Fdcs.{most-fdc, most-results}
 
@@ -96,10 +94,9 @@ most-registers registers rest = omega (arith, length-byte, most-settings)
 
 most-answer : HasMost spelled_answer 13
 unfolding spelled_answer
-most-answer (answers.Byte value) rest = omega (arith, length-byte)
-most-answer (answers.Sensed status cylinder) rest = omega (arith, length-byte)
 most-answer (answers.Results results) rest = omega (arith, most-results)
 most-answer (answers.Registers registers) rest = omega (arith, most-registers)
+most-answer _ rest = omega (arith, length-byte)
 
 most-place : HasMost spelled_place 1
 unfolding spelled_place
@@ -126,10 +123,9 @@ most-pace pace rest =
 
 most-stage : HasMost chips.spelled_stage 15
 unfolding chips.spelled_stage
-most-stage stages.Ready rest = omega arith
-most-stage stages.Held rest = omega arith
 most-stage (stages.Busy task) rest = omega (arith, most-task)
 most-stage (stages.Telling answer read) rest = omega (arith, most-answer, length-byte)
+most-stage _ rest = omega arith
 
 pub most-chip : {D : Type 0} (spelled : D → List ℕ → List ℕ) (fits : D → Type 0) (chip : Chip D) (first second : ℕ) (rest : List ℕ)
     → ChipFits fits chip → ((left : List ℕ) → length (spelled chip.behind.adapter.first left) ≤ first + length left)

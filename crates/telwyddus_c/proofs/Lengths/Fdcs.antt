@@ -13,7 +13,7 @@ use Rattle.fdc_phases.specs.declared.rates.DataRate.TheVariants as rates
 use Rattle.fdc_commands.specs.Saving.{spelled_motion, spelled_seek, spelled_seeking}
 use Rattle.fdc_commands.specs.Seeking.{InRange, Seeking}
 use Rattle.fdc_commands.specs.declared.motion.Motion.TheVariants as motions
-use Rattle.saved_state.specs.Saved.{spelled_byte, spelled_bytes, spelled_count, spelled_each, spelled_option}
+use Rattle.telwyddus_c.proofs.Common.{spelled_byte, spelled_bytes, spelled_count, spelled_each, spelled_option}
 use Rattle.telwyddus_c.proofs.Lengths.Bytes.{HasMost, length-byte, length-bytes, length-count, length-each, length-flag, length-key, length-word, most-byte, most-each, most-option}
 use Rattle.telwyddus_c.proofs.Lengths.Stages.{most-ending, most-format, most-read, most-search, most-write}
 
@@ -72,9 +72,8 @@ most-phase (phases.Result answer) rest = omega (arith, most-answer)
 
 most-motion : HasMost spelled_motion 3
 unfolding spelled_motion
-most-motion (motions.Outward pulses) rest = omega (arith, length-byte)
-most-motion (motions.Toward cylinder target) rest = omega (arith, length-byte)
 most-motion motions.Ended rest = omega arith
+most-motion _ rest = omega (arith, length-byte)
 
 most-seek : HasMost spelled_seek 4
 unfolding spelled_seek

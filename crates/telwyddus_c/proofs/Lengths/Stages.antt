@@ -1,7 +1,7 @@
 -- How many bytes the stages of a data command have in a state.
 use Rattle.std.proofs.Common.{◌≡◌, ◌+◌, ℕ, List, length, arith}
 use Rattle.track_separator.specs.Saving.{spelled_stage, spelled_separator}
-use Rattle.track_separator.specs.declared.state.Stage.TheVariants.{Hunting, Reading, Addressed, TurnEnded, Waiting, Content}
+use Rattle.track_separator.specs.declared.state.Stage.TheVariants.{Reading, Waiting, Content}
 use Rattle.track_format.specs.Saving as layout
 use Rattle.track_format.specs.Saving.{spelled_stream}
 use Rattle.track_format.specs.declared.stream.TrackPart.{TrackPart}
@@ -17,12 +17,10 @@ use Rattle.telwyddus_c.proofs.Lengths.Bytes.{HasMost, length-byte, length-word, 
 
 most-stage : HasMost spelled_stage 8
 unfolding spelled_stage
-most-stage Hunting rest = omega arith
 most-stage (Reading bytes) rest = omega (arith, length-byte)
-most-stage Addressed rest = omega arith
-most-stage TurnEnded rest = omega arith
 most-stage (Waiting size since marked) rest = omega (arith, length-word, length-flag)
 most-stage (Content size taken check touched) rest = omega (arith, length-word, length-flag)
+most-stage _ rest = omega arith
 
 most-separator : HasMost spelled_separator 26
 unfolding spelled_separator
@@ -31,14 +29,7 @@ most-separator separator rest = omega (arith, length-cells, length-word, most-st
 pub most-ending : HasMost spelled_ending 2
 unfolding spelled_ending
 most-ending (endings.Done deleted) rest = omega (arith, length-flag)
-most-ending endings.NoMark rest = omega arith
-most-ending endings.NoSector rest = omega arith
-most-ending endings.NoField rest = omega arith
-most-ending endings.BadCheck rest = omega arith
-most-ending endings.Overrun rest = omega arith
-most-ending endings.NoCount rest = omega arith
-most-ending endings.Protected rest = omega arith
-most-ending endings.Late rest = omega arith
+most-ending _ rest = omega arith
 
 pub most-search : HasMost spelled_search 28
 unfolding spelled_search
@@ -55,10 +46,8 @@ most-part : HasMost spelled_part 3
 unfolding spelled_part
 most-part (places.Sync more) rest = omega (arith, length-byte)
 most-part (places.Marks more) rest = omega (arith, length-byte)
-most-part places.Mark rest = omega arith
 most-part (places.Content more) rest = omega (arith, length-word)
-most-part places.High rest = omega arith
-most-part places.Low rest = omega arith
+most-part _ rest = omega arith
 
 most-window : HasMost spelled_window 9
 unfolding spelled_window

@@ -1,26 +1,17 @@
 -- How many bytes the state of a controller has.
 use Rattle.std.proofs.Common.{◌≡◌, ◌==◌, ◌+◌, ◌*◌, ◌≤◌, ◌∷◌, ℕ, Bool, true, false, List, [], Option, None, Some, length, take, drop, refl, arith, length-drop, ne_eqb}
 use Rattle.std.specs.Prelude.{MatchBool}
-use Rattle.std.specs.Option.{ForSome}
-use Rattle.std.proofs.lemmas.List.{length-take}
+use Rattle.telwyddus_c.proofs.Common.{ForSome, length-take, faults_in_bay, BayDrive, Pulled, ControllerValue, script_of, Fault, Disk, IsDisk, ControllerFits, WritesState, spelled_controller}
 use Rattle.std.proofs.lemmas.Nat.{mul-le}
-use Rattle.c_bay_drive.specs.Bays.{faults_in_bay}
 use Rattle.c_bay_drive.specs.Saving.{BayFits, spelled_bay, spelled_cable}
-use Rattle.c_bay_drive.specs.declared.bay.BayDrive.{BayDrive}
-use Rattle.c_bay_drive.specs.declared.cable.Pulled.{Pulled}
-use Rattle.c_slots.specs.Controllers.{ControllerValue}
 use Rattle.drive_model.specs.Saving.{spelled_fault, spelled_medium, spelled_script_drive}
-use Rattle.drive_model.specs.ScriptDrive.{script_of}
-use Rattle.drive_model.specs.declared.fault.Fault.{Fault}
-use Rattle.drive_model.specs.declared.fault.Fault.TheVariants.{Dropout, Cut, Lose, Stick}
+use Rattle.drive_model.specs.declared.fault.Fault.TheVariants.{Lose, Stick}
 use Rattle.drive_model.specs.declared.script.ScriptDrive.{ScriptDrive}
-use Rattle.raw_image.specs.Disk.{Disk, IsDisk}
 use Rattle.raw_image.specs.Image.{file_of}
 use Rattle.raw_image.specs.Words.{bytes_of}
 use Rattle.raw_image.proofs.Pairs.{length-bytes_of}
-use Rattle.saved_state.specs.Saved.{spelled_count, spelled_flag, spelled_list}
+use Rattle.saved_state.specs.Saved.{spelled_list}
 use Rattle.telwyddus_c.specs.Lengths.{TellsAtMost, faults_planned, medium_most, state_most}
-use Rattle.telwyddus_c.specs.States.{ControllerFits, WritesState, spelled_controller}
 use Rattle.telwyddus_c.proofs.Lengths.Bytes.{HasMost, length-byte, length-bytes, length-count, length-double, length-flag, length-word}
 use Rattle.telwyddus_c.proofs.Lengths.Chips.{most-chip}
 
@@ -45,10 +36,9 @@ most-medium (Some disk) rest is = omega (arith, length-bytes (file_of disk) rest
 -- ---- planned faults
 
 most-fault : HasMost spelled_fault 9
-most-fault (Dropout c h word count) rest = omega (arith, length-byte, length-word, length-double)
-most-fault (Cut c h word count) rest = omega (arith, length-byte, length-word, length-double)
 most-fault (Lose c count) rest = omega (arith, length-byte, length-double)
 most-fault (Stick c count) rest = omega (arith, length-byte, length-double)
+most-fault _ rest = omega (arith, length-byte, length-word, length-double)
 
 most-faults : (faults : List Fault) (rest : List ℕ) → length (spelled_list spelled_fault faults rest) ≤ 1 + 10 * length faults + length rest
 unfolding spelled_list

@@ -1,6 +1,6 @@
 // The controller's side of a DMA channel of C's own: byte by byte.
 ghost use Rattle.std.specs.Prelude.{◌≡◌};
-ghost use Rattle.fdc_chip.specs.Ports.{told_chip};
+ghost use Rattle.telwyddus_c.specs.Common.{told_chip};
 ghost use Rattle.telwyddus_c.specs.Controllers.{state_of, KeepsDrives, lines_byte, TakesByte, GivesByte};
 ghost use Rattle.telwyddus_c.specs.Slots.{Serves};
 

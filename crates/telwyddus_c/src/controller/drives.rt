@@ -1,6 +1,6 @@
 // The drives of bays: their cables, their plans, and the tracks that were written.
 ghost use Rattle.std.specs.Prelude.{◌≡◌, ◌≤◌, ◌==◌, not, ⊤};
-ghost use Rattle.fault_plan.specs.Plan.{lists_of};
+ghost use Rattle.telwyddus_c.specs.Common.{lists_of};
 ghost use Rattle.telwyddus_c.specs.Drives.{faults_for as faults_of_bay, keeps_cable as keeps_cable_of, Attaches, AttachesAt, PlansAt, Replans, TellsTracks};
 ghost use Rattle.telwyddus_c.specs.Slots.{Serves, InBay};
 

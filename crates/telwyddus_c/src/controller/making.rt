@@ -1,5 +1,5 @@
 // The controller's making.
-ghost use Rattle.fault_plan.specs.Plan.{lists_of};
+ghost use Rattle.telwyddus_c.specs.Common.{lists_of};
 ghost use Rattle.telwyddus_c.specs.Controllers.{IsPlain};
 ghost use Rattle.telwyddus_c.specs.Drives.{IsPlanned};
 ghost use Rattle.telwyddus_c.specs.Plans.{FillsPlanned};

@@ -1,9 +1,7 @@
 // The controller's straps, its ports, and what can be read beside them.
 ghost use Rattle.std.specs.Prelude.{◌≡◌, ◌==◌, not, ⊤};
-ghost use Rattle.fdc_sequencer.specs.Adapters.{selected_at};
+ghost use Rattle.telwyddus_c.specs.Common.{selected_at, ReadsChip, WritesChip, data_rate};
 ghost use Rattle.fdc_sequencer.specs.WordTimes.{nanoseconds};
-ghost use Rattle.fdc_chip.specs.Ports.{ReadsChip, WritesChip};
-ghost use Rattle.fdc_core.specs.State.{data_rate};
 ghost use Rattle.telwyddus_c.specs.Controllers.{state_of, KeepsDrives, lines_byte, StrapsSeeks, StrapsSteps};
 ghost use Rattle.telwyddus_c.specs.Slots.{Serves};
 

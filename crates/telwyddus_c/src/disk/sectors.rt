@@ -1,9 +1,8 @@
 // The sectors of the media in a desk's bays.
 ghost use Rattle.std.specs.Prelude.{◌≡◌, ◌≤◌, ◌==◌, length, not, ⊤};
-ghost use Rattle.sector_model.specs.Orders.{is_size_code as is_size_code_of};
+ghost use Rattle.telwyddus_c.specs.Common.{is_size_code_of, IsSizeCode, content_size};
 ghost use Rattle.telwyddus_c.specs.Disks.{FormatsTrack, ReadsAt, ReadsInto, WritesAt};
 ghost use Rattle.telwyddus_c.specs.Slots.{InBay, Serves};
-ghost use Rattle.track_model.specs.Fields.{IsSizeCode, content_size};
 
 use crate::code::{DONE, EMPTY, OUT_OF_RANGE, TOO_SHORT};
 use crate::disk::answers::{answer_code, refusal_code};

@@ -1,7 +1,6 @@
 // The bays of the machine.
 ghost use Rattle.std.specs.Prelude.{◌≡◌, ◌≤◌, ◌==◌, MatchBool};
-ghost use Rattle.pc_bus.specs.Boards.{drive_in};
-ghost use Rattle.pc_bus.specs.Handling.{Touches};
+ghost use Rattle.telwyddus_c.specs.Common.{drive_in, Touches};
 ghost use Rattle.telwyddus_c.specs.Machines.{board_of, InsertsAt, EjectsAt};
 ghost use Rattle.telwyddus_c.specs.Media.{PutsIn};
 ghost use Rattle.telwyddus_c.specs.Slots.{Serves, InBay};

@@ -1,6 +1,6 @@
 // The machine's memory.
 ghost use Rattle.std.specs.Prelude.{◌≡◌, ⊤};
-ghost use Rattle.pc_bus.specs.Boards.{memory_of};
+ghost use Rattle.telwyddus_c.specs.Common.{memory_of};
 ghost use Rattle.telwyddus_c.specs.Machines.{board_of, CopiesOut, CopiesIn};
 ghost use Rattle.telwyddus_c.specs.Slots.{Serves};
 

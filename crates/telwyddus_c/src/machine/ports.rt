@@ -1,9 +1,7 @@
 // The machine's ports, its device steps and its interrupt latch.
 ghost use Rattle.std.specs.Prelude.{◌≡◌, ◌≤◌, ◌==◌, ⊤};
-ghost use Rattle.pc_bus.specs.Boards.{latch_of};
-ghost use Rattle.pc_bus.specs.Handling.{irq_taken};
+ghost use Rattle.telwyddus_c.specs.Common.{latch_of, irq_taken, Runs, stirred};
 ghost use Rattle.pc_bus.specs.Ports.{Inputs, Outputs};
-ghost use Rattle.pc_bus.specs.Steps.{Runs, stirred};
 ghost use Rattle.telwyddus_c.specs.Machines.{board_of, WaitsTelling};
 ghost use Rattle.telwyddus_c.specs.Slots.{Serves};
 

@@ -1,10 +1,6 @@
 // What a call of INT 13h counts. The body is empty.
 ghost use Rattle.std.specs.Prelude.{ℕ, List, Option};
-ghost use Rattle.flop_base.specs.Shelf.{Files};
-ghost use Rattle.sector_model.specs.States.{State};
-ghost use Rattle.sector_model.specs.Runs.{Taken};
-ghost use Rattle.bios_int13.specs.declared.regs.Regs.{Regs};
-ghost use Rattle.bios_int13.specs.Services.{Serves};
+ghost use Rattle.text_commands.specs.Common.{Files, State, Taken, Regs, Serves};
 ghost use Rattle.text_commands.specs.CallCounts.{CountsCourse};
 
 /// A call of INT 13h sends at most as many data commands as its requests allow. It accesses memory past the driver at

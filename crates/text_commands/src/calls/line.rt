@@ -1,7 +1,6 @@
 // One line of a text of calls: it is served, and its answer is printed.
-ghost use Rattle.floppy_jobs.specs.declared.calls.CallLine.{CallLine};
+ghost use Rattle.text_commands.specs.Common.{CallLine, RanPart};
 ghost use Rattle.floppy_jobs.specs.declared.calls.CallLine.TheVariants as calls;
-ghost use Rattle.commands.specs.Leading.{RanPart};
 ghost use Rattle.text_commands.specs.CallLines.{LineHasTries, CallGoes, LineGoes};
 
 use crate::calls::text::call_line;

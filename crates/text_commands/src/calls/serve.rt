@@ -1,6 +1,6 @@
 // The subcommand `int13 FILE`: the calls of a text are served to its end, or up to what stops the run.
 ghost use Rattle.std.specs.Prelude.{All};
-ghost use Rattle.commands.specs.Leading.{Ran, RanPart, Runs};
+ghost use Rattle.text_commands.specs.Common.{Ran, RanPart, Runs};
 ghost use Rattle.text_commands.specs.CallCourses.{ServesCalls};
 ghost use Rattle.text_commands.specs.CallLines.{LineHasTries, LinesGo, ServesOrStarves, Serving};
 

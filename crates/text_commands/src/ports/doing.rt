@@ -1,5 +1,5 @@
 // What each line does, by its call to the machine.
-ghost use Rattle.pc_bus.specs.Boards.{board};
+ghost use Rattle.text_commands.specs.Common.{board};
 ghost use Rattle.text_commands.specs.Benches.{AreNamed};
 ghost use Rattle.text_commands.specs.PortFaults.{Handled, faulty_bench_of};
 ghost use Rattle.text_commands.specs.PortLines.{LineGoes, ReadsPort};

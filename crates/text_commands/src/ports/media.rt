@@ -1,10 +1,7 @@
 // The lines that exchange media, and the end of a run.
 ghost use Rattle.std.specs.Prelude.{◌≡◌, ◌≤◌, false, true};
 ghost use Rattle.floppy_jobs.specs.declared.ports.PortLine.TheVariants as line;
-ghost use Rattle.drive_model.specs.Drive.{loaded};
-ghost use Rattle.flop_base.specs.Bays.{with_bay};
-ghost use Rattle.pc_bus.specs.Boards.{board, drive_in};
-ghost use Rattle.pc_bus.specs.Handling.{Touches};
+ghost use Rattle.text_commands.specs.Common.{loaded, with_bay, board, drive_in, Touches};
 ghost use Rattle.text_commands.specs.Benches.{AreNamed, is_loaded};
 ghost use Rattle.text_commands.specs.PortFaults.{Handled, faulty_bench_of};
 ghost use Rattle.text_commands.specs.PortLines.{LineGoes, StoresOrDrops};

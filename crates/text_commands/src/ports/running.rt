@@ -1,7 +1,6 @@
 // A text of port accesses is read and run to its end, or up to what stops it.
 ghost use Rattle.std.specs.Prelude.{◌≡◌, ◌≢◌};
-ghost use Rattle.sector_model.specs.Faults.{Blames};
-ghost use Rattle.pc_bus.specs.Boards.{board};
+ghost use Rattle.text_commands.specs.Common.{Blames, board};
 ghost use Rattle.text_commands.specs.Benches.{AreNamed, IsBare, bench_of, no_names};
 ghost use Rattle.text_commands.specs.PortFaults.{Ran, RanPart, faulty_of};
 ghost use Rattle.text_commands.specs.PortGuards.{RunsBare};

@@ -1,8 +1,7 @@
 // The line that prints an answer.
 ghost use Rattle.std.specs.Prelude.{◌≡◌, ◌≢◌, ◌++◌, codes, Some, IfOk, OnErr, string_bytes};
-ghost use Rattle.floppy_jobs.specs.Spelling.{hex2};
+ghost use Rattle.text_commands.specs.Common.{hex2, reason_text, line_end};
 ghost use Rattle.commands.specs.Puts.{Puts, printed_of};
-ghost use Rattle.sector_model.specs.Texts.{reason_text, line_end};
 ghost use Rattle.text_commands.specs.PortTexts.{answer_lines, latch_text, port_text, verb_text};
 
 use crate::ports::answer::LineAnswer;

@@ -1,6 +1,5 @@
 use Rattle.std.proofs.Common.{◌≡◌, ◌+◌, ◌<◌, ◌∷◌, ◌++◌, [], ℕ, refl, sym, arith, ap, ◌∙◌, take, drop, get_or, List, length, length-drop}
-use Rattle.std.proofs.lemmas.List.{take_more, take_all, get_or-drop, length-set}
-use Rattle.std.proofs.lemmas.Grind.{take-set_at}
+use Rattle.bios_int13.proofs.Common.{take_more, take_all, get_or-drop, length-set, take-set_at}
 use Rattle.bios_int13.proofs.service.bytes_at.Goals as goal
 
 pub loop-i-preserved : goal.loop-i-preserved

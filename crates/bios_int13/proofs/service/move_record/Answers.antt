@@ -1,4 +1,4 @@
-use Rattle.bios_int13.proofs.Serving.{as_read, as_write, write_moves}
+use Rattle.bios_int13.proofs.Serving.{as_write, write_moves}
 use Rattle.bios_int13.proofs.service.move_record.Goals as goal
 
 pub returns-in-Write-clause-moves : goal.returns-in-Write-clause-moves

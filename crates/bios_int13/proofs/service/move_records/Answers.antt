@@ -1,10 +1,7 @@
 use Rattle.std.proofs.Common.{◌≡◌, ◌+◌, ◌∷◌, ◌++◌, [], ℕ, refl, sym, ap, ◌∙◌, subst, arith, suc, drop, List, Ok, Err}
-use Rattle.floppy_jobs.specs.declared.request.Request.{Request}
+use Rattle.bios_int13.proofs.Common.{Request, SameOutside, Kind, AreDone, All, UpToOne, MovesRecord, record_request, record_behind, place_of_record, record_requests}
 use Rattle.sector_model.specs.declared.reply.Reply.TheVariants as reply
 use Rattle.sector_model.specs.declared.reply.Reason.TheVariants as reason
-use Rattle.flop_base.specs.Memory.{SameOutside}
-use Rattle.bios_int13.specs.declared.work.Kind.{Kind}
-use Rattle.bios_int13.specs.Services.{AreDone, All, UpToOne, MovesRecord, record_request, record_behind, place_of_record, record_requests}
 use Rattle.floppy_session.proofs.OtherBytes.{outside_itself}
 use Rattle.bios_int13.proofs.Serving.{done_none, done_more, no_records, records_more, records_long, records_parted, outside_after}
 use Rattle.bios_int13.proofs.service.move_records.Goals as goal

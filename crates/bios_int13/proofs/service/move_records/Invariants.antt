@@ -1,9 +1,5 @@
 use Rattle.std.proofs.Common.{◌≡◌, ◌+◌, ◌≤◌, List, length, Option}
-use Rattle.flop_base.specs.Shelf.{Files}
-use Rattle.flop_base.specs.Memory.{SameOutside}
-use Rattle.sector_model.specs.Runs.{Taken}
-use Rattle.bios_int13.specs.declared.work.Kind.TheVariants.{Verify}
-use Rattle.bios_int13.specs.Services.{AreDone, record_requests}
+use Rattle.bios_int13.proofs.Common.{Files, SameOutside, Taken, Verify, AreDone, record_requests}
 use Rattle.bios_int13.proofs.service.move_records.Given as goal
 
 abbrev pub invariant-loop-i : goal.invariant-loop-i

@@ -1,8 +1,5 @@
 use Rattle.std.proofs.Common.{◌∷◌, ◌++◌, [], List, None, sym, ap, ◌∙◌, subst, arith}
-use Rattle.std.proofs.lemmas.List.{take_all}
-use Rattle.floppy_jobs.specs.declared.request.Request.{Request}
-use Rattle.flop_base.specs.Lists.{with_items}
-use Rattle.bios_int13.specs.Services.{AreDone, put_request}
+use Rattle.bios_int13.proofs.Common.{take_all, Request, with_items, AreDone, put_request}
 use Rattle.floppy_session.proofs.Memories.{with_items-nil}
 use Rattle.bios_int13.proofs.Serving.{done_none, puts_more, put_memory, puts_are}
 use Rattle.bios_int13.proofs.service.put_back.Goals as goal

@@ -1,9 +1,5 @@
 use Rattle.std.proofs.Common.{◌≡◌, List, map, take, Option}
-use Rattle.std.specs.List.{range_with_len}
-use Rattle.flop_base.specs.Shelf.{Files}
-use Rattle.flop_base.specs.Lists.{with_items}
-use Rattle.sector_model.specs.Runs.{Taken}
-use Rattle.bios_int13.specs.Services.{AreDone, put_request}
+use Rattle.bios_int13.proofs.Common.{range_with_len, Files, with_items, Taken, AreDone, put_request}
 use Rattle.bios_int13.proofs.service.put_back.Given as goal
 
 abbrev pub invariant-loop-i : goal.invariant-loop-i

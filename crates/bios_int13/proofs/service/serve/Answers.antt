@@ -1,6 +1,5 @@
 use Rattle.std.proofs.Common.{subst}
-use Rattle.bios_int13.specs.declared.work.Work.{Work}
-use Rattle.bios_int13.specs.Services.{DoesWork}
+use Rattle.bios_int13.proofs.Common.{Work, DoesWork}
 use Rattle.bios_int13.proofs.service.serve.Goals as goal
 
 pub returns : goal.returns

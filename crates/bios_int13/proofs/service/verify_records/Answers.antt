@@ -1,6 +1,5 @@
 use Rattle.std.proofs.Common.{◌++◌, ℕ, List, refl, ap, ◌∙◌, subst}
-use Rattle.flop_base.specs.Lists.{with_items}
-use Rattle.bios_int13.specs.Services.{AreDone, put_requests}
+use Rattle.bios_int13.proofs.Common.{with_items, AreDone, put_requests}
 use Rattle.bios_int13.proofs.Serving.{put_back_all}
 use Rattle.bios_int13.proofs.service.verify_records.Goals as goal
 

@@ -1,8 +1,6 @@
 use Rattle.std.proofs.Common.{◌≡◌, ◌++◌, take}
-use Rattle.std.specs.List.{flat_map}
+use Rattle.commands.proofs.Common.{flat_map, hex5, dump_byte}
 use Rattle.std.specs.Prelude.{string_bytes}
-use Rattle.floppy_jobs.specs.Spelling.{hex5}
-use Rattle.sector_model.specs.Texts.{dump_byte}
 use Rattle.commands.proofs.lines.dump_line.Given as goal
 
 abbrev pub invariant-loop-value : goal.invariant-loop-value

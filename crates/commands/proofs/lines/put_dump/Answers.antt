@@ -1,5 +1,5 @@
 use Rattle.std.proofs.Common.{arith, refl, rules, ◌≡◌, ap, sym, ◌∙◌, ◌+◌, ◌-◌, ◌*◌, ◌/◌, ◌<◌, length, take, drop, ℕ, min}
-use Rattle.flop_base.specs.Sink.{grown}
+use Rattle.commands.proofs.Common.{grown}
 use Rattle.commands.proofs.DumpLines.{grown-nothing, lines_below, lines-none, lines-all, line-put, line-cut, row_of-line, on_err}
 use Rattle.commands.proofs.lines.put_dump.Goals as goal
 

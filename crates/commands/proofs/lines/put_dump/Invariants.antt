@@ -1,5 +1,5 @@
 use Rattle.std.proofs.Common.{◌≡◌, ◌+◌, ◌*◌, ◌%◌}
-use Rattle.flop_base.specs.Sink.{grown}
+use Rattle.commands.proofs.Common.{grown}
 use Rattle.commands.proofs.DumpLines.{lines_below}
 use Rattle.commands.proofs.lines.put_dump.Given as goal
 

@@ -1,5 +1,5 @@
 use Rattle.std.proofs.Common.{rules}
-use Rattle.commands.specs.LastLines.{stopped_text}
+use Rattle.commands.proofs.Common.{stopped_text}
 use Rattle.commands.proofs.lines.put_last_stopped.Goals as goal
 
 pub returns : goal.returns

@@ -1,5 +1,5 @@
 use Rattle.std.proofs.Common.{rules}
-use Rattle.commands.specs.LastLines.{unfit_text}
+use Rattle.commands.proofs.Common.{unfit_text}
 use Rattle.commands.proofs.lines.put_last_unfit.Goals as goal
 
 pub returns : goal.returns

@@ -1,5 +1,4 @@
-use Rattle.commands.specs.Parts.{formats}
-use Rattle.commands.specs.Leading.{IsTurning}
+use Rattle.commands.proofs.Common.{formats, IsTurning}
 use Rattle.commands.proofs.opening.format_cylinder.Given as goal
 
 abbrev pub invariant-loop-h : goal.invariant-loop-h

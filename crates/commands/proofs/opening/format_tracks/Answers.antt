@@ -1,5 +1,5 @@
 use Rattle.std.proofs.Common.{arith}
-use Rattle.std.proofs.lemmas.Result.{err_from_is_err_and}
+use Rattle.commands.proofs.Common.{err_from_is_err_and}
 use Rattle.commands.proofs.Looping.{begins, goes_on, ends, over}
 use Rattle.commands.proofs.opening.format_tracks.Goals as goal
 

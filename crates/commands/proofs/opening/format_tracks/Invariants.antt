@@ -1,5 +1,4 @@
-use Rattle.commands.specs.Parts.{each, formats}
-use Rattle.commands.specs.Leading.{IsTurning}
+use Rattle.commands.proofs.Common.{each, formats, IsTurning}
 use Rattle.commands.proofs.opening.format_tracks.Given as goal
 
 abbrev pub invariant-loop-c : goal.invariant-loop-c

@@ -1,5 +1,4 @@
-use Rattle.commands.specs.Leading.{IsTurning}
-use Rattle.disk_commands.specs.Copy.{copies_track}
+use Rattle.disk_commands.proofs.Common.{IsTurning, copies_track}
 use Rattle.disk_commands.proofs.copy.copy_cylinder.Given as goal
 
 abbrev pub invariant-loop-h : goal.invariant-loop-h

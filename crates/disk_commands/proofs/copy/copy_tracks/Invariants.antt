@@ -1,6 +1,4 @@
-use Rattle.commands.specs.Parts.{each}
-use Rattle.commands.specs.Leading.{IsTurning}
-use Rattle.disk_commands.specs.Copy.{copies_track}
+use Rattle.disk_commands.proofs.Common.{each, IsTurning, copies_track}
 use Rattle.disk_commands.proofs.copy.copy_tracks.Given as goal
 
 abbrev pub invariant-loop-c : goal.invariant-loop-c

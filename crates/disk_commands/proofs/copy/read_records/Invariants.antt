@@ -1,5 +1,4 @@
-use Rattle.commands.specs.Leading.{IsTurning}
-use Rattle.disk_commands.specs.Copy.{no_marks, reads_record}
+use Rattle.disk_commands.proofs.Common.{IsTurning, no_marks, reads_record}
 use Rattle.disk_commands.proofs.copy.read_records.Given as goal
 
 abbrev pub invariant-loop-r : goal.invariant-loop-r

@@ -1,5 +1,4 @@
-use Rattle.commands.specs.Leading.{IsTurning}
-use Rattle.disk_commands.specs.Copy.{writes_record}
+use Rattle.disk_commands.proofs.Common.{IsTurning, writes_record}
 use Rattle.disk_commands.proofs.copy.write_records.Given as goal
 
 abbrev pub invariant-loop-r : goal.invariant-loop-r

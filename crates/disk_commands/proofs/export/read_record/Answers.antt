@@ -1,10 +1,6 @@
 use Rattle.std.proofs.Common.{rules, ℕ, List, ◌++◌}
-use Rattle.flop_base.specs.Memory.{bytes_from}
+use Rattle.disk_commands.proofs.Common.{bytes_from, Script, may_starve, record_address, fed}
 use Rattle.sector_model.specs.States.{State}
-use Rattle.commands.specs.Scripts.{Script}
-use Rattle.commands.specs.Parts.{may_starve}
-use Rattle.commands.specs.Records.{record_address}
-use Rattle.commands.proofs.Running.{fed}
 use Rattle.disk_commands.specs.Export.{reads_record}
 use Rattle.disk_commands.proofs.export.read_record.Goals as goal
 

@@ -1,6 +1,5 @@
 use Rattle.std.proofs.Common.{arith}
-use Rattle.std.proofs.lemmas.Result.{err_from_is_err_and}
-use Rattle.commands.proofs.Looping.{begins}
+use Rattle.disk_commands.proofs.Common.{err_from_is_err_and, begins}
 use Rattle.disk_commands.specs.Export.{reads_track}
 use Rattle.disk_commands.proofs.FlatTurns.{bytes_go, bytes_end, bytes_over}
 use Rattle.disk_commands.proofs.export.read_track.Goals as goal

@@ -1,4 +1,4 @@
-use Rattle.commands.specs.Leading.{IsTurning}
+use Rattle.disk_commands.proofs.Common.{IsTurning}
 use Rattle.disk_commands.specs.Export.{reads_record}
 use Rattle.disk_commands.proofs.export.read_track.Given as goal
 

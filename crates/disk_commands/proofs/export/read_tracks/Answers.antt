@@ -1,9 +1,5 @@
 use Rattle.std.proofs.Common.{arith, List, ℕ, Ok, Err, subst}
-use Rattle.std.proofs.lemmas.Result.{err_from_is_err_and}
-use Rattle.commands.specs.Parts.{Part}
-use Rattle.commands.specs.Leading.{RanPart}
-use Rattle.commands.proofs.Looping.{begins}
-use Rattle.disk_commands.specs.Export.{reads_track, GoesOn}
+use Rattle.disk_commands.proofs.Common.{err_from_is_err_and, Part, RanPart, begins, reads_track, GoesOn}
 use Rattle.disk_commands.proofs.FlatTurns.{bytes_go, bytes_end, bytes_over}
 use Rattle.disk_commands.proofs.FlatTracks.{tracks_same}
 use Rattle.disk_commands.proofs.export.read_tracks.Goals as goal

@@ -1,5 +1,4 @@
-use Rattle.commands.specs.Leading.{IsTurning}
-use Rattle.disk_commands.specs.Export.{reads_track}
+use Rattle.disk_commands.proofs.Common.{IsTurning, reads_track}
 use Rattle.disk_commands.proofs.FlatTracks.{of_track}
 use Rattle.disk_commands.proofs.export.read_tracks.Given as goal
 

@@ -1,6 +1,5 @@
 use Rattle.std.proofs.Common.{arith}
-use Rattle.std.proofs.lemmas.Result.{err_from_is_err_and}
-use Rattle.commands.proofs.Looping.{begins, goes_on, ends, over}
+use Rattle.disk_commands.proofs.Common.{err_from_is_err_and, begins, goes_on, ends, over}
 use Rattle.disk_commands.specs.Import.{fills_record, fills_byte}
 use Rattle.disk_commands.proofs.import.fill_record.Goals as goal
 

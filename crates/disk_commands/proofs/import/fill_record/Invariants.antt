@@ -1,5 +1,4 @@
-use Rattle.commands.specs.Leading.{IsTurning}
-use Rattle.disk_commands.specs.Import.{fills_byte}
+use Rattle.disk_commands.proofs.Common.{IsTurning, fills_byte}
 use Rattle.disk_commands.proofs.import.fill_record.Given as goal
 
 abbrev pub invariant-loop-i : goal.invariant-loop-i

@@ -1,7 +1,5 @@
-use Rattle.commands.specs.Leading.{IsTurning}
+use Rattle.disk_commands.proofs.Common.{IsTurning, record_address, fills_record}
 use Rattle.sector_map.specs.Flat.{sector_place}
-use Rattle.commands.specs.Records.{record_address}
-use Rattle.disk_commands.specs.Import.{fills_record}
 use Rattle.disk_commands.proofs.import.fill_track.Given as goal
 
 abbrev pub invariant-loop-r : goal.invariant-loop-r

@@ -1,9 +1,5 @@
 use Rattle.std.proofs.Common.{arith, Ok, Err, subst}
-use Rattle.std.proofs.lemmas.Result.{err_from_is_err_and}
-use Rattle.commands.proofs.Looping.{begins, goes_on, ends, over}
-use Rattle.commands.specs.Parts.{Part}
-use Rattle.commands.specs.Leading.{Goes, RanPart}
-use Rattle.disk_commands.specs.Import.{imports_track}
+use Rattle.disk_commands.proofs.Common.{err_from_is_err_and, begins, goes_on, ends, over, Part, Goes, RanPart, imports_track}
 use Rattle.disk_commands.proofs.FlatTracks.{tracks_same}
 use Rattle.disk_commands.proofs.import.import_tracks.Goals as goal
 

@@ -1,5 +1,4 @@
-use Rattle.commands.specs.Leading.{IsTurning}
-use Rattle.disk_commands.specs.Import.{imports_track}
+use Rattle.disk_commands.proofs.Common.{IsTurning, imports_track}
 use Rattle.disk_commands.proofs.FlatTracks.{of_track}
 use Rattle.disk_commands.proofs.import.import_tracks.Given as goal
 

@@ -1,4 +1,4 @@
-use Rattle.commands.specs.Leading.{IsTurning}
+use Rattle.disk_commands.proofs.Common.{IsTurning}
 use Rattle.disk_commands.specs.Import.{writes_record}
 use Rattle.disk_commands.proofs.import.write_track.Given as goal
 

@@ -1,5 +1,6 @@
 use Rattle.std.proofs.Common.{rules}
-use Rattle.disk_commands.specs.Rescue.{bad_log_text, tells_no_log}
+use Rattle.disk_commands.proofs.Common.{bad_log_text}
+use Rattle.disk_commands.specs.Rescue.{tells_no_log}
 use Rattle.disk_commands.proofs.RescueEndings.{no_file_fault}
 use Rattle.disk_commands.proofs.logs.tell_no_log.Goals as goal
 

@@ -1,7 +1,5 @@
 use Rattle.std.proofs.Common.{arith, ◌<◌, length}
-use Rattle.std.proofs.lemmas.Result.{err_from_is_err_and}
-use Rattle.flop_base.specs.declared.key.Chrn.{Chrn}
-use Rattle.commands.proofs.Looping.{amid_goes, amid_ends, amid_over}
+use Rattle.disk_commands.proofs.Common.{err_from_is_err_and, Chrn, amid_goes, amid_ends, amid_over}
 use Rattle.disk_commands.proofs.RescueTurns.{key_goes, key_ends, keys_over}
 use Rattle.disk_commands.proofs.records.rescue_records.Goals as goal
 

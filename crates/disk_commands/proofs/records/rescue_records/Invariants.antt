@@ -1,5 +1,5 @@
 use Rattle.std.proofs.Common.{[]}
-use Rattle.commands.specs.Leading.{IsAmid}
+use Rattle.disk_commands.proofs.Common.{IsAmid}
 use Rattle.disk_commands.proofs.RescueTurns.{IsAtKey}
 use Rattle.disk_commands.proofs.records.rescue_records.Given as goal
 

@@ -1,5 +1,5 @@
 use Rattle.std.proofs.Common.{rules, arith, ◌≡◌, ap, length, ◌∙◌}
-use Rattle.disk_commands.specs.Rescue.{stores_log}
+use Rattle.disk_commands.proofs.Common.{stores_log}
 use Rattle.disk_commands.proofs.RescueEndings.{keys_starved, found_begins}
 use Rattle.disk_commands.proofs.rescuing.rescue_found.Goals as goal
 

@@ -1,5 +1,6 @@
 use Rattle.std.proofs.Common.{rules}
-use Rattle.disk_commands.specs.Verify.{failure_line, tells_failure}
+use Rattle.disk_commands.proofs.Common.{failure_line}
+use Rattle.disk_commands.specs.Verify.{tells_failure}
 use Rattle.disk_commands.proofs.verify.tell_failure.Goals as goal
 
 pub returns-in-Refused : goal.returns-in-Refused

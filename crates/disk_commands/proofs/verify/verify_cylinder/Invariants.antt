@@ -1,6 +1,5 @@
 use Rattle.std.proofs.Common.{◌≤◌, ◌+◌, ◌*◌}
-use Rattle.commands.specs.Leading.{IsTurning}
-use Rattle.disk_commands.specs.Verify.{verifies_track}
+use Rattle.disk_commands.proofs.Common.{IsTurning, verifies_track}
 use Rattle.disk_commands.proofs.verify.verify_cylinder.Given as goal
 
 abbrev pub invariant-loop-h : goal.invariant-loop-h

@@ -1,6 +1,5 @@
 use Rattle.std.proofs.Common.{◌≤◌, ◌+◌}
-use Rattle.commands.specs.Leading.{IsTurning}
-use Rattle.disk_commands.specs.Verify.{verifies_record}
+use Rattle.disk_commands.proofs.Common.{IsTurning, verifies_record}
 use Rattle.disk_commands.proofs.verify.verify_track.Given as goal
 
 abbrev pub invariant-loop-r : goal.invariant-loop-r

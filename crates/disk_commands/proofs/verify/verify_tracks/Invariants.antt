@@ -1,7 +1,5 @@
 use Rattle.std.proofs.Common.{◌≤◌, ◌+◌, ◌*◌}
-use Rattle.commands.specs.Parts.{each}
-use Rattle.commands.specs.Leading.{IsTurning}
-use Rattle.disk_commands.specs.Verify.{verifies_track}
+use Rattle.disk_commands.proofs.Common.{each, IsTurning, verifies_track}
 use Rattle.disk_commands.proofs.verify.verify_tracks.Given as goal
 
 abbrev pub invariant-loop-c : goal.invariant-loop-c

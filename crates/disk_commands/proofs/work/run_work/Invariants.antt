@@ -1,6 +1,5 @@
 use Rattle.std.proofs.Common.{◌≡◌, ◌≤◌, ◌+◌, ◌*◌}
-use Rattle.commands.specs.Leading.{IsTurning}
-use Rattle.disk_commands.specs.Workload.{number_after}
+use Rattle.disk_commands.proofs.Common.{IsTurning, number_after}
 use Rattle.disk_commands.specs.Exercise.{no_work, works_behind}
 use Rattle.disk_commands.proofs.work.run_work.Given as goal
 

@@ -1,5 +1,5 @@
 use Rattle.std.proofs.Common.{◌≤◌, ◌≡◌, ◌*◌, sum}
-use Rattle.flop_base.specs.Memory.{bytes_from}
+use Rattle.disk_commands.proofs.Common.{bytes_from}
 use Rattle.disk_commands.proofs.work.sum_read.Given as goal
 
 abbrev pub invariant-loop-i : goal.invariant-loop-i

@@ -1,5 +1,5 @@
 use Rattle.std.proofs.Common.{take}
-use Rattle.fdc_core.specs.Contents.{TakesBytes}
+use Rattle.fdc_core.proofs.Common.{TakesBytes}
 use Rattle.fdc_core.proofs.contents.take_bytes.Given as goal
 
 abbrev pub invariant-loop-i : goal.invariant-loop-i

@@ -1,6 +1,5 @@
 use Rattle.std.proofs.Common.{refl, subst}
-use Rattle.drive_model.specs.Ahead.{AreAhead}
-use Rattle.fdc_phases.specs.Phases.{head_of}
+use Rattle.fdc_core.proofs.Common.{AreAhead, head_of}
 use Rattle.fdc_core.proofs.Coursing.{passes_first}
 use Rattle.fdc_core.proofs.courses.pass_many.Goals as goal
 

@@ -1,7 +1,5 @@
 use Rattle.std.proofs.Common.{refl, subst, List, ℕ, []}
-use Rattle.std.proofs.lemmas.Bool.{false≢true}
-use Rattle.fdc_stages.specs.Readings.{IsReading}
-use Rattle.fdc_core.specs.Fields.{heard_words}
+use Rattle.fdc_core.proofs.Common.{false≢true, IsReading, heard_words}
 use Rattle.fdc_core.proofs.fields.reading_field.Goals as goal
 
 pub returns : goal.returns

@@ -1,6 +1,5 @@
 use Rattle.std.proofs.Common.{[], take}
-use Rattle.fdc_stages.specs.Readings.{IsReading}
-use Rattle.fdc_core.specs.Fields.{heard_words}
+use Rattle.fdc_core.proofs.Common.{IsReading, heard_words}
 use Rattle.fdc_core.proofs.fields.stage_behind.Given as goal
 
 abbrev pub invariant-loop-word : goal.invariant-loop-word

@@ -1,4 +1,4 @@
-use Rattle.fdc_stages.specs.Readings.{IsContent}
+use Rattle.fdc_core.proofs.Common.{IsContent}
 use Rattle.fdc_core.proofs.Quieting.{HasGivenBytes}
 use Rattle.fdc_core.proofs.quiet.count_bytes.Given as goal
 

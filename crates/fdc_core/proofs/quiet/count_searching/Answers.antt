@@ -1,5 +1,5 @@
 use Rattle.std.proofs.Common.{◌≡◌, arith, length, refl, subst, take}
-use Rattle.fdc_core.specs.Quiet.{MeetsNothing}
+use Rattle.fdc_core.proofs.Common.{MeetsNothing}
 use Rattle.fdc_core.proofs.Quieting.{heard_none, hears_next, hears_nothing}
 use Rattle.fdc_core.proofs.Stopped.{meets_by}
 use Rattle.fdc_core.proofs.quiet.count_searching.Goals as goal

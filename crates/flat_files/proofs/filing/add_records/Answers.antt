@@ -1,6 +1,5 @@
 use Rattle.std.proofs.Common.{◌≡◌, ℕ, arith, subst}
-use Rattle.flat_files.specs.Files.{AddsRecords}
-use Rattle.flat_files.specs.Forms.{cylinder_of, head_of}
+use Rattle.flat_files.proofs.Common.{AddsRecords, cylinder_of, head_of}
 use Rattle.flat_files.proofs.Filed.{more_records, more_tracks, next_lacks, no_records}
 use Rattle.flat_files.proofs.filing.add_records.Goals as goal
 

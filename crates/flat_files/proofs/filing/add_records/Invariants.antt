@@ -1,5 +1,4 @@
-use Rattle.flat_files.specs.Files.{AddsRecords}
-use Rattle.flat_files.specs.Forms.{cylinder_of, head_of}
+use Rattle.flat_files.proofs.Common.{AddsRecords, cylinder_of, head_of}
 use Rattle.flat_files.proofs.filing.add_records.Given as goal
 
 abbrev pub invariant-loop-i : goal.invariant-loop-i

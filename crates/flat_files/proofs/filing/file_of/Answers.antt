@@ -1,6 +1,5 @@
 use Rattle.std.proofs.Common.{◌≡◌, ℕ, arith, subst}
-use Rattle.flat_files.specs.Files.{AreOfTracks}
-use Rattle.flat_files.specs.Forms.{tracks_of}
+use Rattle.flat_files.proofs.Common.{AreOfTracks, tracks_of}
 use Rattle.flat_files.proofs.Filed.{no_tracks}
 use Rattle.flat_files.proofs.filing.file_of.Goals as goal
 

@@ -1,4 +1,4 @@
-use Rattle.flat_files.specs.Files.{AreOfTracks}
+use Rattle.flat_files.proofs.Common.{AreOfTracks}
 use Rattle.flat_files.proofs.filing.file_of.Given as goal
 
 abbrev pub invariant-loop-track : goal.invariant-loop-track

@@ -1,5 +1,5 @@
 use Rattle.std.specs.Prelude.{◌≡◌, drop, find}
-use Rattle.flat_files.specs.Files.{is_track}
+use Rattle.flat_files.proofs.Common.{is_track}
 use Rattle.flat_files.proofs.finding.sectors_on.Given as goal
 
 abbrev pub invariant-loop-track : goal.invariant-loop-track

@@ -1,5 +1,5 @@
 use Rattle.std.specs.Prelude.{◌≡◌, drop, find}
-use Rattle.flat_files.specs.Files.{is_wanted}
+use Rattle.flat_files.proofs.Common.{is_wanted}
 use Rattle.flat_files.proofs.finding.wanted.Given as goal
 
 abbrev pub invariant-loop-sector : goal.invariant-loop-sector

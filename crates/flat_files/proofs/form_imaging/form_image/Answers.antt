@@ -1,11 +1,5 @@
 use Rattle.std.proofs.Common.{◌≡◌, ◌∙◌, All, List, ap, arith, map, subst, sym}
-use Rattle.std.proofs.lemmas.List.Elements.{All-push}
-use Rattle.std.specs.List.{range_with_len}
-use Rattle.imagedisk.specs.Images.{IsImdImage, IsImdTrack}
-use Rattle.imagedisk.specs.declared.image.ImdImage.{ImdImage}
-use Rattle.imagedisk.specs.declared.track.ImdTrack.{ImdTrack}
-use Rattle.flat_files.specs.Forms.{tracks_of}
-use Rattle.flat_files.specs.FormMaking.{form_track}
+use Rattle.flat_files.proofs.Common.{All-push, range_with_len, IsImdImage, IsImdTrack, ImdImage, ImdTrack, tracks_of, form_track}
 use Rattle.flat_files.proofs.FormValid.{pushed_more, valid_image}
 use Rattle.flat_files.proofs.form_imaging.form_image.Goals as goal
 

@@ -1,7 +1,5 @@
 use Rattle.std.proofs.Common.{◌≡◌, All, map}
-use Rattle.std.specs.List.{range_with_len}
-use Rattle.imagedisk.specs.Images.{IsImdTrack}
-use Rattle.flat_files.specs.FormMaking.{form_track}
+use Rattle.flat_files.proofs.Common.{range_with_len, IsImdTrack, form_track}
 use Rattle.flat_files.proofs.form_imaging.form_image.Given as goal
 
 abbrev pub invariant-loop-track : goal.invariant-loop-track

@@ -1,8 +1,5 @@
 use Rattle.std.proofs.Common.{◌≡◌, ◌∙◌, ap, arith, length}
-use Rattle.std.proofs.lemmas.List.Elements.{All-push}
-use Rattle.std.proofs.lemmas.List.FromFn.{length-map-range_with_len}
-use Rattle.imagedisk.specs.Images.{IsImdSector}
-use Rattle.flat_files.specs.FormMaking.{form_sector}
+use Rattle.flat_files.proofs.Common.{All-push, length-map-range_with_len, IsImdSector, form_sector}
 use Rattle.flat_files.proofs.FormValid.{pushed_more}
 use Rattle.flat_files.proofs.form_imaging.form_track.Goals as goal
 

@@ -1,7 +1,5 @@
 use Rattle.std.proofs.Common.{◌≡◌, All, map}
-use Rattle.std.specs.List.{range_with_len}
-use Rattle.imagedisk.specs.Images.{IsImdSector}
-use Rattle.flat_files.specs.FormMaking.{form_sector}
+use Rattle.flat_files.proofs.Common.{range_with_len, IsImdSector, form_sector}
 use Rattle.flat_files.proofs.form_imaging.form_track.Given as goal
 
 abbrev pub invariant-loop-i : goal.invariant-loop-i

@@ -1,10 +1,5 @@
 use Rattle.std.proofs.Common.{◌≡◌, ◌∙◌, All, List, ap, arith, map, subst, sym}
-use Rattle.std.proofs.lemmas.List.Elements.{All-push}
-use Rattle.std.specs.List.{range_with_len}
-use Rattle.imagedisk.specs.Images.{IsImdImage, IsImdTrack}
-use Rattle.imagedisk.specs.declared.image.ImdImage.{ImdImage}
-use Rattle.imagedisk.specs.declared.track.ImdTrack.{ImdTrack}
-use Rattle.flat_files.specs.Flats.{flat_track}
+use Rattle.flat_files.proofs.Common.{All-push, range_with_len, IsImdImage, IsImdTrack, ImdImage, ImdTrack, flat_track}
 use Rattle.flat_files.proofs.Valid.{pushed_more, valid_image}
 use Rattle.flat_files.proofs.imaging.flat_image.Goals as goal
 

@@ -1,6 +1,4 @@
-use Rattle.std.proofs.lemmas.List.Elements.{All-push}
-use Rattle.imagedisk.specs.Images.{IsImdSector}
-use Rattle.flat_files.specs.Flats.{flat_sector}
+use Rattle.flat_files.proofs.Common.{All-push, IsImdSector, flat_sector}
 use Rattle.flat_files.proofs.Valid.{pushed_more}
 use Rattle.flat_files.proofs.imaging.flat_track.Goals as goal
 

@@ -1,11 +1,7 @@
 use Rattle.std.proofs.Common.{◌≡◌, ◌∙◌, ap, subst, sym}
 use Rattle.std.specs.Prelude.{Err}
-use Rattle.track_format.specs.Gaps.{narrow_gap}
-use Rattle.imagedisk.specs.Found.{HasImage}
-use Rattle.imagedisk.specs.Made.{IsFirstCrowded, IsMediumOf, MakesDisk}
+use Rattle.flat_files.proofs.Common.{narrow_gap, HasImage, IsFirstCrowded, IsMediumOf, MakesDisk, ImdImage, flat_image, rate_of}
 use Rattle.imagedisk.specs.declared.error.ImdError.{ImdError}
-use Rattle.imagedisk.specs.declared.image.ImdImage.{ImdImage}
-use Rattle.flat_files.specs.Flats.{flat_image, rate_of}
 use Rattle.flat_files.proofs.Valid.{not_crowded}
 use Rattle.flat_files.proofs.making.flat_medium.Goals as goal
 

@@ -1,5 +1,5 @@
 use Rattle.std.proofs.Common.{◌*◌}
-use Rattle.floppy_driver.specs.Rigs.{CostsFor}
+use Rattle.floppy_driver.proofs.Common.{CostsFor}
 use Rattle.floppy_driver.proofs.Rounds.{HasFoundNone}
 use Rattle.floppy_driver.proofs.acknowledging.find_rate.Given as goal
 

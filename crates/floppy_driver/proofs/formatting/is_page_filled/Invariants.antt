@@ -1,4 +1,4 @@
-use Rattle.floppy_driver.specs.Formattings.{IsFilled}
+use Rattle.floppy_driver.proofs.Common.{IsFilled}
 use Rattle.floppy_driver.proofs.formatting.is_page_filled.Given as goal
 
 abbrev pub invariant-loop-i : goal.invariant-loop-i

@@ -1,10 +1,5 @@
 use Rattle.std.proofs.Common.{arith, ◌+◌, ◌-◌, rules}
-use Rattle.std.proofs.lemmas.Grind.{common_steps}
-use Rattle.std.proofs.lemmas.Result.{err_from_is_err_and}
-use Rattle.flop_base.specs.Standard.{sectors_at}
-use Rattle.floppy_driver.specs.Rigs.{track_under}
-use Rattle.sector_map.specs.Standard.{key_of}
-use Rattle.floppy_driver.specs.Formattings.{IsBlankUnder, HoldsRecord, HoldsRecords}
+use Rattle.floppy_driver.proofs.Common.{common_steps, err_from_is_err_and, sectors_at, track_under, key_of, IsBlankUnder, HoldsRecord, HoldsRecords}
 use Rattle.floppy_driver.proofs.Lasting.{costs_fewer, costs_next}
 use Rattle.floppy_driver.proofs.ReadBacks.{reads_failed, held_next, blank_next}
 use Rattle.floppy_driver.proofs.formatting.read_back_all.Goals as goal

@@ -1,8 +1,5 @@
 use Rattle.std.proofs.Common.{◌≡◌, ◌-◌, ◌*◌, true, Ok}
-use Rattle.flop_base.specs.Standard.{sectors_at}
-use Rattle.flop_base.specs.Bays.{in_bay}
-use Rattle.floppy_driver.specs.Rigs.{CostsFor, IsSound, track_under}
-use Rattle.floppy_driver.specs.Formattings.{IsBlankUnder, HoldsRecords, ReadsRecords}
+use Rattle.floppy_driver.proofs.Common.{sectors_at, in_bay, CostsFor, IsSound, track_under, IsBlankUnder, HoldsRecords, ReadsRecords}
 use Rattle.floppy_driver.proofs.formatting.read_back_all.Given as goal
 
 abbrev pub invariant-loop-r : goal.invariant-loop-r

@@ -1,7 +1,5 @@
 use Rattle.std.proofs.Common.{subst, sym, ◌∙◌, ℕ}
-use Rattle.std.proofs.lemmas.Bool.{false≢true}
-use Rattle.std.proofs.lemmas.Result.{err_from_is_err_and}
-use Rattle.floppy_driver.specs.Formattings.{IsFilled}
+use Rattle.floppy_driver.proofs.Common.{false≢true, err_from_is_err_and, IsFilled}
 use Rattle.floppy_driver.proofs.ReadBacks.{read_back_missed, read_back_differs}
 use Rattle.floppy_driver.proofs.formatting.read_back_filled.Goals as goal
 

@@ -1,4 +1,4 @@
-use Rattle.floppy_driver.specs.Writings.{AreBytesAlike}
+use Rattle.floppy_driver.proofs.Common.{AreBytesAlike}
 use Rattle.floppy_driver.proofs.writing.is_page_alike.Given as goal
 
 -- the bytes so far are alike

@@ -1,6 +1,5 @@
 use Rattle.std.proofs.Common.{◌<◌, refl, sym, subst}
-use Rattle.std.proofs.lemmas.Result.{err_from_is_err_and}
-use Rattle.std.proofs.lemmas.Bool.{false≢true}
+use Rattle.floppy_driver.proofs.Common.{err_from_is_err_and, false≢true}
 use Rattle.floppy_driver.proofs.CheckedWrites.{ends_written, ends_read, ends_marked, ends_other, ends_same, marks_differ, marks_same}
 use Rattle.floppy_driver.proofs.writing.write_checked.Goals as goal
 

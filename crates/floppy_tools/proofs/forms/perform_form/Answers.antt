@@ -2,11 +2,9 @@ use Rattle.std.proofs.Common.{rules, subst, List, ℕ}
 use Rattle.flop_base.specs.declared.answers.Rate.TheVariants.{R500, R250}
 use Rattle.floppy_words.specs.declared.form.Form.TheVariants as form
 use Rattle.commands.specs.Scripts.{RunsScript}
-use Rattle.commands.specs.Leading.{Runs}
+use Rattle.floppy_tools.proofs.Common.{Runs, DoesForm, outside_of}
 use Rattle.commands.specs.Hands.{hand_of}
 use Rattle.disk_commands.specs.Format.{format_script}
-use Rattle.floppy_tools.specs.Programs.{DoesForm}
-use Rattle.archive_commands.specs.Files.{outside_of}
 use Rattle.archive_commands.specs.Making.{FromImd, ToImd, Remaster}
 use Rattle.archive_commands.specs.Surveys.{Surveys}
 use Rattle.floppy_tools.proofs.OnFiles.{on_files}

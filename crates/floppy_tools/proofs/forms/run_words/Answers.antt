@@ -1,6 +1,6 @@
 use Rattle.std.proofs.Common.{rules}
 use Rattle.std.specs.Prelude.{map, string_bytes}
-use Rattle.floppy_words.specs.Forms.{form_of}
+use Rattle.floppy_tools.proofs.Common.{form_of}
 use Rattle.floppy_tools.proofs.FormRuns.{read_none}
 use Rattle.floppy_tools.proofs.forms.run_words.Goals as goal
 

@@ -1,5 +1,4 @@
-use Rattle.pc_bus.specs.Boards.{board}
-use Rattle.machine_commands.specs.StationShown.{station_shown}
+use Rattle.floppy_tools.proofs.Common.{board, station_shown}
 use Rattle.floppy_tools.proofs.OnMachines.{shows_as}
 use Rattle.floppy_tools.proofs.machines.into_machine.Goals as goal
 

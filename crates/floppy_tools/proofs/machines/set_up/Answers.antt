@@ -1,5 +1,4 @@
-use Rattle.pc_bus.specs.Boards.{board}
-use Rattle.machine_commands.specs.StationShown.{all_counts, station_shown}
+use Rattle.floppy_tools.proofs.Common.{board, all_counts, station_shown}
 use Rattle.floppy_tools.proofs.OnMachines.{set_up_shown}
 use Rattle.floppy_tools.proofs.machines.set_up.Goals as goal
 

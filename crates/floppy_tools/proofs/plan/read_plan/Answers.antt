@@ -1,4 +1,4 @@
-use Rattle.floppy_tools.specs.Plans.{Unloaded}
+use Rattle.floppy_tools.proofs.Common.{Unloaded}
 use Rattle.floppy_tools.proofs.Unplanned.{ends_unread}
 use Rattle.floppy_tools.proofs.plan.read_plan.Goals as goal
 

@@ -1,4 +1,4 @@
-use Rattle.pc_bus.specs.Boards.{board}
+use Rattle.floppy_tools.proofs.Common.{board}
 use Rattle.floppy_tools.proofs.Ports.{bare}
 use Rattle.floppy_tools.proofs.program.at_ports.Goals as goal
 

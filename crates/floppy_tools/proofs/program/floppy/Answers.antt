@@ -1,14 +1,9 @@
-use Rattle.std.proofs.Common.{rules, ◌≡◌, ◌∙◌, List, Option, Some, ℕ, refl, subst, sym}
+use Rattle.std.proofs.Common.{rules, ◌≡◌, ◌∙◌, List, Option, ℕ, refl, subst, sym}
 use Rattle.std.specs.Prelude.{IsSome, map, string_bytes}
-use Rattle.pc_bus.specs.Boards.{board}
-use Rattle.floppy_words.specs.Forms.{form_of, ports_file_of}
-use Rattle.archive_commands.specs.Files.{outside_of}
-use Rattle.machine_commands.specs.StationShown.{all_counts}
-use Rattle.text_commands.specs.Benches.{Names, no_names}
+use Rattle.floppy_tools.proofs.Common.{board, form_of, ports_file_of, outside_of, all_counts, Names, no_names, RunsOver}
 use Rattle.text_commands.specs.PortGuards.{RunsPorts}
 use Rattle.text_commands.specs.PortPlays.{world_of}
 use Rattle.text_commands.proofs.GuardingPorts.{starves}
-use Rattle.floppy_tools.specs.Machines.{RunsOver}
 use Rattle.floppy_tools.proofs.Ports.{named_file, wants_file}
 use Rattle.floppy_tools.proofs.program.floppy.Goals as goal
 

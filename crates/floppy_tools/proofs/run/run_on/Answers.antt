@@ -1,7 +1,6 @@
 use Rattle.std.proofs.Common.{rules, refl, subst}
 use Rattle.std.specs.Prelude.{map, string_bytes}
-use Rattle.pc_bus.specs.Boards.{board}
-use Rattle.archive_commands.specs.Files.{outside_of}
+use Rattle.floppy_tools.proofs.Common.{board, outside_of}
 use Rattle.floppy_tools.specs.Performed.{DoesWords}
 use Rattle.floppy_tools.proofs.New.{counts_of_spares}
 use Rattle.floppy_tools.proofs.run.run_on.Goals as goal

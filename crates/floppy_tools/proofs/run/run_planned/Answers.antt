@@ -1,7 +1,6 @@
 use Rattle.std.proofs.Common.{rules, inl}
 use Rattle.std.specs.Prelude.{map, string_bytes}
-use Rattle.archive_commands.specs.Files.{outside_of}
-use Rattle.fault_plan.specs.Plan.{lists_of}
+use Rattle.floppy_tools.proofs.Common.{outside_of, lists_of}
 use Rattle.floppy_tools.proofs.New.{as_planned}
 use Rattle.floppy_tools.proofs.run.run_planned.Goals as goal
 

@@ -1,5 +1,5 @@
 use Rattle.std.proofs.Common.{◌∙◌, ap, sym, List, ℕ, [], ◌++◌, ◌∷◌}
-use Rattle.track_model.specs.Bytes.{bytes_at}
+use Rattle.imagedisk.proofs.Common.{bytes_at}
 use Rattle.imagedisk.proofs.Held.{one_more_byte}
 use Rattle.imagedisk.proofs.fields.content_bytes.Goals as goal
 

@@ -1,5 +1,5 @@
 use Rattle.std.proofs.Common.{◌≡◌}
-use Rattle.track_model.specs.Bytes.{bytes_at}
+use Rattle.imagedisk.proofs.Common.{bytes_at}
 use Rattle.imagedisk.proofs.fields.content_bytes.Given as goal
 
 abbrev pub invariant-loop-i : goal.invariant-loop-i

@@ -1,6 +1,5 @@
 use Rattle.std.proofs.Common.{◌∷◌, [], arith, length-append}
-use Rattle.std.proofs.lemmas.List.Elements.{All-push}
-use Rattle.imagedisk.specs.Images.{IsImdSector}
+use Rattle.imagedisk.proofs.Common.{All-push, IsImdSector}
 use Rattle.imagedisk.proofs.Held.{next_sector, at_any, of_code}
 use Rattle.imagedisk.proofs.fields.sectors_of.Goals as goal
 

@@ -1,5 +1,5 @@
 use Rattle.std.proofs.Common.{◌≡◌, length, All}
-use Rattle.imagedisk.specs.Images.{IsImdSector}
+use Rattle.imagedisk.proofs.Common.{IsImdSector}
 use Rattle.imagedisk.proofs.Held.{AreSectorsBelow}
 use Rattle.imagedisk.proofs.fields.sectors_of.Given as goal
 

@@ -1,5 +1,5 @@
 use Rattle.std.proofs.Common.{◌≡◌, ℕ, ◌<◌, get_or}
-use Rattle.track_model.specs.declared.Field.{Field}
+use Rattle.imagedisk.proofs.Common.{Field}
 use Rattle.imagedisk.proofs.fields.size_code_of.Given as goal
 
 abbrev pub invariant-loop-field : goal.invariant-loop-field

@@ -1,7 +1,5 @@
 use Rattle.std.proofs.Common.{ℕ, List, ap, ◌∙◌}
-use Rattle.raw_image.specs.Disk.{blank_disk}
-use Rattle.imagedisk.specs.declared.track.ImdTrack.{ImdTrack}
-use Rattle.imagedisk.specs.Made.{cylinder_count, head_count}
+use Rattle.imagedisk.proofs.Common.{blank_disk, ImdTrack, cylinder_count, head_count}
 use Rattle.imagedisk.proofs.OnMedium.{begun}
 use Rattle.imagedisk.proofs.making.blank_medium.Goals as goal
 

@@ -1,6 +1,6 @@
 use Rattle.std.proofs.Common.{◌≡◌, ◌≤◌, drop}
 use Rattle.std.specs.Prelude.{max}
-use Rattle.imagedisk.specs.Made.{cylinder_count}
+use Rattle.imagedisk.proofs.Common.{cylinder_count}
 use Rattle.imagedisk.proofs.making.cylinder_count.Given as goal
 
 abbrev pub invariant-loop-track : goal.invariant-loop-track

@@ -1,7 +1,5 @@
 use Rattle.std.proofs.Common.{◌≡◌, List, ℕ, get_or, sym, subst, ◌∙◌, ap}
-use Rattle.raw_image.specs.Disk.{HasTrack, IsWithTrack}
-use Rattle.imagedisk.specs.declared.track.ImdTrack.{ImdTrack}
-use Rattle.imagedisk.specs.Made.{IsMadeTrack}
+use Rattle.imagedisk.proofs.Common.{HasTrack, IsWithTrack, ImdTrack, IsMadeTrack}
 use Rattle.imagedisk.proofs.OnMedium.{has_track, next_first}
 use Rattle.imagedisk.proofs.making.put_track.Goals as goal
 

@@ -1,5 +1,5 @@
 use Rattle.std.proofs.Common.{List, ℕ, drop, subst}
-use Rattle.raw_image.specs.Disk.{IsWithTrack, track_start}
+use Rattle.imagedisk.proofs.Common.{IsWithTrack, track_start}
 use Rattle.imagedisk.proofs.OnMedium.{whole_track}
 use Rattle.imagedisk.proofs.making.store_track.Goals as goal
 

@@ -1,5 +1,5 @@
 use Rattle.std.proofs.Common.{◌≡◌, ℕ, length, ap, subst, arith}
-use Rattle.imagedisk.specs.Made.{HasFirst}
+use Rattle.imagedisk.proofs.Common.{HasFirst}
 use Rattle.imagedisk.proofs.Imaged.{medium_has}
 use Rattle.imagedisk.proofs.making.to_medium.Goals as goal
 

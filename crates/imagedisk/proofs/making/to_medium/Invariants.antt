@@ -1,4 +1,4 @@
-use Rattle.imagedisk.specs.Made.{HasFirst}
+use Rattle.imagedisk.proofs.Common.{HasFirst}
 use Rattle.imagedisk.proofs.making.to_medium.Given as goal
 
 abbrev pub invariant-loop-i : goal.invariant-loop-i

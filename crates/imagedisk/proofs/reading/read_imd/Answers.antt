@@ -1,10 +1,5 @@
 use Rattle.std.proofs.Common.{refl, arith, length}
-use Rattle.std.proofs.lemmas.Result.{err_from_is_err_and}
-use Rattle.std.proofs.lemmas.List.Elements.{All-push}
-use Rattle.std.proofs.lemmas.List.Quantifiers.{all_pairs_push}
-use Rattle.imagedisk.specs.Images.{IsImdTrack, AreApart}
-use Rattle.imagedisk.specs.Left.{rest_of}
-use Rattle.imagedisk.specs.Reading.{image_of}
+use Rattle.imagedisk.proofs.Common.{err_from_is_err_and, All-push, all_pairs_push, IsImdTrack, AreApart, rest_of, image_of}
 use Rattle.imagedisk.proofs.Loops.{begun, begun_fails, next_track, failed_track, no_more, is_apart, not_empty, some_left, none_left}
 use Rattle.imagedisk.proofs.reading.read_imd.Goals as goal
 

@@ -1,7 +1,5 @@
 use Rattle.std.proofs.Common.{◌≡◌, All, AllPairs, [], length, None}
-use Rattle.imagedisk.specs.Images.{IsImdTrack, AreApart}
-use Rattle.imagedisk.specs.Left.{rest_of}
-use Rattle.imagedisk.specs.Reading.{image_of}
+use Rattle.imagedisk.proofs.Common.{IsImdTrack, AreApart, rest_of, image_of}
 use Rattle.imagedisk.proofs.Loops.{ComesTo}
 use Rattle.imagedisk.proofs.reading.read_imd.Given as goal
 

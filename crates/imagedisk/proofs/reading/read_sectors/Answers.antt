@@ -1,10 +1,5 @@
 use Rattle.std.proofs.Common.{◌∷◌, [], subst, arith, length-append}
-use Rattle.std.proofs.lemmas.Result.{err_from_is_err_and}
-use Rattle.std.proofs.lemmas.List.Elements.{All-push}
-use Rattle.flop_base.specs.declared.key.Chrn.{Chrn}
-use Rattle.imagedisk.specs.Images.{IsImdSector}
-use Rattle.imagedisk.specs.Left.{rest_of}
-use Rattle.imagedisk.specs.Reading.{key_at, sectors_at}
+use Rattle.imagedisk.proofs.Common.{err_from_is_err_and, All-push, Chrn, IsImdSector, rest_of, key_at, sectors_at}
 use Rattle.imagedisk.proofs.Loops.{goes_on, ends, is_done}
 use Rattle.imagedisk.proofs.reading.read_sectors.Goals as goal
 

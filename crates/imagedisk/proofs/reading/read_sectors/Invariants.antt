@@ -1,7 +1,5 @@
 use Rattle.std.proofs.Common.{◌≡◌, ◌-◌, ◌≤◌, All, length}
-use Rattle.imagedisk.specs.Images.{IsImdSector}
-use Rattle.imagedisk.specs.Left.{rest_of}
-use Rattle.imagedisk.specs.Reading.{key_at, sectors_at}
+use Rattle.imagedisk.proofs.Common.{IsImdSector, rest_of, key_at, sectors_at}
 use Rattle.imagedisk.proofs.Loops.{with_front}
 use Rattle.imagedisk.proofs.reading.read_sectors.Given as goal
 

@@ -1,6 +1,5 @@
 use Rattle.std.proofs.Common.{◌*◌, ◌≤◌, ◌∙◌, ap, List}
-use Rattle.imagedisk.specs.declared.track.ImdTrack.{ImdTrack}
-use Rattle.imagedisk.specs.Taken.{told_rate}
+use Rattle.imagedisk.proofs.Common.{ImdTrack, told_rate}
 use Rattle.imagedisk.proofs.Imaged.{image_has}
 use Rattle.imagedisk.proofs.Places.{all_taken}
 use Rattle.imagedisk.proofs.taking.from_medium.Goals as goal

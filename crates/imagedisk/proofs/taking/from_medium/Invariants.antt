@@ -1,4 +1,4 @@
-use Rattle.imagedisk.specs.Taken.{AreTakenBelow}
+use Rattle.imagedisk.proofs.Common.{AreTakenBelow}
 use Rattle.imagedisk.proofs.taking.from_medium.Given as goal
 
 abbrev pub invariant-loop-place : goal.invariant-loop-place

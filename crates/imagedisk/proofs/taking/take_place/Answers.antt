@@ -1,5 +1,5 @@
 use Rattle.std.proofs.Common.{◌/◌, ◌%◌}
-use Rattle.std.proofs.lemmas.Result.{err_from_is_err_and}
+use Rattle.imagedisk.proofs.Common.{err_from_is_err_and}
 use Rattle.imagedisk.proofs.Places.{at_place, failed_place, skip_place, taken_place}
 use Rattle.imagedisk.proofs.taking.take_place.Goals as goal
 

@@ -1,5 +1,5 @@
 use Rattle.std.proofs.Common.{◌≡◌, refl, sym, length, ap, ◌∙◌}
-use Rattle.std.proofs.lemmas.Bool.{eqb-true}
+use Rattle.imagedisk.proofs.Common.{eqb-true}
 use Rattle.imagedisk.proofs.Held.{none_there}
 use Rattle.imagedisk.proofs.taking.take_track.Goals as goal
 

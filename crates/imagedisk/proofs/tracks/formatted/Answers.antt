@@ -1,6 +1,5 @@
 use Rattle.std.proofs.Common.{length, ap, arith}
-use Rattle.flop_base.specs.Standard.{standard_fill}
-use Rattle.track_format.proofs.Read.{length-lay}
+use Rattle.imagedisk.proofs.Common.{standard_fill, length-lay}
 use Rattle.imagedisk.proofs.tracks.formatted.Goals as goal
 
 pub returns-in-Ok-clause-length : goal.returns-in-Ok-clause-length

@@ -1,6 +1,5 @@
 use Rattle.std.proofs.Common.{◌≡◌, ℕ, List, length, ap, ◌∙◌, arith}
-use Rattle.track_model.specs.Windows.{window_words, cut_of}
-use Rattle.imagedisk.specs.Made.{sector_window}
+use Rattle.imagedisk.proofs.Common.{window_words, cut_of, sector_window}
 use Rattle.imagedisk.proofs.Windowed.{window_length}
 use Rattle.imagedisk.proofs.tracks.put_sector.Goals as goal
 

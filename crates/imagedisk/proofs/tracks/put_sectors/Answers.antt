@@ -1,8 +1,5 @@
 use Rattle.std.proofs.Common.{ℕ, List, ◌+◌, drop, ap, sym, ◌∙◌}
-use Rattle.track_model.specs.LaidFields.{sector_place}
-use Rattle.track_model.specs.Windows.{window_words, cut_of}
-use Rattle.imagedisk.specs.declared.sector.ImdSector.{ImdSector}
-use Rattle.imagedisk.specs.Made.{sector_window, with_sectors}
+use Rattle.imagedisk.proofs.Common.{sector_place, window_words, cut_of, ImdSector, sector_window, with_sectors}
 use Rattle.imagedisk.proofs.Windowed.{next_put, all_put}
 use Rattle.imagedisk.proofs.tracks.put_sectors.Goals as goal
 

@@ -1,5 +1,5 @@
 use Rattle.std.proofs.Common.{◌≡◌, drop}
-use Rattle.imagedisk.specs.Made.{with_sectors}
+use Rattle.imagedisk.proofs.Common.{with_sectors}
 use Rattle.imagedisk.proofs.tracks.put_sectors.Given as goal
 
 abbrev pub invariant-loop-i : goal.invariant-loop-i

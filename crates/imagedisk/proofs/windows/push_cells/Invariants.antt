@@ -1,5 +1,5 @@
 use Rattle.std.proofs.Common.{◌≡◌, ◌++◌, drop}
-use Rattle.track_model.specs.Bytes.{legal}
+use Rattle.imagedisk.proofs.Common.{legal}
 use Rattle.imagedisk.proofs.windows.push_cells.Given as goal
 
 -- the words so far, continued with the bytes that are left, are the words of all bytes

@@ -1,5 +1,5 @@
 use Rattle.std.proofs.Common.{◌≡◌, ◌++◌, take}
-use Rattle.imagedisk.specs.Writing.{map_of}
+use Rattle.imagedisk.proofs.Common.{map_of}
 use Rattle.imagedisk.proofs.writing.put_map.Given as goal
 
 abbrev pub invariant-loop-sector : goal.invariant-loop-sector

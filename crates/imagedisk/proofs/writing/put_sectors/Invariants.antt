@@ -1,6 +1,5 @@
 use Rattle.std.proofs.Common.{◌≡◌, ◌++◌, take}
-use Rattle.std.specs.List.{flat_map}
-use Rattle.imagedisk.specs.Writing.{sector_bytes}
+use Rattle.imagedisk.proofs.Common.{flat_map, sector_bytes}
 use Rattle.imagedisk.proofs.writing.put_sectors.Given as goal
 
 abbrev pub invariant-loop-sector : goal.invariant-loop-sector

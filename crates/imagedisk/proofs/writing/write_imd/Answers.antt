@@ -1,9 +1,5 @@
 use Rattle.std.proofs.Common.{◌≡◌, ◌∙◌, ◌++◌, List, ap}
-use Rattle.std.proofs.lemmas.List.{take_all}
-use Rattle.std.specs.List.{flat_map}
-use Rattle.imagedisk.specs.declared.track.ImdTrack.{ImdTrack}
-use Rattle.imagedisk.specs.Reading.{image_of}
-use Rattle.imagedisk.specs.Writing.{text, track_bytes, file_of}
+use Rattle.imagedisk.proofs.Common.{take_all, flat_map, ImdTrack, image_of, text, track_bytes, file_of}
 use Rattle.imagedisk.proofs.AgainTracks.{image_again}
 use Rattle.imagedisk.proofs.writing.write_imd.Goals as goal
 

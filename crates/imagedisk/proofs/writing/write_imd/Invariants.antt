@@ -1,6 +1,5 @@
 use Rattle.std.proofs.Common.{◌≡◌, ◌++◌, take}
-use Rattle.std.specs.List.{flat_map}
-use Rattle.imagedisk.specs.Writing.{text, track_bytes}
+use Rattle.imagedisk.proofs.Common.{flat_map, text, track_bytes}
 use Rattle.imagedisk.proofs.writing.write_imd.Given as goal
 
 abbrev pub invariant-loop-track : goal.invariant-loop-track

@@ -1,5 +1,6 @@
 use Rattle.std.proofs.Common.{refl}
-use Rattle.fdc_chip.specs.declared.code.ChipOpcode.TheVariants.{FormatTrack, ReadId, ReadTrack, Transfer, Verify}
+use Rattle.laws_chip.proofs.Common.{FormatTrack, ReadId, ReadTrack, Verify}
+use Rattle.fdc_chip.specs.declared.code.ChipOpcode.TheVariants.{Transfer}
 use Rattle.laws_chip.proofs.WorkEnds.{given_ends}
 use Rattle.laws_chip.proofs.lasting.a_command_that_comes_tells.Goals as goal
 

@@ -1,5 +1,5 @@
 use Rattle.std.proofs.Common.{◌++◌, [], ◌∷◌}
-use Rattle.laws_chip.specs.SectorCalls.{Steps}
+use Rattle.laws_chip.proofs.Common.{Steps}
 use Rattle.laws_chip.proofs.Medium.{read_from}
 use Rattle.laws_chip.proofs.media.what_is_read_stands_on_the_medium.Goals as goal
 

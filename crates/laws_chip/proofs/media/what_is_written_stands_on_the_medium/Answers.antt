@@ -1,5 +1,5 @@
 use Rattle.std.proofs.Common.{◌++◌, [], ◌∷◌}
-use Rattle.laws_chip.specs.SectorCalls.{Steps}
+use Rattle.laws_chip.proofs.Common.{Steps}
 use Rattle.laws_chip.proofs.WrittenCalls.{written_to}
 use Rattle.laws_chip.proofs.media.what_is_written_stands_on_the_medium.Goals as goal
 

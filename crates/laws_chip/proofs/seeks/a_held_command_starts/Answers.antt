@@ -1,4 +1,4 @@
-use Rattle.fdc_chip.specs.declared.stage.ChipStage.TheVariants.{Held}
+use Rattle.laws_chip.proofs.Common.{Held}
 use Rattle.laws_chip.proofs.HeadsGoing.{heads_some}
 use Rattle.laws_chip.proofs.SeeksHeld.{comes_held, held_step}
 use Rattle.laws_chip.proofs.seeks.a_held_command_starts.Goals as goal

@@ -1,4 +1,4 @@
-use Rattle.fdc_chip.specs.declared.stage.ChipStage.TheVariants.{Ready}
+use Rattle.laws_chip.proofs.Common.{Ready}
 use Rattle.laws_chip.proofs.HeadsGoing.{ends_interrupt, heads_some, heads_step}
 use Rattle.laws_chip.proofs.seeks.a_seek_ends_by_int.Goals as goal
 

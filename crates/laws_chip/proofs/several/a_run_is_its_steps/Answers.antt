@@ -1,4 +1,4 @@
-use Rattle.fdc_sequencer.specs.Fronts.{asks_outside, interrupts_outside}
+use Rattle.laws_chip.proofs.Common.{asks_outside, interrupts_outside}
 use Rattle.laws_chip.proofs.Called.{both_within, run_steps}
 use Rattle.laws_chip.proofs.several.a_run_is_its_steps.Goals as goal
 

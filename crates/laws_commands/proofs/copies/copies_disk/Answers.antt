@@ -1,6 +1,6 @@
 use Rattle.laws_commands.proofs.CopiedDisk.{copies_disk}
 use Rattle.laws_commands.proofs.copies.copies_disk.Goals as goal
-use Rattle.track_format.proofs.Laid.{laid_tidy}
+use Rattle.laws_commands.proofs.Common.{laid_tidy}
 
 pub returns : goal.returns
 returns c old new files disk course after =

@@ -1,14 +1,10 @@
 // What follows of requests that are granted in time. The bodies are empty.
 ghost use Rattle.std.specs.Prelude.{◌≡◌, ◌⊎◌, ℕ, true};
-ghost use Rattle.fdc_core.specs.State.{is_gated};
-ghost use Rattle.fdc_stages.specs.Formats.{Numbers};
+ghost use Rattle.laws_machine.specs.Common.{is_gated, Numbers, Low, Board, controller_of, holds_of, Outputs};
 ghost use Rattle.laws_machine.specs.OnOrders.Orders.{CanBegin, Track, Write};
 ghost use Rattle.laws_machine.specs.OnReads.Timely.{Stalled};
-ghost use Rattle.irq_events.specs.declared.holding.DmaRequest.TheVariants.{Low};
 ghost use Rattle.laws_machine.specs.OnReads.Scenes.{Scene};
 ghost use Rattle.laws_machine.specs.OnWrites.Timely.{IsOnTime};
-ghost use Rattle.pc_bus.specs.Boards.{Board, controller_of, holds_of};
-ghost use Rattle.pc_bus.specs.Ports.{Outputs};
 
 /// A FORMAT TRACK that begins with the FIFO on, threshold 8, DRQ let out and no request left from before is on time, or
 /// a late DMA is counted.

@@ -1,25 +1,15 @@
 // How soon a READ DATA ends, and what MA then says. The bodies are empty.
 ghost use Rattle.std.specs.Prelude.{◌≡◌, ◌⊎◌, ◌≤◌, ℕ, true, false};
-ghost use Rattle.fdc_commands.specs.declared.results.Results.{Results};
-ghost use Rattle.fdc_phases.specs.Phases.{is_overrun};
-ghost use Rattle.fdc_core.specs.Ports.{IsGiving};
-ghost use Rattle.fdc_core.specs.State.{is_gated};
-ghost use Rattle.fdc_phases.specs.declared.phases.Phase.TheVariants.{Command};
-ghost use Rattle.fdc_stages.specs.declared.ending.Ending.{Ending};
-ghost use Rattle.track_model.specs.Looks.{HasAddressMark};
+ghost use Rattle.laws_machine.specs.Common.{Results, is_overrun, IsGiving, is_gated, Command, Ending, HasAddressMark, AreShort, IsCalm, Board, controller_of, drive_in, holds_of, Inputs, Outputs};
 ghost use Rattle.laws_machine.specs.OnSteps.Steady.{Steady};
 ghost use Rattle.laws_machine.specs.OnSteps.Stalls.{Keeping};
 ghost use Rattle.laws_machine.specs.OnReads.Ends.{ReadPrompt, ReadSoon, is_late, most_steps, most_steps_of, steps_taken, tells_no_mark};
-ghost use Rattle.irq_events.specs.Holds.{AreShort};
 ghost use Rattle.laws_machine.specs.OnReads.Ids.{IdEnded};
 ghost use Rattle.laws_machine.specs.OnReads.Results.{ReadEnded};
 ghost use Rattle.laws_machine.specs.OnReads.Timely.{Stalled};
-ghost use Rattle.fdc_core.specs.Drives.Hearing.{IsCalm};
 ghost use Rattle.laws_machine.specs.OnQuiet.Quiet.{StandsStill};
 ghost use Rattle.laws_machine.specs.OnOrders.Orders.{CanBegin, Read};
 ghost use Rattle.laws_machine.specs.OnReads.Scenes.{Scene, track_met};
-ghost use Rattle.pc_bus.specs.Boards.{Board, controller_of, drive_in, holds_of};
-ghost use Rattle.pc_bus.specs.Ports.{Inputs, Outputs};
 
 /// A READ DATA that begins with DRQ let out, all DMA latencies below 256, and a medium at speed ends in its results
 /// before it has taken its 65,536 device steps, whatever late DMAs are counted. It takes at most 258 device steps more

@@ -1,17 +1,12 @@
 // What follows of transfers. The bodies are empty.
 ghost use Rattle.std.specs.Prelude.{◌≡◌, ◌⊎◌, ◌≤◌, ℕ, true, false};
-ghost use Rattle.fdc_core.specs.State.{is_gated};
-ghost use Rattle.fdc_phases.specs.declared.phases.Phase.TheVariants.{Command};
+ghost use Rattle.laws_machine.specs.Common.{is_gated, Command, Board, controller_of, Inputs, Outputs, can_move, moved_up_to, Chips};
 ghost use Rattle.laws_machine.specs.OnQuiet.Quiet.{StandsStill};
 ghost use Rattle.laws_machine.specs.OnOrders.Orders.{CanBegin, Read};
 ghost use Rattle.laws_machine.specs.OnReads.Scenes.{Scene};
 ghost use Rattle.laws_machine.specs.OnReads.Timely.{ReadInTime};
 ghost use Rattle.laws_machine.specs.OnReads.Served.{IsRuled, moves_left};
-ghost use Rattle.pc_bus.specs.Boards.{Board, controller_of};
-ghost use Rattle.pc_bus.specs.Ports.{Inputs, Outputs};
 ghost use Rattle.laws_machine.specs.OnSteps.Stalls.{Keeping, Stalled};
-ghost use Rattle.pc_bus.specs.Transfers.{can_move, moved_up_to};
-ghost use Rattle.pc_bus.specs.declared.chips.Chips.{Chips};
 
 /// A request that is served falls, or the channel stops granting, within as many bytes as a FIFO holds.
 #[tactic(auto, using(crate::proofs::OnReads::Served::stays_ruled))]

@@ -2,14 +2,11 @@
 ghost use Rattle.std.specs.Prelude.{◌≡◌, ℕ, false};
 ghost use Rattle.laws_machine.specs.OnOrders.Orders.{CanBegin, Identify, Underway};
 ghost use Rattle.laws_machine.specs.OnReads.Ids.{IdEnded, IsSetForId, id_scene};
-ghost use Rattle.irq_events.specs.Holds.{counted};
+ghost use Rattle.laws_machine.specs.Common.{counted, Board, controller_of, memory_of, Outputs, Disk};
 ghost use Rattle.laws_machine.specs.OnQuiet.Quiet.{GoesQuietly};
 ghost use Rattle.laws_machine.specs.OnQuiet.Settings.{Setting, Stands};
 ghost use Rattle.laws_machine.specs.OnReads.Begins.{IsReadyIn};
 ghost use Rattle.laws_machine.specs.OnReads.Scenes.{Scene};
-ghost use Rattle.pc_bus.specs.Boards.{Board, controller_of, memory_of};
-ghost use Rattle.pc_bus.specs.Ports.{Outputs};
-ghost use Rattle.raw_image.specs.Disk.{Disk};
 
 /// A READ ID can begin on a machine at rest with a medium at speed, if all its bytes but the last were sent. The last
 /// byte begins the command, and counts one data command.

@@ -1,11 +1,8 @@
 // What no device step does. The bodies are empty.
 ghost use Rattle.std.specs.Prelude.{◌≡◌, ◌<◌, ℕ, Option, true};
-ghost use Rattle.drive_model.specs.Drive.{is_protected};
+ghost use Rattle.laws_machine.specs.Common.{is_protected, Board, drive_in, Step, Disk};
 ghost use Rattle.laws_machine.specs.OnWrites.Guards.{GatesDrives, GuardsMedia, HoldsGates, LeavesOthers};
-ghost use Rattle.pc_bus.specs.Boards.{Board, drive_in};
-ghost use Rattle.pc_bus.specs.Steps.{Step};
 ghost use Rattle.laws_machine.specs.OnSteps.Steady.{Marching, Progress, Steady};
-ghost use Rattle.raw_image.specs.Disk.{Disk};
 
 /// Whatever the machine is doing, a device step changes at most one word of an unprotected medium, and nothing of a
 /// protected one.

@@ -1,10 +1,8 @@
 // What device steps leave of heads, and of an idle machine. The bodies are empty.
 ghost use Rattle.std.specs.Prelude.{◌≡◌, ℕ, None};
-ghost use Rattle.fdc_commands.specs.Seeking.{Seeking, seek_bits};
+ghost use Rattle.laws_machine.specs.Common.{Seeking, seek_bits, Inputs, Outputs, Board};
 ghost use Rattle.laws_machine.specs.OnWrites.Guards.{LeavesOthers};
 ghost use Rattle.laws_machine.specs.OnWrites.Heads.{HasNoSeek, IsIdle, RestsIdle, StaysIdle, StaysStill};
-ghost use Rattle.pc_bus.specs.Ports.{Inputs, Outputs};
-ghost use Rattle.pc_bus.specs.Boards.{Board};
 ghost use Rattle.laws_machine.specs.OnSteps.Steady.{Steady};
 
 /// If no seek was begun, device steps move no heads, change no change line and stop no medium, whatever command is in

@@ -1,13 +1,10 @@
 // What follows of requests that are granted in time. The bodies are empty.
 ghost use Rattle.std.specs.Prelude.{◌≡◌, ◌⊎◌, Bool, ℕ, true};
-ghost use Rattle.fdc_core.specs.State.{is_gated};
+ghost use Rattle.laws_machine.specs.Common.{is_gated, Low, Board, controller_of, holds_of, Outputs};
 ghost use Rattle.laws_machine.specs.OnSteps.Stalls.{Keeping, Stalled};
-ghost use Rattle.irq_events.specs.declared.holding.DmaRequest.TheVariants.{Low};
 ghost use Rattle.laws_machine.specs.OnReads.Scenes.{Scene};
 ghost use Rattle.laws_machine.specs.OnOrders.Orders.{CanBegin, Window, Write};
 ghost use Rattle.laws_machine.specs.OnWrites.Timely.{IsOnTime};
-ghost use Rattle.pc_bus.specs.Boards.{Board, controller_of, holds_of};
-ghost use Rattle.pc_bus.specs.Ports.{Outputs};
 
 /// In each device step, a WRITE DATA, WRITE DELETED or FORMAT TRACK that is on time stays on time and doesn't end with
 /// OR, or else a late DMA is counted.

@@ -1,5 +1,5 @@
 use Rattle.std.proofs.Common.{refl}
-use Rattle.text_commands.proofs.FinishingPorts.{ends_in_time, stays}
+use Rattle.laws_program.proofs.Common.{ends_in_time, stays}
 use Rattle.laws_program.proofs.accesses.commands_end_in_time.Goals as goal
 
 -- no device step passes after the lines

@@ -1,6 +1,5 @@
 use Rattle.std.proofs.Common.{take, All}
-use Rattle.flop_base.specs.Counters.{DriveTells}
-use Rattle.pc_bus.specs.Counts.{counts_of}
+use Rattle.machine_commands.proofs.Common.{DriveTells, counts_of}
 use Rattle.machine_commands.proofs.hearing.hear_spare.Given as goal
 
 -- the drives so far report what is left of their faults only where their counts can't reach the last value

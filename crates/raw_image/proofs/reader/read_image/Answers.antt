@@ -1,6 +1,5 @@
 use Rattle.std.proofs.Common.{subst, [], arith}
-use Rattle.std.proofs.lemmas.Result.{err_from_is_err_and}
-use Rattle.raw_image.specs.Progress.{Progress, IsFed}
+use Rattle.raw_image.proofs.Common.{err_from_is_err_and, Progress, IsFed}
 use Rattle.raw_image.proofs.Feeding.{ends_failed}
 use Rattle.raw_image.proofs.Images.{is_found, is_only}
 use Rattle.raw_image.proofs.reader.read_image.Goals as goal

@@ -1,5 +1,5 @@
 use Rattle.std.proofs.Common.{◌≡◌, ◌++◌, take}
-use Rattle.raw_image.specs.Words.{bytes_of}
+use Rattle.raw_image.proofs.Common.{bytes_of}
 use Rattle.raw_image.proofs.words.push_bytes.Given as goal
 
 abbrev pub invariant-loop-word : goal.invariant-loop-word

@@ -1,6 +1,5 @@
 use Rattle.std.proofs.Common.{◌≡◌, ◌∙◌, ap, map, take, List, ℕ, ◌++◌}
-use Rattle.std.specs.Int.{w16, from_be_bytes}
-use Rattle.std.proofs.lemmas.List.{take_all}
+use Rattle.raw_image.proofs.Common.{w16, from_be_bytes, take_all}
 use Rattle.raw_image.proofs.Pairs.{words_of-pairs}
 use Rattle.raw_image.proofs.words.push_pairs.Goals as goal
 

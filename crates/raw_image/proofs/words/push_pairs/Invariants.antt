@@ -1,5 +1,5 @@
 use Rattle.std.proofs.Common.{◌≡◌, ◌++◌, map, take}
-use Rattle.std.specs.Int.{w16, from_be_bytes}
+use Rattle.raw_image.proofs.Common.{w16, from_be_bytes}
 use Rattle.raw_image.proofs.words.push_pairs.Given as goal
 
 abbrev pub invariant-loop-pair : goal.invariant-loop-pair

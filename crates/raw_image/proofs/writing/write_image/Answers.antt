@@ -1,9 +1,5 @@
 use Rattle.std.proofs.Common.{◌≡◌, ◌∙◌, ◌++◌, List, ℕ, [], ap}
-use Rattle.raw_image.specs.declared.header.Version.TheVariants.{Second}
-use Rattle.raw_image.specs.Disk.{Disk}
-use Rattle.raw_image.specs.Words.{bytes_of}
-use Rattle.raw_image.specs.Image.{header_bytes, disk_of, spelling, image_of}
-use Rattle.raw_image.specs.Shape.{header_view}
+use Rattle.raw_image.proofs.Common.{Second, Disk, bytes_of, header_bytes, disk_of, spelling, image_of, header_view}
 use Rattle.raw_image.proofs.Images.{spelling_again}
 use Rattle.raw_image.proofs.writing.write_image.Goals as goal
 

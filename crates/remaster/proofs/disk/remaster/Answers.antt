@@ -1,5 +1,5 @@
 use Rattle.std.proofs.Common.{arith}
-use Rattle.std.proofs.lemmas.Result.{err_from_is_err_and}
+use Rattle.remaster.proofs.Common.{err_from_is_err_and}
 use Rattle.remaster.proofs.Disks.{cylinders_more, first_unfit}
 use Rattle.remaster.proofs.disk.remaster.Goals as goal
 

@@ -1,5 +1,5 @@
 use Rattle.std.proofs.Common.{ℕ, ◌<◌}
-use Rattle.remaster.specs.Remastered.{HasShapeOf, IsDone}
+use Rattle.remaster.proofs.Common.{HasShapeOf, IsDone}
 use Rattle.remaster.proofs.disk.remaster.Given as goal
 
 -- the tracks of the cylinders so far are done

@@ -1,6 +1,5 @@
 use Rattle.std.proofs.Common.{arith, ◌∙◌}
-use Rattle.std.proofs.lemmas.Result.{err_from_is_err_and}
-use Rattle.remaster.specs.Remastered.{IsUnfitIn}
+use Rattle.remaster.proofs.Common.{err_from_is_err_and, IsUnfitIn}
 use Rattle.remaster.proofs.Disks.{err_goes_on, heads_more, unfit_in}
 use Rattle.remaster.proofs.disk.remaster_cylinder.Goals as goal
 

@@ -1,6 +1,5 @@
 use Rattle.std.proofs.Common.{◌≡◌, ◌≢◌, ℕ, ◌<◌}
-use Rattle.raw_image.specs.Disk.{HasTrack, track_of}
-use Rattle.remaster.specs.Remastered.{HasShapeOf, IsDone}
+use Rattle.remaster.proofs.Common.{HasTrack, track_of, HasShapeOf, IsDone}
 use Rattle.remaster.proofs.disk.remaster_cylinder.Given as goal
 
 -- the tracks of the heads so far are done, and other cylinders are as they were

@@ -1,8 +1,5 @@
 use Rattle.std.proofs.Common.{subst}
-use Rattle.std.proofs.lemmas.Result.{err_from_is_err_and}
-use Rattle.raw_image.specs.Disk.{track_of}
-use Rattle.flop_base.specs.declared.answers.Rate.{Rate}
-use Rattle.remaster.specs.Remastered.{IsTrackError}
+use Rattle.remaster.proofs.Common.{err_from_is_err_and, track_of, Rate, IsTrackError}
 use Rattle.remaster.proofs.Disks.{err_goes_on}
 use Rattle.remaster.proofs.disk.remaster_on.Goals as goal
 

@@ -1,5 +1,5 @@
 use Rattle.std.proofs.Common.{sym, ◌∙◌}
-use Rattle.std.proofs.lemmas.Bool.{false≢true}
+use Rattle.remaster.proofs.Common.{false≢true}
 use Rattle.remaster.proofs.Fits.{fit_shares, planned}
 use Rattle.remaster.proofs.fit.fitting_gap.Goals as goal
 

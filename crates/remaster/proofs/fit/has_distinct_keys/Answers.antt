@@ -1,5 +1,5 @@
 use Rattle.std.proofs.Common.{arith, sym, refl, ◌∙◌}
-use Rattle.std.proofs.lemmas.Bool.{false≢true}
+use Rattle.remaster.proofs.Common.{false≢true}
 use Rattle.remaster.proofs.Fits.{distinct_more, distinct_new, distinct_all}
 use Rattle.remaster.proofs.fit.has_distinct_keys.Goals as goal
 

@@ -1,6 +1,5 @@
 use Rattle.std.proofs.Common.{◌≢◌, take}
-use Rattle.std.specs.List.{AllPairs}
-use Rattle.remaster.specs.declared.sectors.Sector.{Sector}
+use Rattle.remaster.proofs.Common.{AllPairs, Sector}
 use Rattle.remaster.proofs.fit.has_distinct_keys.Given as goal
 
 -- no two of the sectors so far have the same key

@@ -1,5 +1,5 @@
 use Rattle.std.proofs.Common.{take, All}
-use Rattle.remaster.specs.Fit.{HasSizeCode}
+use Rattle.remaster.proofs.Common.{HasSizeCode}
 use Rattle.remaster.proofs.fit.has_one_size.Given as goal
 
 -- the keys of the sectors so far have this size code

@@ -1,6 +1,5 @@
 use Rattle.std.proofs.Common.{take, All}
-use Rattle.remaster.specs.declared.sectors.Sector.{Sector}
-use Rattle.remaster.specs.Fit.{IsOwnKey}
+use Rattle.remaster.proofs.Common.{Sector, IsOwnKey}
 use Rattle.remaster.proofs.fit.has_own_keys.Given as goal
 
 -- the keys of the sectors so far name this cylinder and head

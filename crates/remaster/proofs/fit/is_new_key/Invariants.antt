@@ -1,5 +1,5 @@
 use Rattle.std.proofs.Common.{◌≢◌, take, All}
-use Rattle.remaster.specs.declared.sectors.Sector.{Sector}
+use Rattle.remaster.proofs.Common.{Sector}
 use Rattle.remaster.proofs.fit.is_new_key.Given as goal
 
 -- the sectors so far have other keys

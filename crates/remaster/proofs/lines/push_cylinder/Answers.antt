@@ -1,5 +1,5 @@
 use Rattle.std.proofs.Common.{◌+◌, [], ◌∷◌, map}
-use Rattle.remaster.specs.Survey.{cylinder_tracks, track_number, line_on}
+use Rattle.remaster.proofs.Common.{cylinder_tracks, track_number, line_on}
 use Rattle.remaster.proofs.LineLists.{added_none, added_more, one_track, cylinder_tracks-more, cylinder_tracks-none}
 use Rattle.remaster.proofs.lines.push_cylinder.Goals as goal
 

@@ -1,4 +1,4 @@
-use Rattle.remaster.specs.Survey.{cylinder_tracks}
+use Rattle.remaster.proofs.Common.{cylinder_tracks}
 use Rattle.remaster.proofs.LineLists.{HasAdded}
 use Rattle.remaster.proofs.lines.push_cylinder.Given as goal
 

@@ -1,5 +1,5 @@
 use Rattle.std.proofs.Common.{◌≡◌, ◌++◌, map, take}
-use Rattle.remaster.specs.Survey.{track_number, line_on}
+use Rattle.remaster.proofs.Common.{track_number, line_on}
 use Rattle.remaster.proofs.lines.push_track.Given as goal
 
 -- the lines of the fields so far

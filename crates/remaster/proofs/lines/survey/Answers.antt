@@ -1,5 +1,5 @@
 use Rattle.std.proofs.Common.{◌+◌, [], arith, subst, sym}
-use Rattle.remaster.specs.Survey.{cylinder_tracks}
+use Rattle.remaster.proofs.Common.{cylinder_tracks}
 use Rattle.remaster.proofs.LineLists.{HasAdded, tracks_below, added_none, added_more, added_all, tracks_below-more, tracks_below-none}
 use Rattle.remaster.proofs.lines.survey.Goals as goal
 

@@ -1,5 +1,5 @@
 use Rattle.std.proofs.Common.{◌≡◌, map, take, All}
-use Rattle.remaster.specs.Looked.{field_of, HasLook}
+use Rattle.remaster.proofs.Common.{field_of, HasLook}
 use Rattle.remaster.proofs.looked.list_looked.Given as goal
 
 -- the fields so far, each with its look

@@ -1,6 +1,5 @@
 use Rattle.std.proofs.Common.{◌≡◌, map, take, All}
-use Rattle.track_model.specs.LaidFields.{IsKey}
-use Rattle.remaster.specs.Relaid.{key_of}
+use Rattle.remaster.proofs.Common.{IsKey, key_of}
 use Rattle.remaster.proofs.relaid.keys_of.Given as goal
 
 -- the keys so far

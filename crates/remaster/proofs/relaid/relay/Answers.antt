@@ -1,11 +1,5 @@
 use Rattle.std.proofs.Common.{arith, ap, sym, subst, ◌∙◌, ◌≡◌, ℕ, length, drop, All}
-use Rattle.std.proofs.lemmas.List.{take_at}
-use Rattle.std.proofs.lemmas.List.Elements.{All-map}
-use Rattle.flop_base.specs.declared.key.Chrn.{Chrn}
-use Rattle.flop_base.specs.Standard.{standard_fill}
-use Rattle.track_model.specs.Layouts.{lay}
-use Rattle.track_model.specs.Regular.{IsSpaced}
-use Rattle.remaster.specs.Relaid.{key_of}
+use Rattle.remaster.proofs.Common.{take_at, All-map, Chrn, standard_fill, lay, IsSpaced, key_of}
 use Rattle.remaster.proofs.Relays.{AreWritten, none_written, one_more, spaced_from, all_written}
 use Rattle.remaster.proofs.relaid.relay.Goals as goal
 

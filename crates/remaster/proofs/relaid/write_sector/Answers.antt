@@ -1,9 +1,5 @@
 use Rattle.std.proofs.Common.{rules, arith, ap, subst, ◌∙◌, ◌≡◌, ℕ, ◌+◌, length, List}
-use Rattle.track_model.specs.declared.Look.TheVariants.{Found}
-use Rattle.track_model.specs.Fields.{content_at}
-use Rattle.track_model.specs.Looks.{LookAt}
-use Rattle.track_model.specs.Writing.{window}
-use Rattle.track_model.specs.Windows.{window_place, cut_of}
+use Rattle.remaster.proofs.Common.{Found, content_at, LookAt, window, window_place, cut_of}
 use Rattle.remaster.proofs.Placed.{window_fits, holds_written}
 use Rattle.remaster.proofs.relaid.write_sector.Goals as goal
 

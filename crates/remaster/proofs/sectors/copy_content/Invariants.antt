@@ -1,5 +1,5 @@
 use Rattle.std.proofs.Common.{◌≡◌}
-use Rattle.track_model.specs.Bytes.{bytes_at}
+use Rattle.remaster.proofs.Common.{bytes_at}
 use Rattle.remaster.proofs.sectors.copy_content.Given as goal
 
 -- the bytes so far

@@ -1,5 +1,5 @@
 use Rattle.std.proofs.Common.{All, subst, sym, arith}
-use Rattle.remaster.specs.Looked.{HasLook}
+use Rattle.remaster.proofs.Common.{HasLook}
 use Rattle.remaster.proofs.SectorLists.{sized_of}
 use Rattle.remaster.proofs.sectors.list_sectors.Goals as goal
 

@@ -1,6 +1,5 @@
 use Rattle.std.proofs.Common.{◌≡◌, take}
-use Rattle.std.specs.List.{flat_map}
-use Rattle.remaster.specs.Sectors.{found_at}
+use Rattle.remaster.proofs.Common.{flat_map, found_at}
 use Rattle.remaster.proofs.sectors.list_sectors.Given as goal
 
 -- the sectors of the fields so far

@@ -1,7 +1,6 @@
 use Rattle.std.proofs.Common.{sym, subst}
-use Rattle.std.specs.List.{AllPairs}
+use Rattle.rescue.proofs.Common.{AllPairs, IsBefore}
 use Rattle.rescue.proofs.OrderLemmas.{logged_rises}
-use Rattle.rescue.specs.Log.{IsBefore}
 use Rattle.rescue.proofs.keys.logged_keys.Goals as goal
 
 pub returns-clause-rising : goal.returns-clause-rising

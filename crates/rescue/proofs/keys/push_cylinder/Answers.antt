@@ -1,5 +1,5 @@
 use Rattle.std.proofs.Common.{◌+◌}
-use Rattle.sector_map.specs.Standard.{track_keys, cylinder_keys}
+use Rattle.rescue.proofs.Common.{track_keys, cylinder_keys}
 use Rattle.rescue.proofs.KeyLemmas.{added, added_none, cylinder-more, cylinder-none}
 use Rattle.rescue.proofs.keys.push_cylinder.Goals as goal
 

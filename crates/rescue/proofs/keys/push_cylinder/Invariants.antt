@@ -1,5 +1,5 @@
 use Rattle.std.proofs.Common.{◌≡◌, ◌++◌}
-use Rattle.sector_map.specs.Standard.{cylinder_keys}
+use Rattle.rescue.proofs.Common.{cylinder_keys}
 use Rattle.rescue.proofs.keys.push_cylinder.Given as goal
 
 -- the heads so far

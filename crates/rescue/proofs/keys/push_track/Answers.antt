@@ -1,5 +1,5 @@
 use Rattle.std.proofs.Common.{◌-◌, ◌+◌, [], ◌∷◌, arith}
-use Rattle.sector_map.specs.Standard.{key_of, track_keys}
+use Rattle.rescue.proofs.Common.{key_of, track_keys}
 use Rattle.rescue.proofs.KeyLemmas.{added, added_none, track-more, track-none}
 use Rattle.rescue.proofs.keys.push_track.Goals as goal
 

@@ -1,5 +1,5 @@
 use Rattle.std.proofs.Common.{◌≡◌, ◌-◌, ◌++◌}
-use Rattle.sector_map.specs.Standard.{track_keys}
+use Rattle.rescue.proofs.Common.{track_keys}
 use Rattle.rescue.proofs.keys.push_track.Given as goal
 
 -- the records so far

@@ -1,5 +1,5 @@
 use Rattle.std.proofs.Common.{◌≡◌}
-use Rattle.rescue.specs.Course.{standard_keys}
+use Rattle.rescue.proofs.Common.{standard_keys}
 use Rattle.rescue.proofs.keys.standard_keys.Given as goal
 
 -- the cylinders so far

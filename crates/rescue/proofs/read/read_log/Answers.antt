@@ -1,8 +1,5 @@
 use Rattle.std.proofs.Common.{◌≡◌, ℕ, ◌<◌, ◌+◌, List, [], ◌∷◌, ◌++◌, length, true, false, refl, sym, ap, ◌∙◌, subst, arith, length-append}
-use Rattle.std.proofs.lemmas.Bool.Decides.{nat_tests}
-use Rattle.rescue.specs.Fields.{BeginsWith}
-use Rattle.rescue.specs.Log.{log_text, IsLog, IsAfterLast, IsFirstBadLine}
-use Rattle.rescue.specs.declared.line.LogLine.{LogLine}
+use Rattle.rescue.proofs.Common.{nat_tests, BeginsWith, log_text, IsLog, IsAfterLast, IsFirstBadLine, LogLine}
 use Rattle.rescue.proofs.LogLemmas.{first_bad_order, log_more, text_more, less_left}
 use Rattle.rescue.proofs.read.read_log.Goals as goal
 

@@ -1,5 +1,5 @@
 use Rattle.std.proofs.Common.{◌≡◌, ◌+◌, ◌≤◌, ◌++◌, length}
-use Rattle.rescue.specs.Log.{log_text, IsLog}
+use Rattle.rescue.proofs.Common.{log_text, IsLog}
 use Rattle.rescue.proofs.read.read_log.Given as goal
 
 -- the lines so far are a log, and what is left is the text after them

@@ -1,5 +1,5 @@
 use Rattle.std.proofs.Common.{arith}
-use Rattle.flop_base.specs.declared.answers.Code.TheVariants.{BadRequest}
+use Rattle.rescue.proofs.Common.{BadRequest}
 use Rattle.rescue.proofs.LogLemmas.{text_upto}
 use Rattle.rescue.proofs.write.write_log.Goals as goal
 

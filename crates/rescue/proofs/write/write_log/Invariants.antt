@@ -1,5 +1,5 @@
 use Rattle.std.proofs.Common.{◌≡◌, take}
-use Rattle.rescue.specs.Log.{log_text}
+use Rattle.rescue.proofs.Common.{log_text}
 use Rattle.rescue.proofs.write.write_log.Given as goal
 
 -- the text of the lines so far

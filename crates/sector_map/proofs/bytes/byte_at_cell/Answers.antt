@@ -1,6 +1,5 @@
 use Rattle.std.proofs.Common.{[], ◌∷◌, ap, ◌∙◌}
-use Rattle.track_model.specs.Bytes.{byte_at}
-use Rattle.track_model.proofs.Places.{byte_at-cells_at}
+use Rattle.sector_map.proofs.Common.{byte_at, byte_at-cells_at}
 use Rattle.sector_map.proofs.bytes.byte_at_cell.Goals as goal
 
 pub returns : goal.returns

@@ -1,9 +1,5 @@
 use Rattle.std.proofs.Common.{[], ◌∷◌, ◌++◌, ap, ◌∙◌, sym, arith}
-use Rattle.track_model.specs.Bytes.{bytes_at}
-use Rattle.track_model.specs.Crc.{crc}
-use Rattle.track_model.specs.Fields.{after_marks}
-use Rattle.track_model.proofs.CrcSteps.{marks_crc}
-use Rattle.track_model.proofs.Places.{bytes_at-more}
+use Rattle.sector_map.proofs.Common.{bytes_at, crc, after_marks, marks_crc, bytes_at-more}
 use Rattle.sector_map.proofs.bytes.check_over.Goals as goal
 
 pub loop-i-init : goal.loop-i-init

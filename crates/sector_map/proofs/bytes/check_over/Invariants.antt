@@ -1,7 +1,5 @@
 use Rattle.std.proofs.Common.{◌≡◌}
-use Rattle.track_model.specs.Bytes.{bytes_at}
-use Rattle.track_model.specs.Crc.{crc}
-use Rattle.track_model.specs.Fields.{after_marks}
+use Rattle.sector_map.proofs.Common.{bytes_at, crc, after_marks}
 use Rattle.sector_map.proofs.bytes.check_over.Given as goal
 
 -- the CRC so far is that of the bytes so far

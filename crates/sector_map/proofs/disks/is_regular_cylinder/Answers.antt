@@ -1,6 +1,5 @@
 use borrow.Author.Count.{below_more}
-use Rattle.raw_image.specs.Disk.{HasTrack, track_of}
-use Rattle.track_model.specs.Regular.{IsRegular}
+use Rattle.sector_map.proofs.Common.{HasTrack, track_of, IsRegular}
 use Rattle.sector_map.proofs.disks.is_regular_cylinder.Goals as goal
 
 pub loop-h-preserved : goal.loop-h-preserved

@@ -1,7 +1,6 @@
 use Rattle.std.proofs.Common.{ℕ}
 use borrow.Author.Count.{below_more}
-use Rattle.raw_image.specs.Disk.{HasTrack, track_of}
-use Rattle.track_model.specs.Regular.{IsRegular}
+use Rattle.sector_map.proofs.Common.{HasTrack, track_of, IsRegular}
 use Rattle.sector_map.proofs.disks.is_regular_disk.Goals as goal
 
 pub loop-c-preserved : goal.loop-c-preserved

@@ -1,6 +1,5 @@
 use Rattle.std.proofs.Common.{ℕ, ◌<◌}
-use Rattle.raw_image.specs.Disk.{HasTrack, track_of}
-use Rattle.track_model.specs.Regular.{IsRegular}
+use Rattle.sector_map.proofs.Common.{HasTrack, track_of, IsRegular}
 use Rattle.sector_map.proofs.disks.is_regular_disk.Given as goal
 
 -- the tracks of the cylinders so far are regular

@@ -1,5 +1,5 @@
 use Rattle.std.proofs.Common.{◌+◌, Vec, Global, sym, ap, subst, ◌∙◌}
-use Rattle.track_model.specs.declared.Field.{Field}
+use Rattle.sector_map.proofs.Common.{Field}
 use Rattle.sector_map.proofs.ListedFields.{AreAddressesBelow, skipped, listed}
 use Rattle.sector_map.proofs.fields.list_fields.Goals as goal
 use Rattle.sector_map.proofs.fields.list_fields.Goals.{in-Some+in_ok-push, in_default}

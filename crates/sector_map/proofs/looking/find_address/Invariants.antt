@@ -1,7 +1,5 @@
 use Rattle.std.proofs.Common.{ℕ, ◌<◌, MatchBool}
-use Rattle.track_model.specs.Marks.{IsAddressMark}
-use Rattle.track_model.specs.Fields.{IsAddressAt}
-use Rattle.track_model.specs.Looks.{HasAddressMark}
+use Rattle.sector_map.proofs.Common.{IsAddressMark, IsAddressAt, HasAddressMark}
 use Rattle.sector_map.proofs.looking.find_address.Given as goal
 
 abbrev pub invariant-loop-p : goal.invariant-loop-p

@@ -1,6 +1,6 @@
 use Rattle.std.proofs.Common.{arith}
 use Rattle.sector_map.proofs.Looked.{no_data_mark, none_more}
-use Rattle.track_model.specs.Fields.{IsDataMark}
+use Rattle.sector_map.proofs.Common.{IsDataMark}
 use Rattle.sector_map.proofs.looking.first_data_mark.Goals as goal
 
 pub loop-q-preserved : goal.loop-q-preserved

@@ -1,5 +1,5 @@
 use Rattle.std.proofs.Common.{ℕ, Bool, ◌<◌}
-use Rattle.track_model.specs.Fields.{IsDataMark}
+use Rattle.sector_map.proofs.Common.{IsDataMark}
 use Rattle.sector_map.proofs.looking.first_data_mark.Given as goal
 
 -- no data mark begins at the cells passed so far

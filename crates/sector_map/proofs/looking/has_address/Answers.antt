@@ -1,6 +1,5 @@
 use Rattle.std.proofs.Common.{arith, sym, ◌∙◌}
-use Rattle.std.proofs.lemmas.Bool.{false≢true}
-use Rattle.track_model.specs.Fields.{IsAddress, IsAddressAt}
+use Rattle.sector_map.proofs.Common.{false≢true, IsAddress, IsAddressAt}
 use Rattle.sector_map.proofs.Looked.{none_more, none_given}
 use Rattle.sector_map.proofs.looking.has_address.Goals as goal
 

@@ -1,5 +1,5 @@
 use Rattle.std.proofs.Common.{ℕ, ◌<◌}
-use Rattle.track_model.specs.Fields.{IsAddress}
+use Rattle.sector_map.proofs.Common.{IsAddress}
 use Rattle.sector_map.proofs.looking.has_address.Given as goal
 
 -- no address field begins at the cells passed so far

@@ -1,6 +1,5 @@
 use Rattle.std.proofs.Common.{arith}
-use Rattle.std.proofs.lemmas.Bool.{false≢true}
-use Rattle.track_model.proofs.Places.{zero_word_touched}
+use Rattle.sector_map.proofs.Common.{false≢true, zero_word_touched}
 use Rattle.sector_map.proofs.marks.touches_no_zero.Goals as goal
 
 pub returns-then-words-k-eq0 : goal.returns-then-words-k-eq0

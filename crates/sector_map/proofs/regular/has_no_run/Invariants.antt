@@ -1,4 +1,4 @@
-use Rattle.sector_map.specs.Places.{HasNoRun}
+use Rattle.sector_map.proofs.Common.{HasNoRun}
 use Rattle.sector_map.proofs.regular.has_no_run.Given as goal
 
 abbrev pub invariant-loop-q : goal.invariant-loop-q

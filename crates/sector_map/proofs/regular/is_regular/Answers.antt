@@ -1,5 +1,5 @@
 use Rattle.std.proofs.Common.{refl, arith}
-use Rattle.std.proofs.lemmas.Bool.{false≢true}
+use Rattle.sector_map.proofs.Common.{false≢true}
 use Rattle.sector_map.proofs.RegularPlaces.{not_true, places_more, from_places, to_place}
 use Rattle.sector_map.proofs.regular.is_regular.Goals as goal
 

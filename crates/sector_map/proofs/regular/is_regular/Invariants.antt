@@ -1,5 +1,5 @@
 use Rattle.std.proofs.Common.{ℕ, ◌<◌}
-use Rattle.sector_map.specs.Places.{IsPlaceRegular}
+use Rattle.sector_map.proofs.Common.{IsPlaceRegular}
 use Rattle.sector_map.proofs.regular.is_regular.Given as goal
 
 -- the places passed so far are regular

@@ -1,7 +1,5 @@
 use Rattle.std.proofs.Common.{ℕ, ◌<◌}
-use Rattle.flop_base.specs.declared.key.Chrn.{Chrn}
-use Rattle.track_model.specs.Fields.{IsAddressAt}
-use Rattle.sector_map.specs.Places.{IsApart}
+use Rattle.sector_map.proofs.Common.{Chrn, IsAddressAt, IsApart}
 use Rattle.sector_map.proofs.regular.stands_alone.Given as goal
 
 -- the address fields passed so far are apart from this one

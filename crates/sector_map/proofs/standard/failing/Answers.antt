@@ -1,6 +1,5 @@
 use Rattle.std.proofs.Common.{◌+◌, [], arith, subst, sym, ap, ◌∙◌}
-use Rattle.flop_base.specs.Standard.{sectors_at}
-use Rattle.sector_map.specs.Standard.{cylinder_keys, standard_keys}
+use Rattle.sector_map.proofs.Common.{sectors_at, cylinder_keys, standard_keys}
 use Rattle.sector_map.proofs.Listed.{HasAdded, keys_below, added_none, added_more, added_all, keys_below-more, keys_below-none, keys_below-all}
 use Rattle.sector_map.proofs.standard.failing.Goals as goal
 

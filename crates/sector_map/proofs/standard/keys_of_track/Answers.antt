@@ -1,6 +1,5 @@
 use Rattle.std.proofs.Common.{◌+◌, ◌++◌, ◌∷◌, [], take, refl, sym, ap, ◌∙◌, arith}
-use Rattle.std.proofs.lemmas.List.{take_all, take_more_set, length-set}
-use Rattle.sector_map.specs.Standard.{key_of}
+use Rattle.sector_map.proofs.Common.{take_all, take_more_set, length-set, key_of}
 use Rattle.sector_map.proofs.Listed.{track_keys-none, track_keys-next, take-track_keys}
 use Rattle.sector_map.proofs.standard.keys_of_track.Goals as goal
 

@@ -1,5 +1,5 @@
 use Rattle.std.proofs.Common.{◌≡◌, length, take}
-use Rattle.sector_map.specs.Standard.{track_keys}
+use Rattle.sector_map.proofs.Common.{track_keys}
 use Rattle.sector_map.proofs.standard.keys_of_track.Given as goal
 
 -- the keys so far

@@ -1,5 +1,5 @@
 use Rattle.std.proofs.Common.{◌+◌}
-use Rattle.sector_map.specs.Standard.{track_keys, cylinder_keys}
+use Rattle.sector_map.proofs.Common.{track_keys, cylinder_keys}
 use Rattle.sector_map.proofs.Listed.{added_none, added_more, cylinder_keys-more, cylinder_keys-none}
 use Rattle.sector_map.proofs.standard.push_cylinder.Goals as goal
 

@@ -1,4 +1,4 @@
-use Rattle.sector_map.specs.Standard.{cylinder_keys}
+use Rattle.sector_map.proofs.Common.{cylinder_keys}
 use Rattle.sector_map.proofs.Listed.{HasAdded}
 use Rattle.sector_map.proofs.standard.push_cylinder.Given as goal
 

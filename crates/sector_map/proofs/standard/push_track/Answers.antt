@@ -1,6 +1,5 @@
 use Rattle.std.proofs.Common.{◌-◌, ◌+◌, [], ◌∷◌, arith}
-use Rattle.sector_map.specs.Standard.{key_of, track_keys}
-use Rattle.sector_map.specs.Failing.{unless_found}
+use Rattle.sector_map.proofs.Common.{key_of, track_keys, unless_found}
 use Rattle.sector_map.proofs.Listed.{added_none, added_more, one_failing, track_keys-more, track_keys-none}
 use Rattle.sector_map.proofs.standard.push_track.Goals as goal
 

@@ -1,5 +1,5 @@
 use Rattle.std.proofs.Common.{◌-◌}
-use Rattle.sector_map.specs.Standard.{track_keys}
+use Rattle.sector_map.proofs.Common.{track_keys}
 use Rattle.sector_map.proofs.Listed.{HasAdded}
 use Rattle.sector_map.proofs.standard.push_track.Given as goal
 

@@ -1,6 +1,5 @@
 use Rattle.std.proofs.Common.{◌∙◌, sym, ap, refl, arith}
-use Rattle.std.proofs.lemmas.Bool.{eq-eqb, ne_eqb, false≢true}
-use Rattle.track_separator.specs.declared.state.Seen.TheVariants.{Address}
+use Rattle.sector_map.proofs.Common.{eq-eqb, ne_eqb, false≢true, Address}
 use Rattle.sector_map.proofs.Turned.{hunting_on, hunting_marked, hunt_passed, same_address, no_address_mark}
 use Rattle.sector_map.proofs.turn.hunt_for.Goals as goal
 use Rattle.sector_map.proofs.turn.hunt_for.Goals.{in-Mark, in-Address+else-is_key, in_default}

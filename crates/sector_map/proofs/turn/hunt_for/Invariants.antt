@@ -1,7 +1,6 @@
 use Rattle.sector_map.proofs.Turned.{IsHuntingFor}
-use Rattle.track_model.specs.Sectors.{IsPlain}
+use Rattle.sector_map.proofs.Common.{IsPlain, SFollows}
 use Rattle.std.proofs.Common.{[]}
-use Rattle.track_separator.specs.Hunts.{SFollows}
 use Rattle.sector_map.proofs.turn.hunt_for.Given as goal
 
 abbrev pub invariant-loop-i : goal.invariant-loop-i

@@ -1,7 +1,5 @@
 use Rattle.std.proofs.Common.{◌∙◌, ◌+◌, ℕ, List, Bool, true, false, length, length-set, set, take, sym, refl, ap, arith}
-use Rattle.std.proofs.lemmas.Bool.{eqb-true, eq-eqb, false≢true}
-use Rattle.track_separator.specs.declared.state.Seen.TheVariants.{End}
-use Rattle.track_separator.specs.Waits.{SWaits}
+use Rattle.sector_map.proofs.Common.{eqb-true, eq-eqb, false≢true, End, SWaits}
 use Rattle.sector_map.proofs.ReadTurn.{given_of, reading_quiet, reading_mode, reading_byte, reading_end, reading_none, changed}
 use Rattle.sector_map.proofs.turn.read_behind.Goals as goal
 use Rattle.sector_map.proofs.turn.read_behind.Goals.{in-Mode, in-Byte+then-taken-content, in-Byte+else-taken-content, in_default}

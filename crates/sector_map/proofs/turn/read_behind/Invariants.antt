@@ -1,5 +1,5 @@
 use Rattle.std.proofs.Common.{ℕ, ◌≤◌, length, take}
-use Rattle.track_separator.specs.Waits.{SWaits}
+use Rattle.sector_map.proofs.Common.{SWaits}
 use Rattle.sector_map.proofs.ReadTurn.{IsReadingOn}
 use Rattle.sector_map.proofs.turn.read_behind.Given as goal
 

@@ -1,5 +1,5 @@
 use Rattle.std.proofs.Common.{false, [], ◌++◌, replicate, ap, ◌∙◌, arith}
-use Rattle.track_model.specs.Bytes.{legal}
+use Rattle.sector_map.proofs.Common.{legal}
 use Rattle.sector_map.proofs.Pushed.{begun}
 use Rattle.sector_map.proofs.writing.begin_field.Goals as goal
 

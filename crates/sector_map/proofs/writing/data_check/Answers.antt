@@ -1,7 +1,5 @@
 use Rattle.std.proofs.Common.{sym, ◌∙◌, arith}
-use Rattle.std.proofs.lemmas.List.{at_drop_all}
-use Rattle.track_model.specs.Crc.{crc_from}
-use Rattle.track_model.proofs.CrcSteps.{crc_from_none}
+use Rattle.sector_map.proofs.Common.{at_drop_all, crc_from, crc_from_none}
 use Rattle.sector_map.proofs.writing.data_check.Goals as goal
 
 pub returns : goal.returns

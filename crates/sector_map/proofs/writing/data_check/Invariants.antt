@@ -1,6 +1,5 @@
 use Rattle.std.proofs.Common.{◌≡◌, ◌∷◌, ◌^◌, ◌<◌, drop}
-use Rattle.track_model.specs.Crc.{crc, crc_from}
-use Rattle.track_model.specs.Fields.{after_marks}
+use Rattle.sector_map.proofs.Common.{crc, crc_from, after_marks}
 use Rattle.sector_map.proofs.writing.data_check.Given as goal
 
 -- the CRC so far, continued over the bytes that are left, is the CRC of all bytes

@@ -1,6 +1,5 @@
 use Rattle.std.proofs.Common.{◌≡◌, true, ℕ, List, take, ◌++◌, [], ◌∷◌, get_or, ap, ◌∙◌, arith}
-use Rattle.track_model.specs.Bytes.{legal}
-use Rattle.track_model.specs.Writing.{sync_and_marks, check_bytes, address_field}
+use Rattle.sector_map.proofs.Common.{legal, sync_and_marks, check_bytes, address_field}
 use Rattle.sector_map.proofs.Pushed.{pushed_all, check_ends, filled_all}
 use Rattle.sector_map.proofs.writing.fill_address_words.Goals as goal
 

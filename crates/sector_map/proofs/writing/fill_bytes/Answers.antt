@@ -1,6 +1,5 @@
 use Rattle.std.proofs.Common.{◌+◌, ◌++◌, take, drop, get_or, slice_set, ap, ◌∙◌, sym, arith}
-use Rattle.std.proofs.lemmas.List.{drop_more}
-use Rattle.track_model.specs.Bytes.{legal}
+use Rattle.sector_map.proofs.Common.{drop_more, legal}
 use Rattle.sector_map.proofs.Pushed.{pushed, filled_more}
 use Rattle.sector_map.proofs.writing.fill_bytes.Goals as goal
 

@@ -1,5 +1,5 @@
 use Rattle.std.proofs.Common.{◌≡◌, List, ℕ, ◌+◌, ◌++◌, take, drop}
-use Rattle.track_model.specs.Bytes.{legal}
+use Rattle.sector_map.proofs.Common.{legal}
 use Rattle.sector_map.proofs.writing.fill_bytes.Given as goal
 
 -- the words so far, continued with the bytes that are left and any bytes after them, are the words of all of these

@@ -1,7 +1,5 @@
 use Rattle.std.proofs.Common.{◌≡◌, true, ◌+◌, ◌++◌, ◌∷◌, length, take, ap, ◌∙◌, sym, arith}
-use Rattle.track_model.specs.Bytes.{legal}
-use Rattle.track_model.specs.Marks.{data_byte}
-use Rattle.track_model.specs.Writing.{sync_and_marks, check_bytes, written_field, window}
+use Rattle.sector_map.proofs.Common.{legal, data_byte, sync_and_marks, check_bytes, written_field, window}
 use Rattle.sector_map.proofs.Pushed.{pushed_field, check_row, filled_all}
 use Rattle.sector_map.proofs.writing.fill_field_words.Goals as goal
 use Rattle.sector_map.proofs.writing.fill_field_words.Goals.{then-deleted, else-deleted}

@@ -1,6 +1,5 @@
 use Rattle.std.proofs.Common.{subst}
-use Rattle.c_slots.specs.Controllers.{ControllerValue}
-use Rattle.telwyddus_c.specs.Bare.{HasMedium}
+use Rattle.telwyddus_c.proofs.Common.{ControllerValue, HasMedium}
 use Rattle.telwyddus_c.proofs.Bared.{back_again, ok_both}
 use Rattle.telwyddus_c.proofs.bare.bare_bytes.Goals as goal
 

@@ -1,4 +1,4 @@
-use Rattle.telwyddus_c.specs.Bare.{medium_in, stand_in_for, HasMedium}
+use Rattle.telwyddus_c.proofs.Common.{medium_in, stand_in_for, HasMedium}
 use Rattle.telwyddus_c.proofs.Bared.{back_again, ok_second}
 use Rattle.telwyddus_c.proofs.bare.bytes_without_second.Goals as goal
 

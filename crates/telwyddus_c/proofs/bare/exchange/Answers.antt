@@ -1,5 +1,5 @@
 use Rattle.std.proofs.Common.{sym, ◌∙◌}
-use Rattle.telwyddus_c.specs.Bare.{medium_in}
+use Rattle.telwyddus_c.proofs.Common.{medium_in}
 use Rattle.telwyddus_c.proofs.Bared.{alike_length, alike_none, own_stays}
 use Rattle.telwyddus_c.proofs.bare.exchange.Goals as goal
 

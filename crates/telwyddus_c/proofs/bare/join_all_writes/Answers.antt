@@ -1,5 +1,5 @@
 use Rattle.std.proofs.Common.{◌∙◌, ap}
-use Rattle.telwyddus_c.specs.Bare.{with_writes_at}
+use Rattle.telwyddus_c.proofs.Common.{with_writes_at}
 use Rattle.telwyddus_c.proofs.bare.join_all_writes.Goals as goal
 
 pub returns : goal.returns

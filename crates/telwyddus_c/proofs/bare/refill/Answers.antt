@@ -1,6 +1,5 @@
 use Rattle.std.proofs.Common.{sym, subst}
-use Rattle.c_slots.specs.Controllers.{ControllerValue}
-use Rattle.telwyddus_c.specs.Bare.{IsRefilled, medium_in}
+use Rattle.telwyddus_c.proofs.Common.{ControllerValue, IsRefilled, medium_in}
 use Rattle.telwyddus_c.proofs.Bared.{alike_joined, first_alike, refilled_both, second_alike}
 use Rattle.telwyddus_c.proofs.bare.refill.Goals as goal
 

@@ -1,7 +1,5 @@
 use Rattle.std.proofs.Common.{◌≡◌, true, Some, sym, ◌∙◌, ap, subst}
-use Rattle.c_bay_drive.specs.Bays.{bay_state}
-use Rattle.c_bay_drive.specs.declared.bay.BayDrive.{BayDrive}
-use Rattle.drive_model.specs.Drive.{same_length}
+use Rattle.telwyddus_c.proofs.Common.{bay_state, BayDrive, same_length}
 use Rattle.telwyddus_c.proofs.Bared.{exchanged_there}
 use Rattle.telwyddus_c.proofs.bare.replace_medium.Goals as goal
 

@@ -1,5 +1,5 @@
 use Rattle.std.proofs.Common.{refl, rules}
-use Rattle.std.specs.Prelude.{Ok, Err}
+use Rattle.std.specs.Prelude.{Ok}
 use Rattle.telwyddus_c.proofs.flat_as.write_form.Goals as goal
 
 pub returns-in-Ok : goal.returns-in-Ok

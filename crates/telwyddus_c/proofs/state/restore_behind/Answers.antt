@@ -1,5 +1,5 @@
 use Rattle.std.proofs.Common.{◌≡◌, [], Ok, inl, refl, sym, ◌∙◌, ap, rules}
-use Rattle.telwyddus_c.specs.States.{behind}
+use Rattle.telwyddus_c.proofs.Common.{behind}
 use Rattle.telwyddus_c.proofs.state.restore_behind.Goals as goal
 
 pub returns-then-eq-clause-only : goal.returns-then-eq-clause-only

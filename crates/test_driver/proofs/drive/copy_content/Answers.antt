@@ -1,6 +1,5 @@
 use Rattle.std.proofs.Common.{◌++◌, ◌∷◌, [], ap, sym, ◌∙◌, arith}
-use Rattle.std.proofs.lemmas.List.{take_more_set}
-use Rattle.track_model.specs.Bytes.{bytes_at}
+use Rattle.test_driver.proofs.Common.{take_more_set, bytes_at}
 use Rattle.track_model.proofs.Places.{bytes_at-more}
 use Rattle.test_driver.proofs.drive.copy_content.Goals as goal
 

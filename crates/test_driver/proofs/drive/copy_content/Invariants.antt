@@ -1,5 +1,5 @@
 use Rattle.std.proofs.Common.{◌≡◌, take}
-use Rattle.track_model.specs.Bytes.{bytes_at}
+use Rattle.test_driver.proofs.Common.{bytes_at}
 use Rattle.test_driver.proofs.drive.copy_content.Given as goal
 
 -- the bytes so far

@@ -1,5 +1,5 @@
 use Rattle.std.proofs.Common.{◌∙◌, ap, ◌-◌, length, min, arith}
-use Rattle.sector_map.proofs.RegularTracks.{length-track_of}
+use Rattle.test_driver.proofs.Common.{length-track_of}
 use Rattle.test_driver.proofs.Putting.{put_cut}
 use Rattle.test_driver.proofs.writing.put_window.Goals as goal
 

@@ -1,5 +1,5 @@
 use Rattle.std.proofs.Common.{rules}
-use Rattle.text_commands.specs.Ending.{InWhole, AtStore}
+use Rattle.text_commands.proofs.Common.{InWhole, AtStore}
 use Rattle.text_commands.proofs.ending.finish.Goals as goal
 
 pub returns-in-Ok : goal.returns-in-Ok

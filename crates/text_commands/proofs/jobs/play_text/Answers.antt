@@ -1,9 +1,6 @@
 use Rattle.std.proofs.Common.{rules}
 use Rattle.std.specs.Prelude.{Vec}
-use Rattle.std.specs.declared.alloc.Global.{Global}
-use Rattle.floppy_jobs.specs.declared.request.Request.{Request}
-use Rattle.floppy_jobs.specs.Texts.{job_of}
-use Rattle.sector_model.specs.Texts.{bad_line_text}
+use Rattle.text_commands.proofs.Common.{Global, Request, job_of, bad_line_text}
 use Rattle.text_commands.proofs.JobRounds.{parsed_plays, read_bad, run-ends, unparsed_tells}
 use Rattle.text_commands.proofs.jobs.play_text.Goals as goal
 

@@ -1,5 +1,5 @@
 use Rattle.std.proofs.Common.{arith, ◌<◌, length}
-use Rattle.commands.proofs.Looping.{amid_begins, amid_goes, amid_ends}
+use Rattle.text_commands.proofs.Common.{amid_begins, amid_goes, amid_ends}
 use Rattle.text_commands.proofs.JobRounds.{has-run-none, has-run-next, broken}
 use Rattle.text_commands.proofs.jobs.run_requests.Goals as goal
 

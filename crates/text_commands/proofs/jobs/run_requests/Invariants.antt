@@ -1,6 +1,5 @@
 use Rattle.std.proofs.Common.{take}
-use Rattle.commands.specs.Leading.{IsAmid}
-use Rattle.text_commands.specs.JobRounds.{HasRun}
+use Rattle.text_commands.proofs.Common.{IsAmid, HasRun}
 use Rattle.text_commands.proofs.jobs.run_requests.Given as goal
 
 abbrev pub invariant-loop-request : goal.invariant-loop-request

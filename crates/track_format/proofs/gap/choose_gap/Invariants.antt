@@ -1,6 +1,5 @@
 use Rattle.std.proofs.Common.{◌≡◌, ℕ, ◌<◌, ◌≤◌}
-use Rattle.flop_base.specs.Standard.{gap_at, words_at}
-use Rattle.track_format.specs.Gaps.{Suits}
+use Rattle.track_format.proofs.Common.{gap_at, words_at, Suits}
 use Rattle.track_format.proofs.gap.choose_gap.Given as goal
 
 -- no larger gap suits

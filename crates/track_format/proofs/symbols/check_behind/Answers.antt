@@ -1,7 +1,5 @@
 use Rattle.std.proofs.Common.{◌∷◌, sym, ap, ◌∙◌, arith, map, drop, ◌+◌, ◌-◌, ◌≡◌}
-use Rattle.track_model.specs.Crc.{crc_from}
-use Rattle.track_model.specs.Layouts.{symbol_byte}
-use Rattle.track_model.proofs.CrcSteps.{crc-marks}
+use Rattle.track_format.proofs.Common.{crc_from, symbol_byte, crc-marks}
 use Rattle.track_format.proofs.Parts.{check_steps, check_stays}
 use Rattle.track_format.proofs.symbols.check_behind.Goals as goal
 

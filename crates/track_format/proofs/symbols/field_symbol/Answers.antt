@@ -1,5 +1,5 @@
 use Rattle.std.proofs.Common.{◌/◌, ◌%◌, ap, sym, ◌∙◌, arith}
-use Rattle.track_model.specs.declared.symbol.Symbol.TheVariants.{Byte}
+use Rattle.track_format.proofs.Common.{Byte}
 use Rattle.track_format.proofs.Parts.{in_sync, in_marks, in_symbols, in_high, in_low, in_gap, check_is}
 use Rattle.track_format.proofs.symbols.field_symbol.Goals as goal
 

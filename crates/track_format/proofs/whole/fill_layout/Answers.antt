@@ -1,10 +1,5 @@
 use Rattle.std.proofs.Common.{◌+◌, ◌<◌, false, length, take, drop, slice_set, refl, sym, ap, ◌∙◌, arith}
-use Rattle.std.proofs.lemmas.Bool.{false≢true}
-use Rattle.std.proofs.lemmas.List.{length-take, take_more_set, take_all}
-use Rattle.std.specs.List.{flat_map}
-use Rattle.track_model.specs.Layouts.{lay, symbol_bit, next_symbol, track_symbols}
-use Rattle.track_format.specs.Keys.{key_bytes}
-use Rattle.track_format.specs.Streams.{KeyIs}
+use Rattle.track_format.proofs.Common.{false≢true, length-take, take_more_set, take_all, flat_map, lay, symbol_bit, next_symbol, track_symbols, key_bytes, KeyIs}
 use Rattle.track_format.proofs.Asked.{asked-track, asked_same, laid_start, laid_more, laid_all, asked_byte, asked_more}
 use Rattle.track_format.proofs.whole.fill_layout.Goals as goal
 use Rattle.track_format.proofs.whole.fill_layout.Goals.{then-needs_byte, else-needs_byte}

@@ -1,9 +1,5 @@
 use Rattle.std.proofs.Common.{◌≡◌, ◌-◌, ◌≤◌, Bool, List, ◌++◌, length, take, drop}
-use Rattle.std.specs.List.{flat_map}
-use Rattle.track_model.specs.declared.symbol.Symbol.{Symbol}
-use Rattle.track_model.specs.Layouts.{lay, recorded}
-use Rattle.track_format.specs.Keys.{key_bytes, asked_in}
-use Rattle.track_format.specs.Streams.{Gives, filled}
+use Rattle.track_format.proofs.Common.{flat_map, Symbol, lay, recorded, key_bytes, asked_in, Gives, filled}
 use Rattle.track_format.proofs.whole.fill_layout.Given as goal
 
 -- the words so far, and the words that the stream gives next, are together the track

@@ -1,5 +1,5 @@
 use Rattle.std.proofs.Common.{◌∷◌, [], sym, ap, ◌∙◌}
-use Rattle.track_model.specs.Bytes.{legal}
+use Rattle.track_model.proofs.Common.{legal}
 use Rattle.track_model.proofs.CellTables.{after_0, after_1}
 use Rattle.track_model.proofs.cells.encode_byte.Goals as goal
 

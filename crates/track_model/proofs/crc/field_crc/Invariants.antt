@@ -1,5 +1,5 @@
 use Rattle.std.proofs.Common.{◌≡◌, ◌^◌, ◌<◌, drop}
-use Rattle.track_model.specs.Crc.{crc, crc_from}
+use Rattle.track_model.proofs.Common.{crc, crc_from}
 use Rattle.track_model.proofs.crc.field_crc.Given as goal
 
 -- the CRC so far, going on over the bytes that are left, is the whole one

@@ -1,4 +1,4 @@
-use Rattle.std.proofs.lemmas.Bool.{eqb-true}
+use Rattle.track_separator.proofs.Common.{eqb-true}
 use Rattle.track_separator.proofs.Bits.{mark_ones}
 use Rattle.track_separator.proofs.register.has_no_mark_ones.Goals as goal
 

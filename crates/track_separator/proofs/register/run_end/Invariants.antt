@@ -1,5 +1,5 @@
 use Rattle.std.proofs.Common.{ℕ, ◌<◌}
-use Rattle.track_separator.specs.Register.{HasRunBits}
+use Rattle.track_separator.proofs.Common.{HasRunBits}
 use Rattle.track_separator.proofs.register.run_end.Given as goal
 
 -- no run ends at the places passed

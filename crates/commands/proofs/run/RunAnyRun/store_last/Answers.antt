@@ -1,6 +1,5 @@
 use Rattle.std.proofs.Common.{rules, refl, ap}
-use Rattle.commands.specs.Scripts.{IsStored, NotStored}
-use Rattle.commands.specs.Leading.{with_report}
+use Rattle.commands.proofs.Common.{IsStored, NotStored, with_report}
 use Rattle.commands.proofs.Running.{stores_here}
 use Rattle.commands.proofs.run.RunAnyRun.store_last.Goals as goal
 

@@ -1,5 +1,5 @@
 use Rattle.std.proofs.Common.{arith}
-use Rattle.fdc_chip.specs.Chips.{chip_state}
+use Rattle.fdc_chip.proofs.Common.{chip_state}
 use Rattle.fdc_chip.proofs.Quieting.{still_runs_on}
 use Rattle.fdc_chip.proofs.Runs.{ready_some, runs_after}
 use Rattle.fdc_chip.proofs.chip.Chip.advance.Goals as goal

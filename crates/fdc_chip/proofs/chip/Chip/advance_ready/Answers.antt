@@ -1,4 +1,4 @@
-use Rattle.fdc_chip.specs.Chips.{chip_state}
+use Rattle.fdc_chip.proofs.Common.{chip_state}
 use Rattle.fdc_chip.proofs.Runs.{ready_some, ready_runs}
 use Rattle.fdc_chip.proofs.chip.Chip.advance_ready.Goals as goal
 

@@ -1,6 +1,5 @@
 use Rattle.std.proofs.Common.{◌≡◌, subst, arith}
-use Rattle.fdc_chip.specs.Chips.{chip_state}
-use Rattle.fdc_chip.specs.Doing.{drained_by}
+use Rattle.fdc_chip.proofs.Common.{chip_state, drained_by}
 use Rattle.fdc_chip.proofs.Lists.{drained_none, drained_more}
 use Rattle.fdc_chip.proofs.chip.Chip.drain.Goals as goal
 

@@ -1,6 +1,5 @@
 use Rattle.std.proofs.Common.{◌≡◌}
-use Rattle.fdc_chip.specs.Chips.{chip_state}
-use Rattle.fdc_chip.specs.Doing.{drained_by}
+use Rattle.fdc_chip.proofs.Common.{chip_state, drained_by}
 use Rattle.fdc_chip.proofs.chip.Chip.drain.Given as goal
 
 abbrev pub invariant-loop-drive : goal.invariant-loop-drive

@@ -1,5 +1,5 @@
 use Rattle.std.proofs.Common.{refl}
-use Rattle.fdc_chip.specs.Chips.{chip_state}
+use Rattle.fdc_chip.proofs.Common.{chip_state}
 use Rattle.fdc_chip.proofs.Leaping.{sent_runs}
 use Rattle.fdc_chip.proofs.Runs.{runs_none}
 use Rattle.fdc_chip.proofs.chip.Chip.leap.Goals as goal

@@ -1,6 +1,5 @@
 use Rattle.std.proofs.Common.{◌≡◌, false, sym, true, ◌∙◌}
-use Rattle.std.proofs.lemmas.Bool.{false≢true, true≢false}
-use Rattle.fdc_chip.specs.Quiet.{is_busy}
+use Rattle.fdc_chip.proofs.Common.{false≢true, true≢false, is_busy}
 use Rattle.fdc_chip.proofs.Awaiting.{awaits_busy}
 use Rattle.fdc_chip.proofs.chip.Chip.quiet.Goals as goal
 

@@ -1,6 +1,6 @@
 use Rattle.std.proofs.Common.{sym, ◌∙◌}
 use Rattle.fdc_sequencer.proofs.Quieting.{foresees_none}
-use Rattle.fdc_chip.specs.Chips.{chip_state}
+use Rattle.fdc_chip.proofs.Common.{chip_state}
 use Rattle.fdc_chip.proofs.Awaiting.{awaits_quiet}
 use Rattle.fdc_chip.proofs.Dues.{none_quiet}
 use Rattle.fdc_chip.proofs.chip.Chip.quiet_busy.Goals as goal

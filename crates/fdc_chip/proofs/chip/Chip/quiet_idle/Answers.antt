@@ -1,6 +1,5 @@
 use Rattle.std.proofs.Common.{arith, min, sym, ap, subst, ◌∙◌}
-use Rattle.fdc_chip.specs.Chips.{chip_state}
-use Rattle.fdc_chip.specs.Quiet.{IsQuietFor}
+use Rattle.fdc_chip.proofs.Common.{chip_state, IsQuietFor}
 use Rattle.fdc_chip.proofs.Dues.{due_quiet, quiet_due}
 use Rattle.fdc_chip.proofs.Quieting.{settled_of, settled_quiet, still_quiet, telling_quiet}
 use Rattle.fdc_chip.proofs.chip.Chip.quiet_idle.Goals as goal

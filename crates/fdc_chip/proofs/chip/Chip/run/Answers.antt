@@ -1,5 +1,5 @@
 use Rattle.std.proofs.Common.{◌≡◌, refl, sym, arith}
-use Rattle.fdc_chip.specs.Chips.{chip_state}
+use Rattle.fdc_chip.proofs.Common.{chip_state}
 use Rattle.fdc_chip.proofs.Runs.{runs_none, runs_on}
 use Rattle.fdc_chip.proofs.chip.Chip.run.Goals as goal
 

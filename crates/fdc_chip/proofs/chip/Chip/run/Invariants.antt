@@ -1,6 +1,5 @@
 use Rattle.std.proofs.Common.{◌≤◌, ◌-◌}
-use Rattle.fdc_chip.specs.Chips.{chip_state}
-use Rattle.fdc_chip.specs.Steps.{HasLinesChip, RunsChipWith}
+use Rattle.fdc_chip.proofs.Common.{chip_state, HasLinesChip, RunsChipWith}
 use Rattle.fdc_chip.proofs.chip.Chip.run.Given as goal
 
 abbrev pub invariant-loop-made : goal.invariant-loop-made

@@ -1,8 +1,5 @@
 use Rattle.std.proofs.Common.{◌≡◌, refl, subst, ap, ◌∙◌, arith}
-use Rattle.fdc_chip.specs.Chips.{ChipState, chip_state}
-use Rattle.fdc_chip.specs.Steps.{SwallowsBy}
-use Rattle.fdc_chip.specs.declared.stage.ChipStage.TheVariants.{Busy}
-use Rattle.fdc_chip.specs.declared.stage.ChipTask.TheVariants.{Verify}
+use Rattle.fdc_chip.proofs.Common.{ChipState, chip_state, SwallowsBy, Busy, Verify}
 use Rattle.fdc_chip.proofs.Lists.{swallows_none, swallows_more}
 use Rattle.fdc_chip.proofs.chip.Chip.swallow_all.Goals as goal
 

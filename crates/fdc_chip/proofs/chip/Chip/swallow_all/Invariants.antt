@@ -1,6 +1,4 @@
-use Rattle.std.proofs.Common.{◌≡◌}
-use Rattle.fdc_chip.specs.Chips.{chip_state, KeepsRest}
-use Rattle.fdc_chip.specs.Steps.{SwallowsBy}
+use Rattle.fdc_chip.proofs.Common.{chip_state, KeepsRest, SwallowsBy}
 use Rattle.fdc_chip.proofs.chip.Chip.swallow_all.Given as goal
 
 abbrev pub invariant-loop-place : goal.invariant-loop-place

@@ -1,4 +1,4 @@
-use Rattle.drive_model.specs.Drive.{at_index}
+use Rattle.fdc_core.proofs.Common.{at_index}
 use Rattle.std.proofs.Common.{◌==◌}
 use Rattle.fdc_core.proofs.Ending.{executes_left}
 use Rattle.fdc_core.proofs.Hearing.{executes_hears, rests_hears}

@@ -1,5 +1,5 @@
 use Rattle.std.proofs.Common.{false, sym, subst}
-use Rattle.fdc_core.specs.Tasks.{StepsNowhere}
+use Rattle.fdc_core.proofs.Common.{StepsNowhere}
 use Rattle.fdc_core.proofs.Ending.{executes_left_none}
 use Rattle.fdc_core.proofs.Hearing.{executes_hears_none, rests_follows}
 use Rattle.fdc_core.proofs.Staying.{executes_stays_none, executes_flows_none}

@@ -1,5 +1,5 @@
 use Rattle.std.proofs.Common.{ap, ◌∙◌}
-use Rattle.fdc_core.specs.Dma.{asked}
+use Rattle.fdc_core.proofs.Common.{asked}
 use Rattle.fdc_core.proofs.controller.Fdc.begin_formatting.Goals as goal
 
 pub returns : goal.returns

@@ -1,10 +1,7 @@
 use Rattle.std.proofs.Common.{sym, subst}
-use Rattle.fdc_core.specs.State.{is_gated}
-use Rattle.fdc_core.specs.Written.{MayWrite, MayFormat}
-use Rattle.fdc_phases.specs.Written.{took}
+use Rattle.fdc_core.proofs.Common.{is_gated, MayWrite, MayFormat, took, CanWait, Feeds}
 use Rattle.fdc_core.proofs.MayRead.{second_true}
 use Rattle.fdc_core.proofs.MayWrite.{in_writes, in_formats}
-use Rattle.fdc_core.specs.Waiting.{CanWait, Feeds}
 use Rattle.fdc_core.proofs.Feeding.{in_waits, in_feeds}
 use Rattle.fdc_core.proofs.controller.Fdc.dma_in.Goals as goal
 

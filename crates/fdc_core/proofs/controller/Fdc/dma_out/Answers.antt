@@ -1,10 +1,6 @@
 use Rattle.std.proofs.Common.{sym, subst}
-use Rattle.fdc_core.specs.Heard.{MayRead}
-use Rattle.fdc_phases.specs.Heard.{gave}
-use Rattle.fdc_core.specs.Dma.{byte_out}
-use Rattle.fdc_core.specs.State.{is_gated}
+use Rattle.fdc_core.proofs.Common.{MayRead, gave, byte_out, is_gated, CanWait, Feeds}
 use Rattle.fdc_core.proofs.MayRead.{out_reads, second_true}
-use Rattle.fdc_core.specs.Waiting.{CanWait, Feeds}
 use Rattle.fdc_core.proofs.Feeding.{out_waits, out_feeds}
 use Rattle.fdc_core.proofs.controller.Fdc.dma_out.Goals as goal
 

@@ -1,9 +1,6 @@
 use Rattle.std.proofs.Common.{◌≡◌, ◌+◌, sym, ap, subst, ◌∙◌}
 use Rattle.fdc_stages.specs.declared.reading.ReadHeard.TheVariants.{On}
-use Rattle.fdc_phases.specs.declared.phases.Phase.TheVariants.{Execute}
-use Rattle.fdc_phases.specs.declared.phases.Task.TheVariants.{Read}
-use Rattle.fdc_core.specs.Listening.{SeesUnder, StepsOn}
-use Rattle.fdc_core.specs.Tasks.{ExecutionSteps}
+use Rattle.fdc_core.proofs.Common.{Execute, Read, SeesUnder, StepsOn, ExecutionSteps}
 use Rattle.fdc_core.proofs.Following.{followed_is}
 use Rattle.fdc_core.proofs.Words.{sees, sees_fitting}
 use Rattle.fdc_core.proofs.Passing.{passed_by, heard_after, steps_same}

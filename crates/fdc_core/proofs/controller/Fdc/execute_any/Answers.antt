@@ -1,8 +1,5 @@
 use Rattle.std.proofs.Common.{sym, ap, subst, ◌∙◌, arith}
-use Rattle.fdc_core.specs.Tasks.{ExecutionSteps}
-use Rattle.fdc_phases.specs.Writing.{IsWritingAt}
-use Rattle.fdc_phases.specs.declared.phases.Phase.TheVariants.{Execute}
-use Rattle.fdc_phases.specs.Formatting.{IsFormattingAt}
+use Rattle.fdc_core.proofs.Common.{ExecutionSteps, IsWritingAt, Execute, IsFormattingAt}
 use Rattle.fdc_core.proofs.Words.{heard_time, heard_index}
 use Rattle.fdc_core.proofs.controller.Fdc.execute_any.Goals as goal
 

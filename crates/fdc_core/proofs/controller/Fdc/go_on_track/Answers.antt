@@ -1,5 +1,5 @@
 use Rattle.std.proofs.Common.{sym, ◌∙◌, Some, ◌≡◌}
-use Rattle.fdc_core.specs.Writing.{byte_taken}
+use Rattle.fdc_core.proofs.Common.{byte_taken}
 use Rattle.fdc_core.proofs.Words.{laid_time, missed_time}
 use Rattle.fdc_core.proofs.controller.Fdc.go_on_track.Goals as goal
 

@@ -1,6 +1,5 @@
 use Rattle.std.proofs.Common.{sym, ap, ◌∙◌, Some, ◌≡◌}
-use Rattle.fdc_stages.specs.Writings.{needs_byte}
-use Rattle.fdc_core.specs.Writing.{byte_taken, without_byte}
+use Rattle.fdc_core.proofs.Common.{needs_byte, byte_taken, without_byte}
 use Rattle.fdc_core.proofs.Words.{wrote_time}
 use Rattle.fdc_core.proofs.controller.Fdc.go_on_window.Goals as goal
 

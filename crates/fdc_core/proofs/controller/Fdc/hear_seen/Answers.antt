@@ -1,6 +1,5 @@
 use Rattle.std.proofs.Common.{◌+◌, sym, subst, ◌∙◌}
-use Rattle.fdc_stages.specs.Readings.{read_outcome}
-use Rattle.fdc_core.specs.Listening.{HearsIn, Hears}
+use Rattle.fdc_core.proofs.Common.{read_outcome, HearsIn, Hears}
 use Rattle.fdc_core.proofs.Following.{followed_is}
 use Rattle.fdc_core.proofs.controller.Fdc.hear_seen.Goals as goal
 

@@ -1,6 +1,5 @@
 use Rattle.std.proofs.Common.{subst}
-use Rattle.fdc_core.specs.Listening.{SeesUnder, HasStepsLeft}
-use Rattle.fdc_core.specs.Transfers.{HearsToWrite}
+use Rattle.fdc_core.proofs.Common.{SeesUnder, HasStepsLeft, HearsToWrite}
 use Rattle.fdc_core.proofs.controller.Fdc.hear_writing.Goals as goal
 
 pub returns : goal.returns

@@ -1,8 +1,5 @@
 use Rattle.std.proofs.Common.{◌≡◌, sym, ap, subst, ◌∙◌}
-use Rattle.drive_model.specs.Drive.{Writes}
-use Rattle.fdc_phases.specs.declared.phases.Phase.TheVariants.{Execute}
-use Rattle.fdc_phases.specs.declared.phases.Task.TheVariants.{Write, Format}
-use Rattle.fdc_core.specs.Tasks.{ExecutionSteps}
+use Rattle.fdc_core.proofs.Common.{Writes, Execute, Write, Format, ExecutionSteps}
 use Rattle.fdc_core.proofs.Laid.{laid_on}
 use Rattle.fdc_core.proofs.Passing.{steps_same}
 use Rattle.fdc_core.proofs.controller.Fdc.lay_on.Goals as goal

@@ -1,7 +1,5 @@
 use Rattle.std.proofs.Common.{subst, ◌∙◌, ◌-◌}
-use Rattle.drive_model.specs.Drive.{Writes}
-use Rattle.fdc_core.specs.Times.{Opens, Closes}
-use Rattle.fdc_phases.specs.Formatting.{StageLaysWord}
+use Rattle.fdc_core.proofs.Common.{Writes, Opens, Closes, StageLaysWord}
 use Rattle.fdc_core.proofs.Words.{opens_index}
 use Rattle.fdc_core.proofs.controller.Fdc.lay_word.Goals as goal
 

@@ -1,6 +1,5 @@
 use Rattle.std.proofs.Common.{◌≡◌, inl, subst}
-use Rattle.fdc_core.specs.State.{finished}
-use Rattle.fdc_stages.specs.declared.ending.Ending.TheVariants.{Late}
+use Rattle.fdc_core.proofs.Common.{finished, Late}
 use Rattle.fdc_core.proofs.Words.{last_listens}
 use Rattle.fdc_core.proofs.controller.Fdc.listen_on.Goals as goal
 

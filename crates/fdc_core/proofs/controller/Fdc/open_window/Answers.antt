@@ -1,6 +1,5 @@
 use Rattle.std.proofs.Common.{sym, ap, ◌∙◌, ◌≡◌, true, false}
-use Rattle.drive_model.specs.Drive.{DriveState, rate_of}
-use Rattle.fdc_phases.specs.Rates.{rate_fits}
+use Rattle.fdc_core.proofs.Common.{DriveState, rate_of, rate_fits}
 use Rattle.fdc_core.proofs.Words.{kept_time, opens_due}
 use Rattle.fdc_core.proofs.controller.Fdc.open_window.Goals as goal
 

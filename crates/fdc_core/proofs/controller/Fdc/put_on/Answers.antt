@@ -1,8 +1,5 @@
 use Rattle.std.proofs.Common.{◌≡◌, sym, ap, subst, ◌∙◌}
-use Rattle.drive_model.specs.Drive.{Writes}
-use Rattle.fdc_phases.specs.declared.phases.Phase.TheVariants.{Execute}
-use Rattle.fdc_phases.specs.declared.phases.Task.TheVariants.{Write}
-use Rattle.fdc_core.specs.Tasks.{ExecutionSteps}
+use Rattle.fdc_core.proofs.Common.{Writes, Execute, Write, ExecutionSteps}
 use Rattle.fdc_core.proofs.Put.{put_on}
 use Rattle.fdc_core.proofs.Passing.{steps_same}
 use Rattle.fdc_core.proofs.controller.Fdc.put_on.Goals as goal

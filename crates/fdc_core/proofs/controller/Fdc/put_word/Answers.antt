@@ -1,8 +1,5 @@
 use Rattle.std.proofs.Common.{subst, ◌∙◌}
-use Rattle.drive_model.specs.Drive.{Writes}
-use Rattle.fdc_core.specs.Times.{Opens, Closes}
-use Rattle.fdc_phases.specs.Writing.{StageWritesWord}
-use Rattle.fdc_stages.specs.Writings.{lead_of}
+use Rattle.fdc_core.proofs.Common.{Writes, Opens, Closes, StageWritesWord, lead_of}
 use Rattle.fdc_core.proofs.Words.{opens_index}
 use Rattle.fdc_core.proofs.controller.Fdc.put_word.Goals as goal
 

@@ -1,6 +1,5 @@
 use Rattle.std.proofs.Common.{◌∙◌, ap, sym}
-use Rattle.std.proofs.lemmas.Bool.{false≢true}
-use Rattle.fdc_phases.specs.Rates.{rate_fits}
+use Rattle.fdc_core.proofs.Common.{false≢true, rate_fits}
 use Rattle.fdc_core.proofs.Foreseeing.{nothing_foreseen}
 use Rattle.fdc_core.proofs.Longest.{disturbed}
 use Rattle.fdc_core.proofs.controller.Fdc.quiet_ahead.Goals as goal

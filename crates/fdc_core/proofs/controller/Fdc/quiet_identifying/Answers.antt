@@ -1,5 +1,5 @@
 use Rattle.std.proofs.Common.{◌≡◌, arith, length, subst}
-use Rattle.drive_model.specs.Ahead.{AreAhead, words_left}
+use Rattle.fdc_core.proofs.Common.{AreAhead, words_left}
 use Rattle.fdc_core.proofs.Foreseen.{id_foreseen}
 use Rattle.fdc_core.proofs.Longest.{id_longest}
 use Rattle.fdc_core.proofs.controller.Fdc.quiet_identifying.Goals as goal

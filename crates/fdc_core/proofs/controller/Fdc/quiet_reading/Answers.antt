@@ -1,8 +1,5 @@
 use Rattle.std.proofs.Common.{◌≡◌, ◌≤◌, ◌∙◌, ap, arith, length, subst, sym}
-use Rattle.drive_model.specs.Ahead.{AreAhead, words_left}
-use Rattle.fdc_stages.specs.Readings.{IsContent, mark_at}
-use Rattle.fdc_phases.specs.declared.phases.Task.TheVariants.{Read}
-use Rattle.fdc_core.specs.Quiet.{Foresees}
+use Rattle.fdc_core.proofs.Common.{AreAhead, words_left, IsContent, mark_at, Read, Foresees}
 use Rattle.fdc_core.proofs.Foreseeing.{nothing_foreseen}
 use Rattle.fdc_core.proofs.Foreseen.{by_count, content_foreseen, not_marked, unmarked_foreseen}
 use Rattle.fdc_core.proofs.Longest.{asking_longest, content_longest, over_longest, unmarked_longest}

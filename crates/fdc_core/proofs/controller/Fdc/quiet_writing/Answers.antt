@@ -1,6 +1,5 @@
 use Rattle.std.proofs.Common.{◌≡◌, ◌≤◌, ◌∙◌, arith, length, subst, sym}
-use Rattle.drive_model.specs.Ahead.{AreAhead, words_left}
-use Rattle.fdc_phases.specs.declared.phases.Task.TheVariants.{Write}
+use Rattle.fdc_core.proofs.Common.{AreAhead, words_left, Write}
 use Rattle.fdc_core.proofs.Foreseeing.{nothing_foreseen}
 use Rattle.fdc_core.proofs.ForeseenWrites.{write_foreseen}
 use Rattle.fdc_core.proofs.Longest.{asking_longest, first_longest, met_longest, search_longest}

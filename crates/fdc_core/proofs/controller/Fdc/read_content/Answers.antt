@@ -1,7 +1,5 @@
 use Rattle.std.proofs.Common.{◌≡◌, ap, subst, ◌∙◌}
-use Rattle.fdc_phases.specs.declared.phases.Phase.TheVariants.{Execute}
-use Rattle.fdc_phases.specs.declared.phases.Task.TheVariants.{Read}
-use Rattle.fdc_core.specs.Contents.{TakesMany}
+use Rattle.fdc_core.proofs.Common.{Execute, Read, TakesMany}
 use Rattle.fdc_core.proofs.Taking.{content_over}
 use Rattle.fdc_core.proofs.controller.Fdc.read_content.Goals as goal
 

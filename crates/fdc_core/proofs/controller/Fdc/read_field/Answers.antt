@@ -1,6 +1,5 @@
 use Rattle.std.proofs.Common.{ap}
-use Rattle.fdc_phases.specs.declared.phases.Phase.TheVariants.{Execute}
-use Rattle.fdc_core.specs.declared.controller.Fdc.{Fdc}
+use Rattle.fdc_core.proofs.Common.{Execute, Fdc}
 use Rattle.fdc_core.proofs.controller.Fdc.read_field.Goals as goal
 
 pub returns : goal.returns

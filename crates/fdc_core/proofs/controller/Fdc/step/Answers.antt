@@ -1,4 +1,4 @@
-use Rattle.drive_model.specs.Drive.{at_index}
+use Rattle.fdc_core.proofs.Common.{at_index}
 use Rattle.fdc_core.proofs.Hearing.{polled_hears}
 use Rattle.fdc_core.proofs.Staying.{polled_stays}
 use Rattle.fdc_core.proofs.Waiting.{polled_lasts}

@@ -1,7 +1,5 @@
 use Rattle.std.proofs.Common.{refl, sym, ◌∙◌, false}
-use Rattle.std.proofs.lemmas.Bool.{false≢true}
-use Rattle.fdc_core.specs.Times.{Stopped}
-use Rattle.fdc_stages.specs.declared.ending.Ending.TheVariants.{Protected}
+use Rattle.fdc_core.proofs.Common.{false≢true, Stopped, Protected}
 use Rattle.fdc_core.proofs.controller.Fdc.step_formatting.Goals as goal
 
 pub returns-then-protected : goal.returns-then-protected

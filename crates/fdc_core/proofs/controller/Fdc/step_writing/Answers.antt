@@ -1,6 +1,5 @@
 use Rattle.std.proofs.Common.{refl, sym, ◌∙◌}
-use Rattle.fdc_core.specs.Times.{Stopped}
-use Rattle.fdc_stages.specs.declared.ending.Ending.TheVariants.{Protected}
+use Rattle.fdc_core.proofs.Common.{Stopped, Protected}
 use Rattle.fdc_core.proofs.controller.Fdc.step_writing.Goals as goal
 
 pub returns-then-protected : goal.returns-then-protected

@@ -1,13 +1,7 @@
 use Rattle.std.proofs.Common.{sym, subst}
-use Rattle.fdc_core.specs.Heard.{MayRead}
-use Rattle.fdc_phases.specs.Heard.{told_in}
-use Rattle.fdc_core.specs.Listening.{is_executing}
+use Rattle.fdc_core.proofs.Common.{MayRead, told_in, is_executing, MayWrite, MayFormat, fifo_told, is_reading, CanWait, Feeds}
 use Rattle.fdc_core.proofs.MayRead.{told_reads}
-use Rattle.fdc_core.specs.Written.{MayWrite, MayFormat}
 use Rattle.fdc_core.proofs.MayWrite.{told_writes, told_formats}
-use Rattle.fdc_core.specs.Dma.{fifo_told}
-use Rattle.fdc_phases.specs.Phases.{is_reading}
-use Rattle.fdc_core.specs.Waiting.{CanWait, Feeds}
 use Rattle.fdc_core.proofs.Feeding.{told_waits, told_feeds}
 use Rattle.fdc_core.proofs.controller.Fdc.tc.Goals as goal
 

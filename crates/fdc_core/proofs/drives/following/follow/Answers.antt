@@ -1,5 +1,5 @@
 use Rattle.std.proofs.Common.{subst}
-use Rattle.fdc_core.specs.Times.{Closes}
+use Rattle.fdc_core.proofs.Common.{Closes}
 use Rattle.fdc_core.proofs.drives.following.follow.Goals as goal
 
 pub returns : goal.returns

@@ -1,5 +1,5 @@
 use Rattle.std.proofs.Common.{arith}
-use Rattle.fdc_sequencer.specs.Adapters.{adapter_state}
+use Rattle.fdc_sequencer.proofs.Common.{adapter_state}
 use Rattle.fdc_sequencer.proofs.AdapterRuns.{leap_runs, runs_one}
 use Rattle.fdc_sequencer.proofs.adapter.DisketteAdapter.advance.Goals as goal
 

@@ -1,6 +1,5 @@
 use Rattle.std.proofs.Common.{◌∙◌, sym, ap}
-use Rattle.fdc_sequencer.specs.WordTimes.{nanoseconds}
-use Rattle.fdc_core.specs.State.{data_rate}
+use Rattle.fdc_sequencer.proofs.Common.{nanoseconds, data_rate}
 use Rattle.fdc_sequencer.proofs.RateLemmas.{without_seek_rate}
 use Rattle.fdc_sequencer.proofs.adapter.DisketteAdapter.forget_seek.Goals as goal
 

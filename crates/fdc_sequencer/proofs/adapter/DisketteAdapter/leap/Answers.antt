@@ -1,4 +1,4 @@
-use Rattle.fdc_sequencer.specs.Adapters.{adapter_state}
+use Rattle.fdc_sequencer.proofs.Common.{adapter_state}
 use Rattle.fdc_sequencer.proofs.AdapterRuns.{times_leap}
 use Rattle.fdc_sequencer.proofs.adapter.DisketteAdapter.leap.Goals as goal
 

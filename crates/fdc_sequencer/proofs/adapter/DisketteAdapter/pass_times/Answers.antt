@@ -1,7 +1,5 @@
 use Rattle.std.proofs.Common.{sym, ap, ◌∙◌}
-use Rattle.fdc_sequencer.specs.Adapters.{adapter_state, selected_at}
-use Rattle.fdc_sequencer.specs.WordTimes.{nanoseconds}
-use Rattle.fdc_core.proofs.drives.PassedTimes.{rate_stays_on, times_none}
+use Rattle.fdc_sequencer.proofs.Common.{adapter_state, selected_at, nanoseconds, rate_stays_on, times_none}
 use Rattle.fdc_sequencer.proofs.adapter.DisketteAdapter.pass_times.Goals as goal
 
 pub returns-then-not-may_leap-clause-passes : goal.returns-then-not-may_leap-clause-passes

@@ -1,6 +1,4 @@
-use Rattle.fdc_core.proofs.Foreseeing.{nothing_foreseen}
-use Rattle.fdc_sequencer.specs.Adapters.{adapter_state}
-use Rattle.fdc_sequencer.specs.Quiet.{drive_selected}
+use Rattle.fdc_sequencer.proofs.Common.{nothing_foreseen, adapter_state, drive_selected}
 use Rattle.fdc_sequencer.proofs.adapter.DisketteAdapter.quiet_ahead.Goals as goal
 
 pub returns-in_default-clause-foresees : goal.returns-in_default-clause-foresees

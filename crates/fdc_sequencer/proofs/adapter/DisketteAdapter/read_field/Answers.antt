@@ -1,7 +1,5 @@
 use Rattle.std.proofs.Common.{◌∙◌, sym, ap}
-use Rattle.fdc_core.specs.State.{data_rate}
-use Rattle.fdc_core.specs.declared.controller.Fdc.{Fdc}
-use Rattle.fdc_sequencer.specs.WordTimes.{nanoseconds}
+use Rattle.fdc_sequencer.proofs.Common.{data_rate, Fdc, nanoseconds}
 use Rattle.fdc_sequencer.proofs.adapter.DisketteAdapter.read_field.Goals as goal
 
 pub invariant_of-self : goal.invariant_of-self

@@ -1,5 +1,5 @@
 use Rattle.std.proofs.Common.{◌≡◌, refl, sym, arith}
-use Rattle.fdc_sequencer.specs.Adapters.{adapter_state}
+use Rattle.fdc_sequencer.proofs.Common.{adapter_state}
 use Rattle.fdc_sequencer.proofs.AdapterRuns.{runs_none, runs_on}
 use Rattle.fdc_sequencer.proofs.adapter.DisketteAdapter.run.Goals as goal
 

@@ -1,5 +1,5 @@
 use Rattle.std.proofs.Common.{◌≤◌, ◌-◌}
-use Rattle.fdc_sequencer.specs.Adapters.{adapter_state, HasLines, RunsWith}
+use Rattle.fdc_sequencer.proofs.Common.{adapter_state, HasLines, RunsWith}
 use Rattle.fdc_sequencer.proofs.adapter.DisketteAdapter.run.Given as goal
 
 abbrev pub invariant-loop-made : goal.invariant-loop-made

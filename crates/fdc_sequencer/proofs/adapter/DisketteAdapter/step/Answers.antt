@@ -1,7 +1,5 @@
 use Rattle.std.proofs.Common.{sym, ap, ◌∙◌}
-use Rattle.fdc_sequencer.specs.Adapters.{adapter_state, selected_at}
-use Rattle.fdc_sequencer.specs.WordTimes.{nanoseconds}
-use Rattle.fdc_core.proofs.drives.PassedTimes.{rate_stays}
+use Rattle.fdc_sequencer.proofs.Common.{adapter_state, selected_at, nanoseconds, rate_stays}
 use Rattle.fdc_sequencer.proofs.adapter.DisketteAdapter.step.Goals as goal
 
 pub invariant_of-self : goal.invariant_of-self

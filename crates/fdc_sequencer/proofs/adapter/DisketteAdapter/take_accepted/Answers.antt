@@ -1,7 +1,6 @@
 use Rattle.std.proofs.Common.{◌∙◌, sym, ap, []}
-use Rattle.fdc_sequencer.specs.WordTimes.{nanoseconds}
+use Rattle.fdc_sequencer.proofs.Common.{nanoseconds, looked_at}
 use Rattle.fdc_sequencer.proofs.RateLemmas.{taken_as}
-use Rattle.fdc_core.specs.Whole.{looked_at}
 use Rattle.fdc_sequencer.proofs.adapter.DisketteAdapter.take_accepted.Goals as goal
 
 pub invariant_of-self : goal.invariant_of-self

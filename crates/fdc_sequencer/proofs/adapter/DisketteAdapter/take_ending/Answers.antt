@@ -1,6 +1,5 @@
 use Rattle.std.proofs.Common.{◌∙◌, sym, ap}
-use Rattle.fdc_sequencer.specs.WordTimes.{nanoseconds}
-use Rattle.fdc_core.specs.State.{data_rate}
+use Rattle.fdc_sequencer.proofs.Common.{nanoseconds, data_rate}
 use Rattle.fdc_sequencer.proofs.RateLemmas.{given_up_rate}
 use Rattle.fdc_sequencer.proofs.adapter.DisketteAdapter.take_ending.Goals as goal
 

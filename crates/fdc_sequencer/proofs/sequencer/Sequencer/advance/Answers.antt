@@ -1,5 +1,5 @@
 use Rattle.std.proofs.Common.{arith}
-use Rattle.fdc_sequencer.specs.Fronts.{front_state}
+use Rattle.fdc_sequencer.proofs.Common.{front_state}
 use Rattle.fdc_sequencer.proofs.Runs.{leap_runs, runs_one}
 use Rattle.fdc_sequencer.proofs.sequencer.Sequencer.advance.Goals as goal
 

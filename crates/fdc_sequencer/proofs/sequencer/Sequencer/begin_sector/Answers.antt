@@ -1,7 +1,5 @@
 use Rattle.std.proofs.Common.{ap, ◌∙◌}
-use Rattle.fdc_sequencer.specs.Adapters.{adapter_state}
-use Rattle.fdc_core.specs.Listening.{is_executing}
-use Rattle.fdc_sequencer.specs.Fronts.{front_state}
+use Rattle.fdc_sequencer.proofs.Common.{adapter_state, is_executing, front_state}
 use Rattle.fdc_sequencer.proofs.Begun.{begun_over}
 use Rattle.fdc_sequencer.proofs.sequencer.Sequencer.begin_sector.Goals as goal
 

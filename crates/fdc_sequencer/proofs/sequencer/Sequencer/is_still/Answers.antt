@@ -1,5 +1,5 @@
 use Rattle.std.proofs.Common.{sym, ◌∙◌}
-use Rattle.fdc_sequencer.specs.Fronts.{front_state}
+use Rattle.fdc_sequencer.proofs.Common.{front_state}
 use Rattle.fdc_sequencer.proofs.Standing.{stands_front}
 use Rattle.fdc_sequencer.proofs.sequencer.Sequencer.is_still.Goals as goal
 

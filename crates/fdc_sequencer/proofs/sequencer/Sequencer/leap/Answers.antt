@@ -1,4 +1,4 @@
-use Rattle.fdc_sequencer.specs.Fronts.{front_state}
+use Rattle.fdc_sequencer.proofs.Common.{front_state}
 use Rattle.fdc_sequencer.proofs.Runs.{front_leaps, leaps_none}
 use Rattle.fdc_sequencer.proofs.sequencer.Sequencer.leap.Goals as goal
 

@@ -1,6 +1,5 @@
 use Rattle.std.proofs.Common.{sym, ◌∙◌}
-use Rattle.std.proofs.lemmas.Bool.{false≢true}
-use Rattle.fdc_sequencer.specs.Fronts.{front_state}
+use Rattle.fdc_sequencer.proofs.Common.{false≢true, front_state}
 use Rattle.fdc_sequencer.proofs.Quieting.{command_lasts, foresees_none, longest_command, longest_seek}
 use Rattle.fdc_sequencer.proofs.sequencer.Sequencer.quiet_ahead.Goals as goal
 

@@ -1,6 +1,5 @@
 use Rattle.std.proofs.Common.{◌≤◌, arith, sym, ◌∙◌}
-use Rattle.fdc_sequencer.specs.AdapterStill.{steps_ahead}
-use Rattle.fdc_sequencer.specs.Fronts.{front_state}
+use Rattle.fdc_sequencer.proofs.Common.{steps_ahead, front_state}
 use Rattle.fdc_sequencer.proofs.Quieting.{seek_lasts}
 use Rattle.fdc_sequencer.proofs.sequencer.Sequencer.quiet_seek.Goals as goal
 

@@ -1,8 +1,5 @@
 use Rattle.std.proofs.Common.{false, ap, ◌∙◌}
-use Rattle.fdc_sequencer.specs.Adapters.{adapter_state}
-use Rattle.fdc_sequencer.specs.Fronts.{front_state, moving_of}
-use Rattle.fdc_sequencer.specs.declared.stage.FrontStage.TheVariants.{Moving}
-use Rattle.fdc_sequencer.specs.declared.transfer.Transfer.{Transfer}
+use Rattle.fdc_sequencer.proofs.Common.{adapter_state, front_state, moving_of, Moving, Transfer}
 use Rattle.fdc_sequencer.proofs.sequencer.Sequencer.read_field.Goals as goal
 
 pub returns : goal.returns

@@ -1,5 +1,5 @@
 use Rattle.std.proofs.Common.{◌≡◌, refl, sym, arith}
-use Rattle.fdc_sequencer.specs.Fronts.{front_state}
+use Rattle.fdc_sequencer.proofs.Common.{front_state}
 use Rattle.fdc_sequencer.proofs.Runs.{runs_none, runs_on}
 use Rattle.fdc_sequencer.proofs.sequencer.Sequencer.run_on.Goals as goal
 

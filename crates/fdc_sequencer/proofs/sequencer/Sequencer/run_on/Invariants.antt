@@ -1,6 +1,5 @@
 use Rattle.std.proofs.Common.{◌≤◌, ◌-◌}
-use Rattle.fdc_sequencer.specs.Fronts.{front_state}
-use Rattle.fdc_sequencer.specs.Moves.{HasLinesOutside, RunsFrontWith}
+use Rattle.fdc_sequencer.proofs.Common.{front_state, HasLinesOutside, RunsFrontWith}
 use Rattle.fdc_sequencer.proofs.sequencer.Sequencer.run_on.Given as goal
 
 abbrev pub invariant-loop-made : goal.invariant-loop-made

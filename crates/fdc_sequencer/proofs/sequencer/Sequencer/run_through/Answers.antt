@@ -1,4 +1,4 @@
-use Rattle.fdc_sequencer.specs.Fronts.{front_state}
+use Rattle.fdc_sequencer.proofs.Common.{front_state}
 use Rattle.fdc_sequencer.proofs.Runs.{adapter_runs}
 use Rattle.fdc_sequencer.proofs.sequencer.Sequencer.run_through.Goals as goal
 

@@ -1,6 +1,5 @@
 use Rattle.std.proofs.Common.{subst, sym}
-use Rattle.fdc_stages.specs.History.{wrote}
-use Rattle.fdc_stages.specs.Formats.{HasNext}
+use Rattle.fdc_stages.proofs.Common.{wrote, HasNext}
 use Rattle.fdc_stages.specs.declared.formatting.FormatNext.TheVariants.{Ended}
 use Rattle.fdc_stages.proofs.formatting.FormatStage.end.Goals as goal
 

@@ -1,6 +1,5 @@
 use Rattle.std.proofs.Common.{subst, refl, true}
-use Rattle.fdc_stages.specs.History.{wrote}
-use Rattle.fdc_stages.specs.Formats.{HasWholeTurn}
+use Rattle.fdc_stages.proofs.Common.{wrote, HasWholeTurn}
 use Rattle.fdc_stages.proofs.Laying.{StreamIsWhole}
 use Rattle.fdc_stages.proofs.Turned.{too_short, whole_turn, turn_begun, result_is_last}
 use Rattle.fdc_stages.proofs.formatting.FormatStage.end_at_index.Goals as goal

@@ -1,7 +1,5 @@
 use Rattle.std.proofs.Common.{subst, sym}
-use Rattle.fdc_stages.specs.History.{heard, kept_out}
-use Rattle.fdc_stages.specs.Writings.{heard_where}
-use Rattle.fdc_stages.specs.Formats.{is_first, IsAtPart, HasNext, format_next}
+use Rattle.fdc_stages.proofs.Common.{heard, kept_out, heard_where, is_first, IsAtPart, HasNext, format_next}
 use Rattle.fdc_stages.proofs.Turned.{due_unopened, barred_unopened}
 use Rattle.fdc_stages.proofs.formatting.FormatStage.hear.Goals as goal
 

@@ -1,6 +1,5 @@
 use Rattle.std.proofs.Common.{refl, subst, sym}
-use Rattle.fdc_stages.specs.History.{heard}
-use Rattle.fdc_stages.specs.Readings.{IsReading}
+use Rattle.fdc_stages.proofs.Common.{heard, IsReading}
 use Rattle.fdc_stages.proofs.Lawful.{over_stays}
 use Rattle.fdc_stages.proofs.ReadWord.{byte_heard, end_heard, cut_heard, content_heard}
 use Rattle.fdc_stages.proofs.reading.ReadStage.hear.Goals as goal

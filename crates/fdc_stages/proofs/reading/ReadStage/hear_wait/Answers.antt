@@ -1,5 +1,5 @@
 use Rattle.std.proofs.Common.{subst}
-use Rattle.fdc_stages.specs.Readings.{IsReading}
+use Rattle.fdc_stages.proofs.Common.{IsReading}
 use Rattle.fdc_stages.proofs.ReadWord.{mode_heard, none_heard, wait_heard}
 use Rattle.fdc_stages.proofs.reading.ReadStage.hear_wait.Goals as goal
 

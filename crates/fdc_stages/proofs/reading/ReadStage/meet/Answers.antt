@@ -1,6 +1,5 @@
 use Rattle.std.proofs.Common.{sym, subst, ◌∙◌}
-use Rattle.track_separator.specs.Waits.{SWaits}
-use Rattle.fdc_stages.specs.Searches.{IsMet}
+use Rattle.fdc_stages.proofs.Common.{SWaits, IsMet}
 use Rattle.fdc_stages.proofs.ReadWord.{met_over, met_within, same_separator}
 use Rattle.fdc_stages.proofs.reading.ReadStage.meet.Goals as goal
 

@@ -1,6 +1,5 @@
 use Rattle.std.proofs.Common.{Some, sym, subst}
-use Rattle.fdc_stages.specs.Readings.{PassesBy}
-use Rattle.fdc_stages.specs.declared.reading.ReadStage.TheVariants.{Search}
+use Rattle.fdc_stages.proofs.Common.{PassesBy, Search}
 use Rattle.fdc_stages.proofs.reading.ReadStage.pass_by.Goals as goal
 
 pub returns-in-Search-clause-passed : goal.returns-in-Search-clause-passed

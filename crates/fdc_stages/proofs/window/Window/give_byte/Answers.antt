@@ -1,5 +1,5 @@
 use Rattle.std.proofs.Common.{arith}
-use Rattle.std.proofs.lemmas.List.{nil_from_length}
+use Rattle.fdc_stages.proofs.Common.{nil_from_length}
 use Rattle.fdc_stages.proofs.Words.{content_first, content_last}
 use Rattle.fdc_stages.proofs.window.Window.give_byte.Goals as goal
 

@@ -1,5 +1,5 @@
 use Rattle.std.proofs.Common.{[], ◌∷◌, ◌++◌, arith, ◌≤◌}
-use Rattle.fdc_stages.specs.Windows.{words_of_field}
+use Rattle.fdc_stages.proofs.Common.{words_of_field}
 use Rattle.fdc_stages.proofs.Words.{sync_first}
 use Rattle.fdc_stages.proofs.window.Window.give_sync.Goals as goal
 

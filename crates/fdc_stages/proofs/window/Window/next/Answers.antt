@@ -1,5 +1,5 @@
 use Rattle.std.proofs.Common.{subst, sym, ◌∙◌}
-use Rattle.fdc_stages.specs.Windows.{Gives, window_behind}
+use Rattle.fdc_stages.proofs.Common.{Gives, window_behind}
 use Rattle.fdc_stages.proofs.window.Window.next.Goals as goal
 
 pub returns-then-last : goal.returns-then-last

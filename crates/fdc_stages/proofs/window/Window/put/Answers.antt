@@ -1,5 +1,5 @@
 use Rattle.std.proofs.Common.{subst, sym}
-use Rattle.fdc_stages.specs.Windows.{Gives, is_low, window_behind}
+use Rattle.fdc_stages.proofs.Common.{Gives, is_low, window_behind}
 use Rattle.fdc_stages.proofs.window.Window.put.Goals as goal
 
 pub returns-in-Sync : goal.returns-in-Sync

@@ -1,5 +1,4 @@
-use Rattle.fdc_stages.specs.History.{wrote}
-use Rattle.fdc_stages.specs.Writings.{rest_behind}
+use Rattle.fdc_stages.proofs.Common.{wrote, rest_behind}
 use Rattle.fdc_stages.proofs.Windowed.{none_behind, whole_next, begun_next, cut_open, goes_next, lead_next}
 use Rattle.fdc_stages.proofs.writing.WriteStage.end.Goals as goal
 

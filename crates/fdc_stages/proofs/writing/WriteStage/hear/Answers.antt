@@ -1,7 +1,6 @@
 use Rattle.std.proofs.Common.{subst, sym, Some, None}
-use Rattle.fdc_stages.specs.History.{heard}
-use Rattle.fdc_stages.specs.Searches.{IsMet, IsSearching}
-use Rattle.fdc_stages.specs.Writings.{opens, heard_where, IsWriting, HasNext, write_heard}
+use Rattle.fdc_stages.proofs.Common.{heard, IsMet, IsSearching, opens, heard_where, IsWriting, write_heard}
+use Rattle.fdc_stages.specs.Writings.{HasNext}
 use Rattle.fdc_stages.specs.declared.writing.WriteStage.TheVariants.{Search}
 use Rattle.fdc_stages.proofs.Gaps.{search_none, search_on, search_missed, heard_alone}
 use Rattle.fdc_stages.proofs.writing.WriteStage.hear.Goals as goal

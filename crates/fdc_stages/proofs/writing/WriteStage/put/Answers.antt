@@ -1,8 +1,7 @@
 use Rattle.std.proofs.Common.{subst, sym, true, ◌≡◌}
-use Rattle.fdc_stages.specs.Windows.{window_behind}
+use Rattle.fdc_stages.proofs.Common.{window_behind, is_open, is_last, handed_with, rest_behind, IsWriting, IsNextWord, Window}
 use Rattle.fdc_stages.specs.Windows as windows
-use Rattle.fdc_stages.specs.Writings.{is_open, needs_byte, is_last, handed_with, rest_behind, IsWriting, IsNextWord}
-use Rattle.fdc_stages.specs.declared.writing.WriteStage.TheVariants.{Window}
+use Rattle.fdc_stages.specs.Writings.{needs_byte}
 use Rattle.fdc_stages.proofs.Windowed.{put_in_window}
 use Rattle.fdc_stages.proofs.writing.WriteStage.put.Goals as goal
 

@@ -1,5 +1,5 @@
 use Rattle.fdc_stages.proofs.Windowed.{whole_next, begun_next, cut_next}
-use Rattle.fdc_stages.specs.History.{wrote}
+use Rattle.fdc_stages.proofs.Common.{wrote}
 use Rattle.fdc_stages.proofs.writing.WriteWord.after.Goals as goal
 
 pub returns-in-None-clause-goes_on : goal.returns-in-None-clause-goes_on

@@ -1,4 +1,4 @@
-use Rattle.flat_files.specs.Forms.{sector_bytes, tracks_of}
+use Rattle.flat_files.proofs.Common.{sector_bytes, tracks_of}
 use Rattle.flat_files.proofs.Places.{place_inside}
 use Rattle.flat_files.proofs.form.FlatForm.place.Goals as goal
 

@@ -1,6 +1,5 @@
 use Rattle.std.proofs.Common.{◌≡◌, ℕ, ◌+◌, ◌*◌, arith, sym, ap, ◌∙◌, subst}
-use Rattle.floppy_driver.specs.declared.driver.Driver.{Driver}
-use Rattle.floppy_driver.specs.Shown.{notes_of, with_notes}
+use Rattle.floppy_driver.proofs.Common.{Driver, notes_of, with_notes}
 use Rattle.floppy_driver.proofs.Rounds.{HasStayedSet}
 use Rattle.floppy_driver.proofs.Lasting.{costs_on, costs_for}
 use Rattle.floppy_driver.proofs.Acked.{attached_unready, acks_unready, attached_acked, acks_done}

@@ -1,5 +1,5 @@
 use Rattle.std.proofs.Common.{◌≡◌, ◌+◌, ◌*◌}
-use Rattle.floppy_driver.specs.Rigs.{CostsFor, IsSound}
+use Rattle.floppy_driver.proofs.Common.{CostsFor, IsSound}
 use Rattle.floppy_driver.proofs.Rounds.{HasStayedSet}
 use Rattle.floppy_driver.proofs.driver.Driver.ack.Given as goal
 

@@ -1,7 +1,5 @@
 use Rattle.std.proofs.Common.{[], sym, ap, ◌∙◌, ◌<◌, ◌≤◌, if◌then◌else◌, subst, ℕ}
-use Rattle.flop_base.specs.declared.answers.Rate.TheVariants.{R500}
-use Rattle.sector_model.specs.Stations.{StationState}
-use Rattle.floppy_driver.specs.Shown.{notes_of}
+use Rattle.floppy_driver.proofs.Common.{R500, StationState, notes_of}
 use Rattle.floppy_driver.proofs.FormatStep.{gap_refused, change_refused, protection_refused, format_step}
 use Rattle.floppy_driver.proofs.FormatReady.{can_write_asked}
 use Rattle.floppy_driver.proofs.Lasting.{format_costs}

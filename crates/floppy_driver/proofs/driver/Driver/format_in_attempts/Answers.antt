@@ -1,10 +1,5 @@
 use Rattle.std.proofs.Common.{◌+◌, Ok, Err, refl, ap, ◌∙◌, arith}
-use Rattle.flop_base.specs.Bays.{in_bay}
-use Rattle.flop_base.proofs.Counted.{goes_on_itself, goes_on_after}
-use Rattle.sector_model.specs.Stations.{Bay}
-use Rattle.floppy_driver.specs.Shown.{shown}
-use Rattle.sector_model.specs.Lasting.{format_once_port_accesses, format_steps, format_turns}
-use Rattle.floppy_driver.specs.Formattings.{format_of}
+use Rattle.floppy_driver.proofs.Common.{in_bay, goes_on_itself, goes_on_after, Bay, shown, format_once_port_accesses, format_steps, format_turns, format_of}
 use Rattle.floppy_driver.proofs.Shows.{bay_shown_at}
 use Rattle.floppy_driver.proofs.Lasting.{costs_any, costs_fewer, costs_next}
 use Rattle.floppy_driver.proofs.FormatTries.{formats_none, formats_more, formats_done, medium_twice, medium_itself}

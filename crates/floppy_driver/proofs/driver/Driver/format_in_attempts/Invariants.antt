@@ -1,11 +1,5 @@
 use Rattle.std.proofs.Common.{◌≡◌, ℕ, ◌*◌, List, Err}
-use Rattle.flop_base.specs.Bays.{in_bay}
-use Rattle.flop_base.specs.Counters.{DriveCounts, GoesOn}
-use Rattle.floppy_driver.specs.Rigs.{CostsFor}
-use Rattle.floppy_driver.specs.Shown.{shown}
-use Rattle.floppy_driver.specs.Writings.{CanWrite}
-use Rattle.sector_model.specs.Lasting.{format_once_port_accesses, format_steps, format_turns}
-use Rattle.floppy_driver.specs.Formattings.{format_of, FormatsIn, HasOnlyMedium}
+use Rattle.floppy_driver.proofs.Common.{in_bay, DriveCounts, GoesOn, CostsFor, shown, CanWrite, format_once_port_accesses, format_steps, format_turns, format_of, FormatsIn, HasOnlyMedium}
 use Rattle.floppy_driver.proofs.driver.Driver.format_in_attempts.Given as goal
 
 abbrev pub invariant-loop : goal.invariant-loop

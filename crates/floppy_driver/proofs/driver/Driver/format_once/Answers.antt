@@ -1,11 +1,6 @@
 use Rattle.std.proofs.Common.{true, Ok, Err}
-use Rattle.std.proofs.lemmas.Result.{err_from_is_err_and}
-use Rattle.flop_base.specs.Standard.{sectors_at}
+use Rattle.floppy_driver.proofs.Common.{err_from_is_err_and, sectors_at, track_under, format_of, IsBlankUnder, HoldsRecords, goes_on_after, notes_of}
 use Rattle.floppy_driver.specs.declared.retry_plan.Prepare.TheVariants as prepare
-use Rattle.floppy_driver.specs.Rigs.{track_under}
-use Rattle.floppy_driver.specs.Formattings.{format_of, IsBlankUnder, HoldsRecords}
-use Rattle.flop_base.proofs.Counted.{goes_on_after}
-use Rattle.floppy_driver.specs.Shown.{notes_of}
 use Rattle.floppy_driver.proofs.FormatOnce.{lost_attempt, refused_attempt, read_attempt}
 use Rattle.floppy_driver.proofs.FormatReady.{can_write_prepared, can_write_formatted, can_write_read}
 use Rattle.floppy_driver.proofs.driver.Driver.format_once.Goals as goal

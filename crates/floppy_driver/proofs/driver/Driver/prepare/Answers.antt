@@ -1,7 +1,5 @@
 use Rattle.std.proofs.Common.{rules, arith, ap, ◌∙◌, Some, None}
-use Rattle.std.proofs.lemmas.Grind.{common_steps}
-use Rattle.floppy_driver.specs.declared.driver.Notes.{Notes}
-use Rattle.floppy_driver.specs.Shown.{notes_of, with_notes}
+use Rattle.floppy_driver.proofs.Common.{common_steps, Notes, notes_of, with_notes}
 use Rattle.floppy_driver.proofs.Prepared.{attached_lost, attached_ready}
 use Rattle.floppy_driver.proofs.driver.Driver.prepare.Goals as goal
 

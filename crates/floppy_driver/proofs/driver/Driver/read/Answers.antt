@@ -1,6 +1,5 @@
 use Rattle.std.proofs.Common.{sym, ap, ◌∙◌, arith}
-use Rattle.sector_model.specs.Orders.{crosses_page}
-use Rattle.floppy_driver.specs.Shown.{shown}
+use Rattle.floppy_driver.proofs.Common.{crosses_page, shown}
 use Rattle.floppy_driver.proofs.Shows.{acknowledged_held, asks_shown}
 use Rattle.floppy_driver.proofs.Lasting.{question_costs}
 use Rattle.floppy_driver.proofs.Asking.{refused_asking}

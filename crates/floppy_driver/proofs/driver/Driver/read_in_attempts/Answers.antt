@@ -1,8 +1,5 @@
 use Rattle.std.proofs.Common.{◌+◌, ◌-◌, arith, refl, ap, ◌∙◌}
-use Rattle.flop_base.proofs.Counted.{goes_on_after, goes_on_itself}
-use Rattle.sector_model.specs.Stations.{StationState}
-use Rattle.floppy_driver.specs.Shown.{shown}
-use Rattle.floppy_driver.specs.Attempts.{IsSure}
+use Rattle.floppy_driver.proofs.Common.{goes_on_after, goes_on_itself, StationState, shown, IsSure}
 use Rattle.floppy_driver.proofs.Lasting.{costs_any, costs_asked, costs_fewer, costs_next}
 use Rattle.floppy_driver.proofs.ReadTries.{tried_none, tried_next, done_at, failed_all}
 use Rattle.floppy_driver.proofs.driver.Driver.read_in_attempts.Goals as goal

@@ -1,9 +1,5 @@
 use Rattle.std.proofs.Common.{◌≡◌, ℕ, ◌-◌, ◌*◌, List}
-use Rattle.flop_base.specs.Counters.{DriveCounts, GoesOn}
-use Rattle.sector_model.specs.Stations.{StationState}
-use Rattle.floppy_driver.specs.Rigs.{CostsFor}
-use Rattle.floppy_driver.specs.Shown.{shown, HasAsked}
-use Rattle.floppy_driver.specs.Attempts.{CanTry}
+use Rattle.floppy_driver.proofs.Common.{DriveCounts, GoesOn, StationState, CostsFor, shown, HasAsked, CanTry}
 use Rattle.floppy_driver.proofs.TriedReads.{HasTriedRead}
 use Rattle.floppy_driver.proofs.driver.Driver.read_in_attempts.Given as goal
 

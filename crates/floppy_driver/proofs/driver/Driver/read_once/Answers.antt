@@ -1,7 +1,6 @@
 use Rattle.std.proofs.Common.{ap, ◌∙◌}
 use Rattle.std.specs.Prelude.{is_some}
-use Rattle.flop_base.proofs.Counted.{goes_on_after}
-use Rattle.floppy_driver.specs.declared.driver.Notes.{Notes}
+use Rattle.floppy_driver.proofs.Common.{goes_on_after, Notes}
 use Rattle.floppy_driver.proofs.Attempts.{prepared_ready, can_try_read}
 use Rattle.floppy_driver.proofs.ReadOnce.{tries_read}
 use Rattle.floppy_driver.proofs.driver.Driver.read_once.Goals as goal

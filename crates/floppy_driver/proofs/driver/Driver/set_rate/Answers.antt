@@ -1,6 +1,5 @@
 use Rattle.std.proofs.Common.{sym, ap, ◌∙◌}
-use Rattle.floppy_driver.specs.declared.driver.Notes.{Notes}
-use Rattle.floppy_driver.specs.Shown.{with_notes}
+use Rattle.floppy_driver.proofs.Common.{Notes, with_notes}
 use Rattle.floppy_driver.proofs.Asking.{rate_refused, rate_done}
 use Rattle.floppy_driver.proofs.driver.Driver.set_rate.Goals as goal
 

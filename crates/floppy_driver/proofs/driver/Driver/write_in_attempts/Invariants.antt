@@ -1,5 +1,5 @@
 use Rattle.std.proofs.Common.{◌-◌, ◌*◌}
-use Rattle.floppy_driver.specs.Rigs.{CostsFor}
+use Rattle.floppy_driver.proofs.Common.{CostsFor}
 use Rattle.floppy_driver.proofs.TriedWrites.{BetweenWrites}
 use Rattle.floppy_driver.proofs.driver.Driver.write_in_attempts.Given as goal
 

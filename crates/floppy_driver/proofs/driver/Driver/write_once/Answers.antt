@@ -1,4 +1,4 @@
-use Rattle.flop_base.proofs.Counted.{goes_on_after}
+use Rattle.floppy_driver.proofs.Common.{goes_on_after}
 use Rattle.floppy_driver.proofs.WriteAttempts.{tries_once, can_write_once}
 use Rattle.floppy_driver.proofs.driver.Driver.write_once.Goals as goal
 

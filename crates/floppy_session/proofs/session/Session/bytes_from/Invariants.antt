@@ -1,5 +1,5 @@
 use Rattle.std.proofs.Common.{◌≡◌}
-use Rattle.flop_base.specs.Memory.{bytes_from}
+use Rattle.floppy_session.proofs.Common.{bytes_from}
 use Rattle.floppy_session.proofs.session.Session.bytes_from.Given as goal
 
 abbrev pub invariant-loop-i : goal.invariant-loop-i

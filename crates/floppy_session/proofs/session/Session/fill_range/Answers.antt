@@ -1,5 +1,5 @@
 use Rattle.std.proofs.Common.{arith, refl, ap}
-use Rattle.sector_model.specs.Stations.{StationState}
+use Rattle.floppy_session.proofs.Common.{StationState}
 use Rattle.floppy_session.proofs.Memories.{fills_none, fills_more}
 use Rattle.floppy_session.proofs.Named.{runs_on, keeps_same}
 use Rattle.floppy_session.proofs.session.Session.fill_range.Goals as goal

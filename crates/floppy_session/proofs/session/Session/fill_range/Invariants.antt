@@ -1,5 +1,4 @@
-use Rattle.sector_model.specs.Steps.{Fills}
-use Rattle.floppy_session.specs.Session.{state_of, IsRunning}
+use Rattle.floppy_session.proofs.Common.{Fills, state_of, IsRunning}
 use Rattle.floppy_session.proofs.session.Session.fill_range.Given as goal
 
 abbrev pub invariant-loop-i : goal.invariant-loop-i

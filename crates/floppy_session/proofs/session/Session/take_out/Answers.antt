@@ -1,7 +1,5 @@
 use Rattle.std.proofs.Common.{rules, ◌≡◌, ◌∙◌, sym, Some, None}
-use Rattle.sector_model.specs.Stations.{bay_of}
-use Rattle.sector_model.specs.States.{State, ChangesMedium}
-use Rattle.floppy_session.specs.Session.{state_of}
+use Rattle.floppy_session.proofs.Common.{bay_of, State, ChangesMedium, state_of}
 use Rattle.floppy_session.proofs.Endings.{stores_out}
 use Rattle.floppy_session.proofs.session.Session.take_out.Goals as goal
 

@@ -1,4 +1,4 @@
-use Rattle.laws_machine.specs.OnOrders.Orders.{Track}
+use Rattle.laws_machine.proofs.Common.{Track}
 use Rattle.laws_machine.proofs.OnOrders.Ends.{ended, only}
 use Rattle.laws_machine.proofs.laws.onformats.a_format_tells_of_the_medium.Goals as goal
 

@@ -1,4 +1,4 @@
-use Rattle.laws_machine.specs.OnOrders.Orders.{Read}
+use Rattle.laws_machine.proofs.Common.{Read}
 use Rattle.laws_machine.proofs.OnReads.Beginnings.{begins_quietly}
 use Rattle.laws_machine.proofs.laws.onreads.a_read_begins.Goals as goal
 

@@ -1,4 +1,4 @@
-use Rattle.laws_machine.specs.OnSteps.Moves.{Acts, Goes}
+use Rattle.laws_machine.proofs.Common.{Acts, Goes}
 use Rattle.laws_machine.proofs.OnSteps.Moves.{wait_goes, waits_goes, unset_goes, input_goes, output_goes}
 use Rattle.laws_machine.proofs.laws.onsteps.calls_are_courses.Goals as goal
 

@@ -1,6 +1,5 @@
 use Rattle.std.proofs.Common.{[]}
-use Rattle.pc_bus.specs.Boards.{controller_of, drive_in}
-use Rattle.laws_machine.specs.OnOrders.Orders.{Window}
+use Rattle.laws_machine.proofs.Common.{controller_of, drive_in, Window}
 use Rattle.laws_machine.proofs.OnOrders.Ends.{ended, only}
 use Rattle.laws_machine.proofs.OnWrites.Results.{ended_well}
 use Rattle.laws_machine.proofs.laws.onwrites.a_write_tells_of_the_medium.Goals as goal

@@ -1,10 +1,7 @@
 use Rattle.std.proofs.Common.{length, sym, ◌∙◌, ap, arith}
 use Rattle.std.specs.Prelude.{if◌then◌else◌}
-use Rattle.flop_base.specs.declared.answers.Rate.TheVariants.{R500}
-use Rattle.machine_commands.specs.Shown.{rig_shown}
-use Rattle.floppy_driver.specs.Shown.{notes_of, shown}
-use Rattle.machine_commands.specs.Flagged.{flags_shown}
-use Rattle.machine_commands.specs.StationShown.{all_counts, station_shown}
+use Rattle.machine_commands.proofs.Common.{R500, rig_shown, notes_of, flags_shown, all_counts, station_shown}
+use Rattle.floppy_driver.specs.Shown.{shown}
 use Rattle.machine_commands.proofs.StationBays.{rate_set}
 use Rattle.machine_commands.proofs.StationHandling.{goes_on}
 use Rattle.machine_commands.proofs.Rating.{flags_acked, flags_no_bay}

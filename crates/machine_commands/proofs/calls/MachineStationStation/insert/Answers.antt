@@ -1,10 +1,7 @@
 use Rattle.std.proofs.Common.{length, sym, ◌∙◌}
 use Rattle.std.specs.Prelude.{Some}
-use Rattle.sector_model.specs.Stations.{fresh_bay}
-use Rattle.machine_commands.specs.Shown.{rig_shown}
+use Rattle.machine_commands.proofs.Common.{fresh_bay, rig_shown, flags_of, flags_shown, all_counts}
 use Rattle.floppy_driver.specs.Shown.{shown}
-use Rattle.machine_commands.specs.Flagged.{flags_of, flags_shown}
-use Rattle.machine_commands.specs.StationShown.{all_counts}
 use Rattle.machine_commands.proofs.StationBays.{flags_set}
 use Rattle.machine_commands.proofs.StationHandling.{goes_on, inserts, flags_inserted, flags_given_back}
 use Rattle.machine_commands.proofs.Attaching.{attached_inserted, inserted_goes_on}

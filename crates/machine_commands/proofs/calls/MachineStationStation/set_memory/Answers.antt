@@ -1,6 +1,5 @@
 use Rattle.std.proofs.Common.{length}
-use Rattle.machine_commands.specs.Shown.{rig_shown}
-use Rattle.machine_commands.specs.StationShown.{all_counts}
+use Rattle.machine_commands.proofs.Common.{rig_shown, all_counts}
 use Rattle.machine_commands.proofs.StationHandling.{goes_on, sets_memory, flags_memory}
 use Rattle.machine_commands.proofs.Attaching.{attached_memory}
 use Rattle.machine_commands.proofs.calls.MachineStationStation.set_memory.Goals as goal

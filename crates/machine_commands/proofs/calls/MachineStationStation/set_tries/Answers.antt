@@ -1,8 +1,5 @@
 use Rattle.std.proofs.Common.{length, sym, ap, ◌∙◌}
-use Rattle.flop_base.proofs.Counted.{goes_on_itself}
-use Rattle.machine_commands.specs.Shown.{rig_shown}
-use Rattle.machine_commands.specs.Flagged.{flags_shown}
-use Rattle.machine_commands.specs.StationShown.{all_counts, station_shown}
+use Rattle.machine_commands.proofs.Common.{goes_on_itself, rig_shown, flags_shown, all_counts, station_shown}
 use Rattle.machine_commands.proofs.calls.MachineStationStation.set_tries.Goals as goal
 
 pub returns-clause-step : goal.returns-clause-step

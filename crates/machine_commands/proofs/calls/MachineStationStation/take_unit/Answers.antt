@@ -1,13 +1,7 @@
 use Rattle.std.proofs.Common.{length, sym}
 use Rattle.std.specs.Prelude.{◌∷◌, None}
-use Rattle.std.proofs.lemmas.List.Elements.{All-head, All-rest, All-same}
-use Rattle.pc_bus.specs.Boards.{IsEmpty}
-use Rattle.sector_model.specs.Stations.{fresh_bay}
-use Rattle.pc_bus.specs.Counts.{counts_of}
-use Rattle.machine_commands.specs.Shown.{rig_shown}
+use Rattle.machine_commands.proofs.Common.{All-head, All-rest, All-same, IsEmpty, fresh_bay, counts_of, rig_shown, flags_of, flags_shown, all_counts, station_shown}
 use Rattle.floppy_driver.specs.Shown.{shown}
-use Rattle.machine_commands.specs.Flagged.{flags_of, flags_shown}
-use Rattle.machine_commands.specs.StationShown.{all_counts, station_shown}
 use Rattle.machine_commands.proofs.StationBays.{flags_set}
 use Rattle.machine_commands.proofs.Attaching.{attached_unit}
 use Rattle.machine_commands.proofs.Replacing.{unit_taken, flags_unit}

@@ -1,7 +1,6 @@
 use Rattle.std.proofs.Common.{length, sym, ◌∙◌}
-use Rattle.machine_commands.specs.Shown.{rig_shown}
+use Rattle.machine_commands.proofs.Common.{rig_shown, all_counts, station_shown}
 use Rattle.floppy_driver.specs.Shown.{shown}
-use Rattle.machine_commands.specs.StationShown.{all_counts, station_shown}
 use Rattle.machine_commands.proofs.StationHandling.{goes_on}
 use Rattle.machine_commands.proofs.Keeping.{flags_write}
 use Rattle.machine_commands.proofs.calls.MachineStationStation.write.Goals as goal

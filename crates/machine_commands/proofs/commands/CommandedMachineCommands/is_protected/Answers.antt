@@ -1,7 +1,6 @@
-use Rattle.machine_commands.specs.Shown.{board_of, rig_of}
+use Rattle.machine_commands.proofs.Common.{board_of, rig_of, turn_same}
 use Rattle.machine_commands.proofs.Statuses.{status_tells, status_idle, status_asks}
 use Rattle.std.proofs.Common.{arith}
-use Rattle.floppy_driver.proofs.Lasting.{turn_same}
 use Rattle.machine_commands.proofs.Lasting.{rig_costs, drive_costs}
 use Rattle.machine_commands.proofs.commands.CommandedMachineCommands.is_protected.Goals as goal
 

@@ -1,6 +1,5 @@
 use Rattle.std.proofs.Common.{sym, ◌∙◌}
-use Rattle.pc_bus.specs.Boards.{memory_of}
-use Rattle.machine_commands.specs.Shown.{board_of}
+use Rattle.machine_commands.proofs.Common.{memory_of, board_of}
 use Rattle.machine_commands.proofs.Landing.{user_at}
 use Rattle.machine_commands.proofs.commands.CommandedMachineCommands.memory.Goals as goal
 

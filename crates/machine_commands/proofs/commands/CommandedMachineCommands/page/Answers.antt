@@ -1,7 +1,5 @@
 use Rattle.std.proofs.Common.{sym, ap, ◌+◌, slice_index, ◌∙◌}
-use Rattle.flop_base.specs.Memory.{user_bytes}
-use Rattle.pc_bus.specs.Boards.{memory_of}
-use Rattle.machine_commands.specs.Shown.{board_of}
+use Rattle.machine_commands.proofs.Common.{user_bytes, memory_of, board_of}
 use Rattle.machine_commands.proofs.Landing.{page_at}
 use Rattle.machine_commands.proofs.commands.CommandedMachineCommands.page.Goals as goal
 

@@ -1,6 +1,5 @@
 use Rattle.std.proofs.Common.{arith}
-use Rattle.track_model.specs.Fields.{content_size}
-use Rattle.machine_commands.specs.Shown.{board_of}
+use Rattle.machine_commands.proofs.Common.{content_size, board_of}
 use Rattle.machine_commands.proofs.ReadEndings.{in_page, read_idle, reads_data, size_range, read_costs}
 use Rattle.machine_commands.proofs.commands.CommandedMachineCommands.read.Goals as goal
 

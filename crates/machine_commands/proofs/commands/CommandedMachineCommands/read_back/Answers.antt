@@ -1,6 +1,5 @@
 use Rattle.std.proofs.Common.{refl, arith}
-use Rattle.flop_base.specs.Memory.{user_bytes}
-use Rattle.machine_commands.specs.Shown.{board_of}
+use Rattle.machine_commands.proofs.Common.{user_bytes, board_of}
 use Rattle.machine_commands.proofs.ReadEndings.{read_idle, reads_back, size_range, read_costs}
 use Rattle.machine_commands.proofs.commands.CommandedMachineCommands.read_back.Goals as goal
 

@@ -1,4 +1,4 @@
-use Rattle.machine_commands.specs.Shown.{board_of}
+use Rattle.machine_commands.proofs.Common.{board_of}
 use Rattle.machine_commands.proofs.Identifying.{reads_id, read_id_idle, read_id_costs}
 use Rattle.machine_commands.proofs.commands.CommandedMachineCommands.read_id.Goals as goal
 

@@ -1,7 +1,6 @@
-use Rattle.machine_commands.specs.Shown.{board_of, rig_of}
+use Rattle.machine_commands.proofs.Common.{board_of, rig_of, turn_same}
 use Rattle.machine_commands.proofs.SeekRigs.{seeks, seek_idle}
 use Rattle.std.proofs.Common.{arith}
-use Rattle.floppy_driver.proofs.Lasting.{turn_same}
 use Rattle.machine_commands.proofs.Lasting.{rig_costs, seek_costs}
 use Rattle.machine_commands.proofs.commands.CommandedMachineCommands.seek.Goals as goal
 

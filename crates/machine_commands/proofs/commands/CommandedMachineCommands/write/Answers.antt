@@ -1,5 +1,4 @@
-use Rattle.track_model.specs.Fields.{content_size}
-use Rattle.machine_commands.specs.Shown.{board_of}
+use Rattle.machine_commands.proofs.Common.{content_size, board_of}
 use Rattle.machine_commands.proofs.ReadEndings.{in_page, size_range}
 use Rattle.machine_commands.proofs.WriteDone.{write_done}
 use Rattle.machine_commands.proofs.commands.CommandedMachineCommands.write.Goals as goal

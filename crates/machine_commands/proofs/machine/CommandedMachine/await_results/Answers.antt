@@ -1,5 +1,5 @@
 use Rattle.std.proofs.Common.{refl, ◌∙◌, arith}
-use Rattle.machine_commands.specs.Shown.{board_of}
+use Rattle.machine_commands.proofs.Common.{board_of}
 use Rattle.machine_commands.proofs.Awaiting.{watches_next, awaited_now, awaited_never}
 use Rattle.machine_commands.proofs.machine.CommandedMachine.await_results.Goals as goal
 

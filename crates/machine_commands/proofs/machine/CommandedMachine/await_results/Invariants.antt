@@ -1,6 +1,5 @@
 use Rattle.std.proofs.Common.{◌≡◌}
-use Rattle.machine_commands.specs.Awaited.{Watches}
-use Rattle.machine_commands.specs.Shown.{board_of}
+use Rattle.machine_commands.proofs.Common.{Watches, board_of}
 use Rattle.machine_commands.proofs.machine.CommandedMachine.await_results.Given as goal
 
 abbrev pub invariant-loop-watch : goal.invariant-loop-watch

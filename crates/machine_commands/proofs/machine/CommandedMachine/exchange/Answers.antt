@@ -1,4 +1,4 @@
-use Rattle.machine_commands.specs.Shown.{board_of}
+use Rattle.machine_commands.proofs.Common.{board_of}
 use Rattle.machine_commands.proofs.PastDriver.{exchanges, exchange_idle}
 use Rattle.machine_commands.proofs.machine.CommandedMachine.exchange.Goals as goal
 

@@ -1,4 +1,4 @@
-use Rattle.machine_commands.specs.Shown.{board_of}
+use Rattle.machine_commands.proofs.Common.{board_of}
 use Rattle.machine_commands.proofs.FormatKeys.{puts_byte}
 use Rattle.machine_commands.proofs.machine.CommandedMachine.put_byte.Goals as goal
 

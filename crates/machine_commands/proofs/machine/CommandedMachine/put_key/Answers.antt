@@ -1,5 +1,5 @@
 use Rattle.std.proofs.Common.{arith}
-use Rattle.machine_commands.specs.Shown.{board_of}
+use Rattle.machine_commands.proofs.Common.{board_of}
 use Rattle.machine_commands.proofs.FormatKeys.{puts_key}
 use Rattle.machine_commands.proofs.machine.CommandedMachine.put_key.Goals as goal
 

@@ -1,7 +1,5 @@
 use Rattle.std.proofs.Common.{◌≡◌, length}
-use Rattle.pc_bus.specs.Boards.{memory_of}
-use Rattle.machine_commands.specs.Shown.{board_of}
-use Rattle.machine_commands.specs.WriteSent.{PutsKeys}
+use Rattle.machine_commands.proofs.Common.{memory_of, board_of, PutsKeys}
 use Rattle.machine_commands.proofs.machine.CommandedMachine.put_keys.Given as goal
 
 abbrev pub invariant-loop-i : goal.invariant-loop-i

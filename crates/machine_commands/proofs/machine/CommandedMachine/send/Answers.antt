@@ -1,8 +1,6 @@
 use Rattle.std.proofs.Common.{◌≡◌, take, refl, subst}
-use Rattle.machine_commands.specs.Shown.{board_of}
-use Rattle.machine_commands.specs.Sending.{Sends}
+use Rattle.machine_commands.proofs.Common.{board_of, Sends, take_all}
 use Rattle.machine_commands.proofs.Runs.{sends_next}
-use Rattle.std.proofs.lemmas.List.{take_all}
 use Rattle.machine_commands.proofs.machine.CommandedMachine.send.Goals as goal
 
 pub loop-byte-preserved : goal.loop-byte-preserved

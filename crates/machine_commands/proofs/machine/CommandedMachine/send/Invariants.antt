@@ -1,6 +1,5 @@
 use Rattle.std.proofs.Common.{◌≡◌, take}
-use Rattle.machine_commands.specs.Sending.{Sends}
-use Rattle.machine_commands.specs.Shown.{board_of}
+use Rattle.machine_commands.proofs.Common.{Sends, board_of}
 use Rattle.machine_commands.proofs.machine.CommandedMachine.send.Given as goal
 
 abbrev pub invariant-loop-byte : goal.invariant-loop-byte

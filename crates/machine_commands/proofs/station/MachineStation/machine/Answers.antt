@@ -1,4 +1,4 @@
-use Rattle.pc_bus.specs.Boards.{board}
+use Rattle.machine_commands.proofs.Common.{board}
 use Rattle.machine_commands.proofs.Standing.{shows_station}
 use Rattle.machine_commands.proofs.station.MachineStation.machine.Goals as goal
 

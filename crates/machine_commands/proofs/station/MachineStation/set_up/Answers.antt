@@ -1,13 +1,5 @@
 use Rattle.std.proofs.Common.{length, sym, subst, ap, ◌∙◌}
-use Rattle.std.proofs.lemmas.List.{length-map}
-use Rattle.std.proofs.lemmas.List.Elements.{All-map, All-same}
-use Rattle.flop_base.specs.Counters.{DriveTells}
-use Rattle.pc_bus.specs.Boards.{Board, board, IsEmpty}
-use Rattle.floppy_driver.specs.Rigs.{CostsFor, IsReset}
-use Rattle.floppy_driver.specs.Attached.{CanSetUp}
-use Rattle.pc_bus.specs.Counts.{counts_of}
-use Rattle.machine_commands.specs.Shown.{rig_of, rig_shown}
-use Rattle.machine_commands.specs.StationShown.{all_counts}
+use Rattle.machine_commands.proofs.Common.{length-map, All-map, All-same, DriveTells, Board, board, IsEmpty, CostsFor, IsReset, CanSetUp, counts_of, rig_of, rig_shown, all_counts}
 use Rattle.machine_commands.proofs.Starting.{fresh_can_set_up, flags_free, starts_fresh, starts_so}
 use Rattle.machine_commands.proofs.station.MachineStation.set_up.Goals as goal
 

@@ -1,4 +1,4 @@
-use Rattle.std.proofs.Common.{◌≡◌, ◌∙◌, ◌∷◌, ◌++◌, [], ℕ, List, length, ap}
+use Rattle.std.proofs.Common.{◌∙◌, ◌++◌, [], ℕ, List, ap}
 use Rattle.memory_files.specs.Lines.{lines_in}
 use Rattle.memory_files.proofs.Cuts.{lines-more}
 use Rattle.memory_files.proofs.lines.PrintedLines.push.Goals as goal

@@ -1,4 +1,3 @@
-use Rattle.std.proofs.Common.{◌≡◌, ℕ, min}
 use Rattle.flop_base.specs.Counts.{RoseOnce}
 use Rattle.memory_files.proofs.shelf.RunShelf.run.Goals as goal
 

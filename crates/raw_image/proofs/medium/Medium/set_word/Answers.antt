@@ -1,7 +1,5 @@
 use Rattle.std.proofs.Common.{◌<◌, subst, sym}
-use Rattle.raw_image.specs.Disk.{Disk, HasTrack}
-use Rattle.raw_image.specs.Image.{disk_of}
-use Rattle.raw_image.specs.Shape.{header_view}
+use Rattle.raw_image.proofs.Common.{Disk, HasTrack, disk_of, header_view}
 use Rattle.raw_image.proofs.Tracks.{track_of-others}
 use Rattle.raw_image.proofs.medium.Medium.set_word.Goals as goal
 

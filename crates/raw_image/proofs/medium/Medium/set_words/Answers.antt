@@ -1,9 +1,7 @@
 use Rattle.std.proofs.Common.{◌+◌, ◌-◌, length, ◌∙◌, ap, arith}
-use Rattle.std.proofs.lemmas.List.{with_items_is}
+use Rattle.raw_image.proofs.Common.{with_items_is, Disk, header_view}
 use borrow.Rule.Slice.PartMut.{put_mid}
 use Rattle.flop_base.specs.Lists.{with_items}
-use Rattle.raw_image.specs.Disk.{Disk}
-use Rattle.raw_image.specs.Shape.{header_view}
 use Rattle.raw_image.proofs.Splices.{put_mid-with_items, put_mid-long, becomes_with}
 use Rattle.raw_image.proofs.medium.Medium.set_words.Goals as goal
 

@@ -1,7 +1,5 @@
 use Rattle.std.proofs.Common.{◌++◌, subst, sym}
-use Rattle.raw_image.specs.declared.stage.ReaderStage.{ReaderStage}
-use Rattle.raw_image.specs.Stage.{progress_of}
-use Rattle.raw_image.specs.Progress.{Progress, IsFed}
+use Rattle.raw_image.proofs.Common.{ReaderStage, progress_of, Progress, IsFed}
 use Rattle.raw_image.proofs.Feeding.{is_wrong}
 use Rattle.raw_image.proofs.reader.ImageReader.feed.Goals as goal
 

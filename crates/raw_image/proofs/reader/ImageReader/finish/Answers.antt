@@ -1,5 +1,5 @@
 use Rattle.std.proofs.Common.{subst, sym}
-use Rattle.raw_image.specs.Progress.{Progress, IsFed}
+use Rattle.raw_image.proofs.Common.{Progress, IsFed}
 use Rattle.raw_image.proofs.reader.ImageReader.finish.Goals as goal
 
 pub returns-clause-read : goal.returns-clause-read

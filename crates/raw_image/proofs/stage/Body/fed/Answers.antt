@@ -1,5 +1,5 @@
 use Rattle.std.proofs.Common.{length, ap, arith, length-append}
-use Rattle.raw_image.specs.Stage.{body_bytes}
+use Rattle.raw_image.proofs.Common.{body_bytes}
 use Rattle.raw_image.proofs.Bodies.{length_body}
 use Rattle.raw_image.proofs.stage.Body.fed.Goals as goal
 

@@ -1,6 +1,5 @@
 use Rattle.std.proofs.Common.{arith}
-use Rattle.raw_image.specs.Shape.{header_view}
-use Rattle.raw_image.specs.Header.{word_count}
+use Rattle.raw_image.proofs.Common.{header_view, word_count}
 use Rattle.raw_image.proofs.Bodies.{whole_words, finished}
 use Rattle.raw_image.proofs.stage.Body.finish.Goals as goal
 

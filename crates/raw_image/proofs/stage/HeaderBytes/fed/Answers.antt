@@ -1,9 +1,5 @@
 use Rattle.std.proofs.Common.{◌≡◌, ◌∙◌, ◌++◌, ◌-◌, [], ap, sym, List, ℕ, Ok, arith, take, length}
-use Rattle.std.proofs.lemmas.Result.{err_from_is_err_and}
-use Rattle.raw_image.specs.Words.{bytes_of}
-use Rattle.raw_image.specs.Header.{Header}
-use Rattle.raw_image.specs.Shape.{header_view}
-use Rattle.raw_image.specs.Stage.{body_bytes}
+use Rattle.raw_image.proofs.Common.{err_from_is_err_and, bytes_of, Header, header_view, body_bytes}
 use Rattle.raw_image.proofs.Bodies.{length_body}
 use Rattle.raw_image.proofs.Feeding.{header_wrong, header_right, header_too_long}
 use Rattle.raw_image.proofs.stage.HeaderBytes.fed.Goals as goal

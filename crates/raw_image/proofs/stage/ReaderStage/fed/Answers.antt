@@ -1,9 +1,5 @@
 use Rattle.std.proofs.Common.{subst, arith}
-use Rattle.std.proofs.lemmas.Result.{err_from_is_err_and}
-use Rattle.raw_image.specs.declared.stage.ReaderStage.{ReaderStage}
-use Rattle.raw_image.specs.Shape.{header_view}
-use Rattle.raw_image.specs.Progress.{IsFed}
-use Rattle.raw_image.specs.Stage.{progress_of, body_bytes}
+use Rattle.raw_image.proofs.Common.{err_from_is_err_and, ReaderStage, header_view, IsFed, progress_of, body_bytes}
 use Rattle.raw_image.proofs.Bodies.{length_body}
 use Rattle.raw_image.proofs.Feeding.{going_on, too_long_or_no_memory}
 use Rattle.raw_image.proofs.stage.ReaderStage.fed.Goals as goal

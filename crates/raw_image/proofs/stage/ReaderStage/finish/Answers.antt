@@ -1,9 +1,5 @@
 use Rattle.std.proofs.Common.{◌≡◌, ◌∙◌, ap, subst, ℕ, Err, arith, length}
-use Rattle.raw_image.specs.declared.error.ImageError.TheVariants.{TooShort}
-use Rattle.raw_image.specs.declared.stage.ReaderStage.{ReaderStage}
-use Rattle.raw_image.specs.Shape.{header_view}
-use Rattle.raw_image.specs.Progress.{IsFed}
-use Rattle.raw_image.specs.Stage.{progress_of, body_bytes}
+use Rattle.raw_image.proofs.Common.{TooShort, ReaderStage, header_view, IsFed, progress_of, body_bytes}
 use Rattle.raw_image.proofs.Feeding.{ends_begun, ends_going, ends_failed}
 use Rattle.raw_image.proofs.stage.ReaderStage.finish.Goals as goal
 

@@ -1,7 +1,6 @@
 use Rattle.std.proofs.Common.{◌≡◌, ◌+◌, ◌<◌, ◌∷◌, ◌++◌, [], ℕ, refl, sym, arith, ap, ◌∙◌, take, drop, get_or, List, length, length-drop}
-use Rattle.std.proofs.lemmas.List.{take_more, take_all, get_or-drop, length-set}
+use Rattle.sector_desk.proofs.Common.{take_more, take_all, get_or-drop, length-set, sector_place, station_of}
 use Rattle.std.proofs.lemmas.Grind.{take-set_at}
-use Rattle.sector_desk.specs.Desks.{sector_place, station_of}
 use Rattle.sector_desk.proofs.desk.SectorDesk.fetch.Goals as goal
 
 pub loop-i-init : goal.loop-i-init

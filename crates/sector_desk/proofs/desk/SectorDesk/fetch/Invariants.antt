@@ -1,5 +1,5 @@
 use Rattle.std.proofs.Common.{◌≡◌, length, take, drop}
-use Rattle.sector_desk.specs.Desks.{sector_place, station_of}
+use Rattle.sector_desk.proofs.Common.{sector_place, station_of}
 use Rattle.sector_desk.proofs.desk.SectorDesk.fetch.Given as goal
 
 abbrev pub invariant-loop-i : goal.invariant-loop-i

@@ -1,6 +1,5 @@
 use Rattle.std.proofs.Common.{ap}
-use Rattle.drive_model.specs.Drive.{DriveState}
-use Rattle.drive_model.specs.PlainDrive.{plain_state}
+use Rattle.sector_desk.proofs.Common.{DriveState, plain_state}
 use Rattle.sector_desk.proofs.desk.SectorDesk.new.Goals as goal
 
 pub set_up-station-requires-clause-machine : goal.set_up-station-requires-clause-machine

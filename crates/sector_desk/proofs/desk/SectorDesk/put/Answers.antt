@@ -1,9 +1,5 @@
 use Rattle.std.proofs.Common.{ℕ, List, subst, arith}
-use Rattle.std.proofs.lemmas.List.{take_all}
-use Rattle.drive_model.specs.PlainDrive.{plain_state}
-use Rattle.machine_commands.specs.StationShown.{station_shown}
-use Rattle.sector_desk.specs.Desks.{station_of}
-use Rattle.sector_desk.specs.Sectors.{Places}
+use Rattle.sector_desk.proofs.Common.{take_all, plain_state, station_shown, station_of, Places}
 use Rattle.sector_desk.proofs.Placing.{places_none, places_more, placed_stands}
 use Rattle.sector_desk.proofs.Readying.{station_again}
 use Rattle.sector_desk.proofs.desk.SectorDesk.put.Goals as goal

@@ -1,6 +1,5 @@
 use Rattle.std.proofs.Common.{take}
-use Rattle.sector_desk.specs.Desks.{station_of}
-use Rattle.sector_desk.specs.Sectors.{Places}
+use Rattle.sector_desk.proofs.Common.{station_of, Places}
 use Rattle.sector_desk.proofs.desk.SectorDesk.put.Given as goal
 
 abbrev pub invariant-loop-i : goal.invariant-loop-i

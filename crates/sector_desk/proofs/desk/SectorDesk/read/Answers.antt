@@ -1,8 +1,6 @@
 use Rattle.std.proofs.Common.{refl, sym, ◌∙◌}
 use mathlib.Core.Bool.{false≢true}
-use Rattle.drive_model.specs.PlainDrive.{plain_state}
-use Rattle.machine_commands.specs.StationShown.{station_shown}
-use Rattle.sector_desk.specs.Desks.{station_of}
+use Rattle.sector_desk.proofs.Common.{plain_state, station_shown, station_of}
 use Rattle.sector_desk.proofs.Calming.{calm, quiet_still}
 use Rattle.sector_desk.proofs.Fetching.{content_had, none_had}
 use Rattle.sector_desk.proofs.Readying.{station_again}

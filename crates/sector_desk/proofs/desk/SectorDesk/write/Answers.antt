@@ -1,4 +1,4 @@
-use Rattle.sector_desk.specs.Desks.{station_of}
+use Rattle.sector_desk.proofs.Common.{station_of}
 use Rattle.sector_desk.proofs.Calming.{calm, quiet_still}
 use Rattle.sector_desk.proofs.Readying.{station_again}
 use Rattle.sector_desk.proofs.desk.SectorDesk.write.Goals as goal

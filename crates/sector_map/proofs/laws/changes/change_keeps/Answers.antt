@@ -1,5 +1,5 @@
 use Rattle.std.proofs.Common.{arith}
-use Rattle.sector_map.specs.ChangedDisks.{written_under, change_at}
+use Rattle.sector_map.proofs.Common.{written_under, change_at}
 use Rattle.sector_map.proofs.Writable.{FitsKey}
 use Rattle.sector_map.proofs.Changed.{change_keeps_sectors, disk_is_written, written_on_map}
 use Rattle.sector_map.proofs.Joined.{join_on_disk}

@@ -1,4 +1,4 @@
-use Rattle.sector_map.specs.LaidDisks.{format_at, laying_at}
+use Rattle.sector_map.proofs.Common.{format_at, laying_at}
 use Rattle.sector_map.proofs.Laid.{laid_whole, layings_join}
 use Rattle.sector_map.proofs.laws.changes.laying_keeps.Goals as goal
 

@@ -1,5 +1,5 @@
 use Rattle.std.proofs.Common.{refl}
-use Rattle.track_model.specs.Windows.{window_words}
+use Rattle.sector_map.proofs.Common.{window_words}
 use Rattle.track_model.proofs.Kept.{empty_kept, empty_none}
 use Rattle.sector_map.proofs.laws.windows.empty_keeps.Goals as goal
 

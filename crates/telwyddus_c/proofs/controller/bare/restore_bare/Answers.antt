@@ -1,7 +1,5 @@
 use Rattle.std.proofs.Common.{sym, subst}
-use Rattle.c_slots.specs.Controllers.{ControllerValue}
-use Rattle.telwyddus_c.specs.Bare.{spelled_bare}
-use Rattle.telwyddus_c.specs.States.{ControllerFits, HasBytes}
+use Rattle.telwyddus_c.proofs.Common.{ControllerValue, spelled_bare, ControllerFits, HasBytes}
 use Rattle.telwyddus_c.proofs.controller.bare.restore_bare.Goals as goal
 
 pub returns-then-refill : goal.returns-then-refill

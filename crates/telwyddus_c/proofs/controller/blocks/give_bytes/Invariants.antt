@@ -1,5 +1,4 @@
-use Rattle.telwyddus_c.specs.Blocks.{GivesFirst}
-use Rattle.telwyddus_c.specs.Controllers.{state_of, KeepsDrives}
+use Rattle.telwyddus_c.proofs.Common.{GivesFirst, state_of, KeepsDrives}
 use Rattle.telwyddus_c.proofs.controller.blocks.give_bytes.Given as goal
 
 abbrev pub invariant-loop-i : goal.invariant-loop-i

@@ -1,7 +1,5 @@
 use Rattle.std.proofs.Common.{List, refl, subst}
-use Rattle.drive_model.specs.declared.fault.Fault.{Fault}
-use Rattle.fault_plan.specs.Plan.{lists_of}
-use Rattle.telwyddus_c.specs.Drives.{Replans}
+use Rattle.telwyddus_c.proofs.Common.{Fault, lists_of, Replans}
 use Rattle.telwyddus_c.proofs.controller.drives.plan_bay.Goals as goal
 
 pub returns-in-Ok : goal.returns-in-Ok

@@ -1,7 +1,5 @@
 use Rattle.std.proofs.Common.{◌∙◌, ap}
-use Rattle.c_bay_drive.specs.Bays.{bay_state, drive_within, faults_in_bay, state_replanned}
-use Rattle.c_bay_drive.specs.declared.bay.BayDrive.{BayDrive}
-use Rattle.telwyddus_c.specs.Drives.{replanned}
+use Rattle.telwyddus_c.proofs.Common.{bay_state, drive_within, faults_in_bay, state_replanned, BayDrive, replanned}
 use Rattle.telwyddus_c.proofs.Kept.{keeps_twice}
 use Rattle.telwyddus_c.proofs.controller.drives.replan.Goals as goal
 

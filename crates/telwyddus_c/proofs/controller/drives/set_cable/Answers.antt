@@ -1,5 +1,5 @@
 use Rattle.std.proofs.Common.{◌∙◌, ap}
-use Rattle.c_bay_drive.specs.Bays.{bay_state, drive_in_bay, is_attached, state_with_cable}
+use Rattle.telwyddus_c.proofs.Common.{bay_state, drive_in_bay, is_attached, state_with_cable}
 use Rattle.telwyddus_c.proofs.Kept.{keeps_twice}
 use Rattle.telwyddus_c.proofs.controller.drives.set_cable.Goals as goal
 

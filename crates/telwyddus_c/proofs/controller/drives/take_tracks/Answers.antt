@@ -1,5 +1,5 @@
 use Rattle.std.proofs.Common.{◌∙◌, ap}
-use Rattle.c_bay_drive.specs.Bays.{tracks_in_bay, without_tracks}
+use Rattle.telwyddus_c.proofs.Common.{tracks_in_bay, without_tracks}
 use Rattle.telwyddus_c.proofs.Kept.{keeps_twice}
 use Rattle.telwyddus_c.proofs.controller.drives.take_tracks.Goals as goal
 

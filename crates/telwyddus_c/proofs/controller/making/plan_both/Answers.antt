@@ -1,4 +1,4 @@
-use Rattle.fault_plan.specs.Plan.{lists_of}
+use Rattle.telwyddus_c.proofs.Common.{lists_of}
 use Rattle.telwyddus_c.proofs.Planned.{planned_both}
 use Rattle.telwyddus_c.proofs.controller.making.plan_both.Goals as goal
 

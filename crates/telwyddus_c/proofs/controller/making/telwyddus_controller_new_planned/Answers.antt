@@ -1,6 +1,5 @@
 use Rattle.std.proofs.Common.{refl, sym, ◌∙◌}
-use Rattle.fault_plan.specs.Plan.{lists_of}
-use Rattle.telwyddus_c.specs.Drives.{IsPlanned}
+use Rattle.telwyddus_c.proofs.Common.{lists_of, IsPlanned}
 use Rattle.telwyddus_c.proofs.EmptyPlans.{none_planned}
 use Rattle.telwyddus_c.proofs.Options.{none_in}
 use Rattle.telwyddus_c.proofs.controller.making.telwyddus_controller_new_planned.Goals as goal

@@ -1,4 +1,3 @@
-use Rattle.std.proofs.Common.{sym}
 use Rattle.telwyddus_c.proofs.controller.saving.telwyddus_controller_restore.Goals as goal
 
 pub returns-clause-restores : goal.returns-clause-restores

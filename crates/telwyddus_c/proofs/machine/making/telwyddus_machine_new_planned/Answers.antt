@@ -1,5 +1,5 @@
 use Rattle.std.proofs.Common.{refl, sym, ◌∙◌}
-use Rattle.fault_plan.specs.Plan.{lists_of}
+use Rattle.telwyddus_c.proofs.Common.{lists_of}
 use Rattle.telwyddus_c.specs.Machines.{IsPlanned}
 use Rattle.telwyddus_c.proofs.Options.{none_in}
 use Rattle.telwyddus_c.proofs.machine.making.telwyddus_machine_new_planned.Goals as goal

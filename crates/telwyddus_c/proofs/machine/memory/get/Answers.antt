@@ -1,5 +1,5 @@
 use Rattle.std.proofs.Common.{◌<◌, length, refl, ◌∙◌, arith}
-use Rattle.std.proofs.lemmas.List.{length-set}
+use Rattle.telwyddus_c.proofs.Common.{length-set}
 use Rattle.telwyddus_c.proofs.Copies.{copied_more}
 use Rattle.telwyddus_c.proofs.machine.memory.get.Goals as goal
 

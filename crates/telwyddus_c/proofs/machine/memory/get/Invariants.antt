@@ -1,7 +1,6 @@
 use Rattle.std.proofs.Common.{◌≡◌, ℕ, ◌+◌, ◌<◌, length}
 use Rattle.std.specs.Prelude.{slice_index}
-use Rattle.pc_bus.specs.Boards.{memory_of}
-use Rattle.telwyddus_c.specs.Machines.{board_of}
+use Rattle.telwyddus_c.proofs.Common.{memory_of, board_of}
 use Rattle.telwyddus_c.proofs.machine.memory.get.Given as goal
 
 abbrev pub invariant-loop-i : goal.invariant-loop-i

@@ -1,6 +1,5 @@
 use Rattle.std.proofs.Common.{◌≡◌, ◌+◌, ◌<◌, length, refl, sym, ap, subst, arith}
-use Rattle.pc_bus.specs.Boards.{Board, memory_of}
-use Rattle.telwyddus_c.specs.Machines.{CountsBytes, board_of}
+use Rattle.telwyddus_c.proofs.Common.{Board, memory_of, CountsBytes, board_of}
 use Rattle.telwyddus_c.proofs.Copies.{stored_more, rest_more, rest_none}
 use Rattle.telwyddus_c.proofs.machine.memory.set.Goals as goal
 

@@ -1,5 +1,4 @@
-use Rattle.pc_bus.specs.Boards.{memory_of}
-use Rattle.telwyddus_c.specs.Machines.{CountsBytes, IsStored, board_of}
+use Rattle.telwyddus_c.proofs.Common.{memory_of, CountsBytes, IsStored, board_of}
 use Rattle.telwyddus_c.proofs.machine.memory.set.Given as goal
 
 abbrev pub invariant-loop-i : goal.invariant-loop-i

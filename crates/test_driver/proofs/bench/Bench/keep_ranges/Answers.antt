@@ -1,5 +1,5 @@
 use Rattle.std.proofs.Common.{◌<◌, arith, subst, ℕ, List, slice_index}
-use Rattle.raw_image.specs.Disk.{IsDisk}
+use Rattle.test_driver.proofs.Common.{IsDisk}
 use Rattle.test_driver.proofs.Rigs.{if_some}
 use Rattle.test_driver.proofs.bench.Bench.keep_ranges.Goals as goal
 

@@ -1,7 +1,6 @@
 use Rattle.std.proofs.Common.{◌≡◌, ◌≤◌, ◌+◌, ◌-◌, length, drop, refl, sym, ap, ◌∙◌, arith}
-use Rattle.std.proofs.lemmas.List.{with_items_is, length-take, length-drop}
+use Rattle.test_driver.proofs.Common.{with_items_is, length-take, length-drop, content_size}
 use borrow.Rule.Slice.PartMut.{put_mid}
-use Rattle.track_model.specs.Fields.{content_size}
 use Rattle.test_driver.proofs.ReadSteps.{put_bytes, length-with_items, reads_data}
 use Rattle.test_driver.proofs.bench.Bench.read_to_memory.Goals as goal
 

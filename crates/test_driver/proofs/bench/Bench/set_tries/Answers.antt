@@ -1,4 +1,4 @@
-use Rattle.test_driver.specs.Shown.{rig_shown}
+use Rattle.test_driver.proofs.Common.{rig_shown}
 use Rattle.test_driver.proofs.bench.Bench.set_tries.Goals as goal
 
 pub returns : goal.returns

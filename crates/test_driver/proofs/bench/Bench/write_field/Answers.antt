@@ -1,7 +1,6 @@
 use Rattle.std.proofs.Common.{ap}
-use Rattle.track_model.specs.Fields.{content_size}
+use Rattle.test_driver.proofs.Common.{content_size, written_under}
 use Rattle.test_driver.proofs.WriteSteps.{bench_writes, bytes_part}
-use Rattle.sector_map.specs.ChangedDisks.{written_under}
 use Rattle.test_driver.proofs.bench.Bench.write_field.Goals as goal
 
 pub returns : goal.returns

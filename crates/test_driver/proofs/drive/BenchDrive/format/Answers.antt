@@ -1,9 +1,5 @@
 use Rattle.std.proofs.Common.{◌≡◌, None, Some, length, take, sym, ap, ◌∙◌, arith}
-use Rattle.std.proofs.lemmas.Bool.{false≢true}
-use Rattle.std.proofs.lemmas.List.{length-take}
-use Rattle.track_model.specs.Layouts.{lay}
-use Rattle.sector_map.specs.Standard.{track_keys}
-use Rattle.sector_map.specs.Layings.{Format}
+use Rattle.test_driver.proofs.Common.{false≢true, length-take, lay, track_keys, Format}
 use Rattle.test_driver.proofs.FormatSteps.{formatted_none, formatted_laid}
 use Rattle.test_driver.proofs.drive.BenchDrive.format.Goals as goal
 

@@ -1,5 +1,5 @@
 use Rattle.std.proofs.Common.{ℕ, List, subst, arith}
-use Rattle.track_model.specs.Fields.{IsAddressAt}
+use Rattle.test_driver.proofs.Common.{IsAddressAt}
 use Rattle.test_driver.proofs.drive.BenchDrive.read_id.Goals as goal
 
 pub returns : goal.returns

@@ -1,6 +1,5 @@
 use Rattle.std.proofs.Common.{sym, ◌∙◌}
-use Rattle.std.proofs.lemmas.Bool.{false≢true}
-use Rattle.sector_map.proofs.MetTracks.{nothing_in, nothing_there}
+use Rattle.test_driver.proofs.Common.{false≢true, nothing_in, nothing_there}
 use Rattle.test_driver.proofs.Recorded.{given_track}
 use Rattle.test_driver.proofs.drive.BenchDrive.track.Goals as goal
 

@@ -1,8 +1,6 @@
 use Rattle.std.proofs.Common.{None, length, ap, arith}
-use Rattle.track_model.proofs.Sizes.{content_size_bound}
+use Rattle.test_driver.proofs.Common.{content_size_bound, Written, FitsKey}
 use Rattle.track_model.proofs.Written.{length-window}
-use Rattle.sector_map.specs.Changes.{Written}
-use Rattle.sector_map.proofs.Writable.{FitsKey}
 use Rattle.test_driver.proofs.WriteSteps.{wrote_absent, field_here, wrote_cut, wrote_whole}
 use Rattle.test_driver.proofs.drive.BenchDrive.write.Goals as goal
 

@@ -1,5 +1,5 @@
 use Rattle.std.proofs.Common.{rules}
-use Rattle.text_commands.specs.CallTexts.{call_text}
+use Rattle.text_commands.proofs.Common.{call_text}
 use Rattle.text_commands.proofs.ServedCalls.{told_call, cut_call}
 use Rattle.text_commands.proofs.calls.line.call.Goals as goal
 

@@ -1,6 +1,5 @@
 use Rattle.std.proofs.Common.{subst, sym}
-use Rattle.floppy_jobs.specs.declared.calls.CallLine.{CallLine}
-use Rattle.text_commands.specs.CallLines.{LineGoes}
+use Rattle.text_commands.proofs.Common.{CallLine, LineGoes}
 use Rattle.text_commands.proofs.ServedCalls.{job_line}
 use Rattle.text_commands.proofs.calls.line.serve_line.Goals as goal
 

@@ -1,6 +1,5 @@
 use Rattle.std.proofs.Common.{rules, subst, List, ℕ}
-use Rattle.commands.specs.Leading.{Runs}
-use Rattle.text_commands.specs.CallCourses.{ServesCalls}
+use Rattle.text_commands.proofs.Common.{Runs, ServesCalls}
 use Rattle.text_commands.proofs.RanCalls.{calls_run}
 use Rattle.text_commands.proofs.ServedCalls.{text_serves, missed_serves}
 use Rattle.text_commands.proofs.calls.serve.serve_calls.Goals as goal

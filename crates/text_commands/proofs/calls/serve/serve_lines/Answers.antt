@@ -1,5 +1,5 @@
 use Rattle.std.proofs.Common.{arith, ◌<◌, length}
-use Rattle.commands.proofs.Looping.{amid_begins, amid_goes, amid_ends}
+use Rattle.text_commands.proofs.Common.{amid_begins, amid_goes, amid_ends}
 use Rattle.text_commands.proofs.ServedCalls.{served_none, served_next, broken}
 use Rattle.text_commands.proofs.calls.serve.serve_lines.Goals as goal
 

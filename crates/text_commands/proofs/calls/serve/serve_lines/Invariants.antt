@@ -1,6 +1,5 @@
 use Rattle.std.proofs.Common.{take}
-use Rattle.commands.specs.Leading.{IsAmid}
-use Rattle.text_commands.specs.CallLines.{HasServed}
+use Rattle.text_commands.proofs.Common.{IsAmid, HasServed}
 use Rattle.text_commands.proofs.calls.serve.serve_lines.Given as goal
 
 abbrev pub invariant-loop-line : goal.invariant-loop-line

@@ -1,10 +1,6 @@
 use Rattle.std.proofs.Common.{rules, subst, sym, List}
 use Rattle.std.specs.Prelude.{Vec, All}
-use Rattle.std.specs.declared.alloc.Global.{Global}
-use Rattle.floppy_jobs.specs.Texts.{calls_of}
-use Rattle.floppy_jobs.specs.declared.calls.CallLine.{CallLine}
-use Rattle.sector_model.specs.Texts.{bad_line_text}
-use Rattle.text_commands.specs.CallLines.{LineHasTries}
+use Rattle.text_commands.proofs.Common.{Global, calls_of, CallLine, bad_line_text, LineHasTries}
 use Rattle.text_commands.proofs.ParsedCalls.{all_tries}
 use Rattle.text_commands.proofs.ServedCalls.{parsed_serves, read_bad, unparsed_tells}
 use Rattle.text_commands.proofs.calls.serve.serve_text.Goals as goal

@@ -1,5 +1,5 @@
 use Rattle.std.proofs.Common.{rules}
-use Rattle.pc_bus.specs.Boards.{board}
+use Rattle.text_commands.proofs.Common.{board}
 use Rattle.text_commands.proofs.NamedPorts.{named_read, named_write, named_wait}
 use Rattle.text_commands.proofs.ports.doing.do_line.Goals as goal
 

@@ -1,5 +1,5 @@
 use Rattle.std.proofs.Common.{rules}
-use Rattle.text_commands.specs.Benches.{bench_of}
+use Rattle.text_commands.proofs.Common.{bench_of}
 use Rattle.text_commands.proofs.ExchangedPorts.{second_ends}
 use Rattle.text_commands.proofs.ports.media.end.Goals as goal
 

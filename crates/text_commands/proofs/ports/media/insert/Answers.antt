@@ -1,6 +1,6 @@
 use Rattle.std.proofs.Common.{rules, arith}
 use Rattle.std.proofs.lemmas.Result.{err_from_is_err_and}
-use Rattle.pc_bus.specs.Boards.{board}
+use Rattle.text_commands.proofs.Common.{board}
 use Rattle.text_commands.proofs.ExchangedPorts.{stops_loading}
 use Rattle.text_commands.proofs.ports.media.insert.Goals as goal
 

@@ -1,5 +1,5 @@
 use Rattle.std.proofs.Common.{rules, refl}
-use Rattle.text_commands.specs.PortPlays.{world_of}
+use Rattle.text_commands.proofs.Common.{world_of}
 use Rattle.text_commands.proofs.PortRounds.{run-ends}
 use Rattle.text_commands.proofs.ports.running.play_lines.Goals as goal
 

@@ -1,9 +1,6 @@
 use Rattle.std.proofs.Common.{rules, refl}
 use Rattle.std.specs.Prelude.{Vec}
-use Rattle.std.specs.declared.alloc.Global.{Global}
-use Rattle.floppy_jobs.specs.declared.ports.PortLine.{PortLine}
-use Rattle.floppy_jobs.specs.Texts.{ports_of}
-use Rattle.text_commands.specs.PortPlays.{world_of}
+use Rattle.text_commands.proofs.Common.{Global, PortLine, ports_of, world_of}
 use Rattle.text_commands.proofs.PortRounds.{parsed_plays, read_bad, unparsed_tells}
 use Rattle.text_commands.proofs.ports.running.play_text.Goals as goal
 

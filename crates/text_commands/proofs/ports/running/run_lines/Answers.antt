@@ -1,5 +1,5 @@
 use Rattle.std.proofs.Common.{rules, arith, ◌<◌, length}
-use Rattle.text_commands.specs.PortPlays.{world_of}
+use Rattle.text_commands.proofs.Common.{world_of}
 use Rattle.text_commands.proofs.PortRounds.{has-run-next, broken}
 use Rattle.text_commands.proofs.ports.running.run_lines.Goals as goal
 

@@ -1,7 +1,6 @@
 use Rattle.std.proofs.Common.{◌≡◌, take}
-use Rattle.pc_bus.specs.Boards.{board}
-use Rattle.text_commands.specs.Benches.{AreNamed}
-use Rattle.text_commands.specs.PortPlays.{world_of, HasRun}
+use Rattle.text_commands.proofs.Common.{board, AreNamed, world_of}
+use Rattle.text_commands.specs.PortPlays.{HasRun}
 use Rattle.text_commands.proofs.ports.running.run_lines.Given as goal
 
 abbrev pub invariant-loop-line : goal.invariant-loop-line

@@ -1,6 +1,5 @@
 use Rattle.std.proofs.Common.{rules}
-use Rattle.pc_bus.specs.Boards.{board}
-use Rattle.text_commands.specs.PortPlays.{world_of}
+use Rattle.text_commands.proofs.Common.{board, world_of}
 use Rattle.text_commands.proofs.GuardingPorts.{ran_bare}
 use Rattle.text_commands.proofs.PortRounds.{text_plays, missed_plays, world_with}
 use Rattle.text_commands.proofs.ports.running.run_ports.Goals as goal

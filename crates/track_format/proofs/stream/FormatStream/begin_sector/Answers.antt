@@ -1,5 +1,5 @@
 use Rattle.std.proofs.Common.{◌-◌, ◌<◌, refl, sym, subst, ◌∙◌, arith}
-use Rattle.track_format.specs.Streams.{IsInAddress}
+use Rattle.track_format.proofs.Common.{IsInAddress}
 use Rattle.track_format.proofs.Steps.{next_sector, no_sector}
 use Rattle.track_format.proofs.stream.FormatStream.begin_sector.Goals as goal
 

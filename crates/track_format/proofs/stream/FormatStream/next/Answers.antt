@@ -1,6 +1,5 @@
 use Rattle.std.proofs.Common.{drop, refl, ap, ◌∙◌, subst}
-use Rattle.track_model.specs.Layouts.{word_after, symbol_bit}
-use Rattle.track_format.specs.Streams.{Gives}
+use Rattle.track_format.proofs.Common.{word_after, symbol_bit, Gives}
 use Rattle.track_format.proofs.stream.FormatStream.next.Goals as goal
 
 pub returns : goal.returns

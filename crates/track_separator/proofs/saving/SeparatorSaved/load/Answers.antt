@@ -1,5 +1,5 @@
 use Rattle.std.proofs.Common.{arith, sym, ◌∙◌, subst, ◌<◌, ◌≤◌}
-use Rattle.track_separator.specs.Stages.{size_in, since_in}
+use Rattle.track_separator.proofs.Common.{size_in, since_in}
 use Rattle.track_separator.specs.Saving.{spelled_separator}
 use Rattle.track_separator.proofs.Saved.{same_separator}
 use Rattle.track_separator.proofs.saving.SeparatorSaved.load.Goals as goal

@@ -1,6 +1,5 @@
 use Rattle.std.proofs.Common.{◌∷◌, ◌∙◌, refl, sym, ap}
-use Rattle.track_model.specs.Crc.{crc_from}
-use Rattle.track_separator.specs.Parts.{with_word}
+use Rattle.track_separator.proofs.Common.{crc_from, with_word}
 use Rattle.track_separator.proofs.Next.{more_of}
 use Rattle.track_separator.proofs.Read.{byte_here, read_byte}
 use Rattle.track_separator.proofs.state.Separator.content_byte.Goals as goal

@@ -1,7 +1,5 @@
 use Rattle.std.proofs.Common.{refl, sym, ◌∙◌}
-use Rattle.std.proofs.lemmas.Bool.{false≢true}
-use Rattle.track_separator.specs.Parts.{with_word, turn_after}
-use Rattle.track_separator.specs.Turns.{WantsIn}
+use Rattle.track_separator.proofs.Common.{false≢true, with_word, turn_after, WantsIn}
 use Rattle.track_separator.proofs.Taken.{inside_feeds}
 use Rattle.track_separator.proofs.Told.{fed_more}
 use Rattle.track_separator.proofs.Ended.{waits_unfinished, waits_over, reads_unfinished, reads_over}

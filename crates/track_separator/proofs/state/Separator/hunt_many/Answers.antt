@@ -1,5 +1,5 @@
 use Rattle.std.proofs.Common.{refl, sym, subst}
-use Rattle.track_separator.specs.Turns.{BeginsIn}
+use Rattle.track_separator.proofs.Common.{BeginsIn}
 use Rattle.track_separator.proofs.NoRun.{hunts_told}
 use Rattle.track_separator.proofs.Told.{fed_past, fed_none}
 use Rattle.track_separator.proofs.state.Separator.hunt_many.Goals as goal

@@ -1,9 +1,5 @@
 use Rattle.std.proofs.Common.{ℕ, sym, subst}
-use Rattle.track_separator.specs.declared.state.Seen.TheVariants.{Byte}
-use Rattle.track_separator.specs.declared.state.Stage.{Stage}
-use Rattle.track_separator.specs.Parts.{with_word}
-use Rattle.track_separator.specs.Waits.{ReadsIn, SReadSeen, IsReading}
-use Rattle.track_separator.specs.Turns.{AwaitsByteIn}
+use Rattle.track_separator.proofs.Common.{Byte, Stage, with_word, ReadsIn, SReadSeen, IsReading, AwaitsByteIn}
 use Rattle.track_separator.proofs.Told.{fed_byte}
 use Rattle.track_separator.proofs.state.Separator.next_byte.Goals as goal
 

@@ -1,5 +1,5 @@
 use Rattle.std.proofs.Common.{sym, subst}
-use Rattle.track_separator.specs.Turns.{BeginsIn}
+use Rattle.track_separator.proofs.Common.{BeginsIn}
 use Rattle.track_separator.proofs.HuntedWord.{hunted_on}
 use Rattle.track_separator.proofs.Told.{fed_hunt}
 use Rattle.track_separator.proofs.state.Separator.pass_by.Goals as goal

@@ -1,5 +1,5 @@
 use Rattle.std.proofs.Common.{◌≡◌, ◌+◌, refl, sym, arith}
-use Rattle.track_separator.specs.Parts.{with_word}
+use Rattle.track_separator.proofs.Common.{with_word}
 use Rattle.track_separator.proofs.Next.{more_of}
 use Rattle.track_separator.proofs.Read.{read_check, read_end, tells_whole}
 use Rattle.track_separator.proofs.state.Separator.read_check.Goals as goal

@@ -1,7 +1,5 @@
 use Rattle.std.proofs.Common.{ℕ, sym, subst}
-use Rattle.track_separator.specs.declared.state.Stage.{Stage}
-use Rattle.track_separator.specs.Parts.{with_word}
-use Rattle.track_separator.specs.Waits.{WaitsIn, ReadsIn, SWaitSeen, SReadSeen, IsReading}
+use Rattle.track_separator.proofs.Common.{Stage, with_word, WaitsIn, ReadsIn, SWaitSeen, SReadSeen, IsReading}
 use Rattle.track_separator.proofs.state.Separator.take.Goals as goal
 
 pub returns-in-Waiting-clause-waits : goal.returns-in-Waiting-clause-waits

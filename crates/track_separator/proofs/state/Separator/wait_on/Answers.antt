@@ -1,5 +1,5 @@
 use Rattle.std.proofs.Common.{refl, sym, subst, arith}
-use Rattle.track_separator.specs.Register.{HasTail, IsFull}
+use Rattle.track_separator.proofs.Common.{HasTail, IsFull}
 use Rattle.track_separator.proofs.state.Separator.wait_on.Goals as goal
 
 pub returns-then-since : goal.returns-then-since

@@ -1,6 +1,5 @@
 use Rattle.std.proofs.Common.{◌∷◌, refl, ap, ◌∙◌}
-use Rattle.track_model.specs.Crc.{crc}
-use Rattle.track_separator.specs.Parts.{with_word}
+use Rattle.track_separator.proofs.Common.{crc, with_word}
 use Rattle.track_separator.proofs.Next.{more_of}
 use Rattle.track_separator.proofs.Waited.{waiting_next, mode_reads}
 use Rattle.track_separator.proofs.state.Separator.wait_word.Goals as goal

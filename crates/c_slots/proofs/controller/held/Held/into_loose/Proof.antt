@@ -1,6 +1,6 @@
 -- `into_loose` moves two fields, and what they own goes with them.
 use Rattle.std.specs.Prelude.{◌≡◌, Option, Some}
-use Rattle.c_slots.specs.Controllers.{ControllerValue}
+use Rattle.c_slots.proofs.Common.{ControllerValue, D, word, box_typed, box_out, box_in}
 use Rattle.c_slots.specs.contracts.controller.held.Held as held
 use mathlib.Core.Path.{refl, sym, subst}
 use mathlib.Core.List.{List, [], ◌∷◌, ◌++◌}
@@ -25,8 +25,6 @@ use denote.Steps.{heard, nothing}
 use denote.Triple.Spec.{triple_of}
 use denote.Triple.Table.{entered}
 use denote.Triple.Walked.{says, Stays, stay_dropped, walk_of, ends_at, Goes-dropped, walk_Meets}
-use Rattle.std.proofs.BoxSteps.Form.{D, word, box_typed}
-use Rattle.std.proofs.BoxSteps.Steps.{box_out, box_in}
 use Rattle.c_slots.proofs.Rows.{controller_box as E}
 use Rattle.c_slots.specs.contracts.controller.held.Held.into_loose as F
 use Rattle.c_slots.specs.contracts.controller.held.Held.into_loose.Key.{name as #self}

@@ -23,13 +23,10 @@ use denote.Steps.{nothing}
 use denote.Triple.Spec.{triple_of}
 use denote.Triple.Table.{entered}
 use denote.Triple.Walked.{says, Stays, stay_dropped, walk_of, ends_at, Goes-dropped, walk_Meets}
-use Rattle.std.proofs.BoxSteps.Form.{D, B, word, box_typed}
-use Rattle.std.proofs.BoxSteps.Steps.{box_out, box_in}
+use Rattle.c_slots.proofs.Common.{D, B, word, box_typed, box_out, box_in, controller_row, ghosts}
 use Rattle.c_slots.proofs.Rows.{controller_box as E}
-use Rattle.c_slots.specs.Controllers.{controller_row}
 use Rattle.c_slots.specs.contracts.loose.Loose as loose
 use Rattle.std.specs.contracts.alloc.Global as Heap
-use Rattle.std.specs.contracts.prelude.GlobalAllocator.TheImpl.{ghosts}
 use Rattle.c_slots.specs.contracts.controller.held.Held.of_loose as F
 use Rattle.c_slots.specs.contracts.controller.held.Held.of_loose.Key.{name as #self}
 use Rattle.c_slots.proofs.controller.held.Held.of_loose.Statement as stated

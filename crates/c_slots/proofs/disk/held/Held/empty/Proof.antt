@@ -30,8 +30,7 @@ use denote.Struct.Owning.{shape, to}
 use denote.Triple.Spec.{triple_of}
 use denote.Triple.Table.{entered}
 use denote.Triple.Walked.{says, Stays, stay_dropped, walk_of, ends_at, Goes-dropped, walk_Meets}
-use Rattle.std.proofs.alloc.Calls.{α, handle_tells}
-use Rattle.std.proofs.ResultValues.{and_tt}
+use Rattle.c_slots.proofs.Common.{α, handle_tells, and_tt}
 use Rattle.std.specs.contracts.alloc.Global as Heap
 use Rattle.c_slots.proofs.Rows.{desk_box as E}
 use Rattle.c_slots.specs.contracts.disk.held.Held as held

@@ -6,7 +6,7 @@ use denote.Param.Send.{IsSend, AllSend, owning_send, struct_send, sendable}
 use Rattle.std.proofs.alloc.Global.TheSendSync as handle
 use Rattle.c_slots.proofs.Crossing.{quiet, keyless}
 use Rattle.c_slots.proofs.Rows.{tray_send}
-use Rattle.c_slots.specs.Trays.{tray_row}
+use Rattle.c_slots.proofs.Common.{tray_row}
 use Rattle.c_slots.specs.contracts.tray.held.Held.{the_row, the_type}
 
 pub send : IsSend the_row

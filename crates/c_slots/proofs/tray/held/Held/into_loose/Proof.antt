@@ -1,7 +1,7 @@
 -- Written by tools/slots. Change proofs/controller/held/Held/into_loose/Proof.antt, of which this is a copy.
 -- `into_loose` moves two fields, and what they own goes with them.
 use Rattle.std.specs.Prelude.{◌≡◌, Option, Some}
-use Rattle.c_slots.specs.Trays.{TrayValue}
+use Rattle.c_slots.proofs.Common.{TrayValue, D, word, box_typed, box_out, box_in}
 use Rattle.c_slots.specs.contracts.tray.held.Held as held
 use mathlib.Core.Path.{refl, sym, subst}
 use mathlib.Core.List.{List, [], ◌∷◌, ◌++◌}
@@ -26,8 +26,6 @@ use denote.Steps.{heard, nothing}
 use denote.Triple.Spec.{triple_of}
 use denote.Triple.Table.{entered}
 use denote.Triple.Walked.{says, Stays, stay_dropped, walk_of, ends_at, Goes-dropped, walk_Meets}
-use Rattle.std.proofs.BoxSteps.Form.{D, word, box_typed}
-use Rattle.std.proofs.BoxSteps.Steps.{box_out, box_in}
 use Rattle.c_slots.proofs.Rows.{tray_box as E}
 use Rattle.c_slots.specs.contracts.tray.held.Held.into_loose as F
 use Rattle.c_slots.specs.contracts.tray.held.Held.into_loose.Key.{name as #self}

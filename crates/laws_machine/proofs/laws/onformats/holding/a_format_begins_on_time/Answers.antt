@@ -1,4 +1,4 @@
-use Rattle.laws_machine.specs.OnOrders.Orders.{Track}
+use Rattle.laws_machine.proofs.Common.{Track}
 use Rattle.laws_machine.proofs.OnOrders.Punctual.{begins_on_time}
 use Rattle.laws_machine.proofs.laws.onformats.holding.a_format_begins_on_time.Goals as goal
 

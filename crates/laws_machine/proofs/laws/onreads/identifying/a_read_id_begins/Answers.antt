@@ -1,4 +1,4 @@
-use Rattle.laws_machine.specs.OnOrders.Orders.{Identify}
+use Rattle.laws_machine.proofs.Common.{Identify}
 use Rattle.laws_machine.proofs.OnOrders.Accesses.{begins}
 use Rattle.laws_machine.proofs.OnReads.Beginnings.{begins_quietly}
 use Rattle.laws_machine.proofs.laws.onreads.identifying.a_read_id_begins.Goals as goal
