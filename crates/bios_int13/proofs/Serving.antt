@@ -194,10 +194,11 @@ transfers_moves kind bay first count address old looked new told code moved chan
 
 -- the records of a read or a write
 pub moves_in : (kind : Kind) (address : ℕ) (requests : List Request) (old new : State) (told : Option Files) (code moved : ℕ) → ((kind ≡ Read) ⊎ (kind ≡ Write)) → ((course : List Taken) × MovesRecords requests old told course code moved new) → (course : List Taken) × MovesIn kind address requests old told course code moved new
+moves_in Read address requests old new told code moved is moves = moves
+moves_in Write address requests old new told code moved is moves = moves
 moves_in Verify address requests old new told code moved is moves = elim is [
   | inl read ↦ absurd (cc read)
   | inr write ↦ absurd (cc write)
-moves_in _ address requests old new told code moved is moves = moves
 ]
 
 -- ---- Bytes that are put back.

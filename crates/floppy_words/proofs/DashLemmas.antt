@@ -78,13 +78,14 @@ either_dash false false e = absurd cc
 
 copy_none : (words : List (List ℕ)) → list_any begins_with_dash words ≡ true → copy_of words ≡ None
 unfolding copy_of
+copy_none [] e = refl
+copy_none (source ∷ []) e = refl
 copy_none (source ∷ target ∷ []) e = elim (either_dash _ _ e) [
   | inl dash ↦ let none = dash_name source dash in rw none refl
   | inr dash ↦ let none = dash_name target dash in elim (none_or (name_of source)) [
     | inl other ↦ rw other refl
     | inr found ↦ rw (found.1, none) refl
   ]
-copy_none _ e = refl
 ]
 copy_none (source ∷ target ∷ next ∷ rest) e = refl
 
@@ -97,6 +98,9 @@ any_of_three false false false e = absurd cc
 
 rescue_none : (words : List (List ℕ)) → list_any begins_with_dash words ≡ true → rescue_of words ≡ None
 unfolding rescue_of
+rescue_none [] e = refl
+rescue_none (source ∷ []) e = refl
+rescue_none (source ∷ target ∷ []) e = refl
 rescue_none (source ∷ target ∷ list ∷ []) e = elim (any_of_three _ _ _ e) [
   | inl dash ↦ let none = dash_name source dash in rw none refl
   | inr behind ↦ elim (none_or (name_of source)) [
@@ -109,19 +113,19 @@ rescue_none (source ∷ target ∷ list ∷ []) e = elim (any_of_three _ _ _ e) 
       ]
     ]
   ]
-rescue_none _ e = refl
 ]
 rescue_none (source ∷ target ∷ list ∷ next ∷ rest) e = refl
 
 disk_none : (words : List (List ℕ)) → list_any begins_with_dash words ≡ true → disk_of words ≡ None
 unfolding disk_of
+disk_none [] e = refl
+disk_none (word ∷ []) e = refl
 disk_none (word ∷ count ∷ []) e = elim (either_dash _ _ e) [
   | inl dash ↦ let none = dash_name word dash in rw none refl
   | inr dash ↦ let none = dash_cylinders count dash in elim (none_or (name_of word)) [
     | inl other ↦ rw other refl
     | inr found ↦ rw (found.1, none) refl
   ]
-disk_none _ e = refl
 ]
 disk_none (word ∷ count ∷ next ∷ rest) e = refl
 
@@ -135,13 +139,14 @@ formatdd_none words e = let none = disk_none words e in rw none refl
 
 names_none : (words : List (List ℕ)) → list_any begins_with_dash words ≡ true → names_of words ≡ None
 unfolding names_of
+names_none [] e = refl
+names_none (source ∷ []) e = refl
 names_none (source ∷ target ∷ []) e = elim (either_dash _ _ e) [
   | inl dash ↦ let none = dash_name source dash in rw none refl
   | inr dash ↦ let none = dash_name target dash in elim (none_or (name_of source)) [
     | inl other ↦ rw other refl
     | inr found ↦ rw (found.1, none) refl
   ]
-names_none _ e = refl
 ]
 names_none (source ∷ target ∷ next ∷ rest) e = refl
 
@@ -180,13 +185,14 @@ dash_number least greatest word dash = let is = is_dash word dash in rw is.1 (no
 
 exercise_none : (words : List (List ℕ)) → list_any begins_with_dash words ≡ true → exercise_of words ≡ None
 unfolding exercise_of workload_of seed_of count_of
+exercise_none [] e = refl
+exercise_none (seed ∷ []) e = refl
 exercise_none (seed ∷ count ∷ []) e = elim (either_dash _ _ e) [
   | inl dash ↦ let none = dash_number 0 2147483647 seed dash in rw none refl
   | inr dash ↦ let none = dash_number 0 2000 count dash in elim (none_or (number_of 10 1 10 0 2147483647 seed)) [
     | inl missing ↦ rw missing refl
     | inr found ↦ rw (found.1, none) refl
   ]
-exercise_none _ e = refl
 ]
 exercise_none (seed ∷ count ∷ next ∷ rest) e = refl
 
@@ -208,12 +214,13 @@ chosen_none false x y e f = f
 -- words of which one begins with a dash are no form
 pub dash_none : (words : List (List ℕ)) → list_any begins_with_dash words ≡ true → form_of words ≡ None
 unfolding form_of
+dash_none [] e = refl
+dash_none ([] ∷ words) e = refl
 dash_none ((d ∷ rest) ∷ words) e = elim (either_or _ _ e) [
   | inl dash ↦ let is : d ≡ 45 = eqb-true d 45 dash in rw is refl
   | inr behind ↦ chosen_none _ _ _ (play_none words behind) (chosen_none _ _ _ (format_none words behind)
       (chosen_none _ _ _ (formatdd_none words behind) (chosen_none _ _ _ (copy_none words behind)
       (chosen_none _ _ _ (verify_none words behind) (chosen_none _ _ _ (fromimd_none words behind) (chosen_none _ _ _ (toimd_none words behind) (chosen_none _ _ _ (survey_none words behind) (chosen_none _ _ _ (remaster_none words behind) (chosen_none _ _ _ (import_none words behind) (chosen_none _ _ _ (export_none words behind) (chosen_none _ _ _ (exercise_none words behind) (chosen_none _ _ _ (int13_none words behind) (chosen_none _ _ _ (rescue_none words behind) refl)))))))))))))
-dash_none _ e = refl
 ]
 
 -- such words are read as no form

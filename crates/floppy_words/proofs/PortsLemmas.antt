@@ -25,10 +25,12 @@ no_form _ file e = absurd cc
 
 dash_none : (words : List (List ℕ)) → list_any begins_with_dash words ≡ true → ports_file_of words ≡ None
 unfolding ports_file_of
+dash_none [] e = refl
+dash_none (verb ∷ []) e = refl
+dash_none ([] ∷ word ∷ []) e = refl
 dash_none ((d ∷ letters) ∷ word ∷ []) e = elim (either_or _ _ e) [
   | inl dash ↦ let is : d ≡ 45 = eqb-true d 45 dash in rw is refl
   | inr behind ↦ let none = dash_name word (any_one _ behind) in rw none (never _ _)
-dash_none _ e = refl
 ]
   where
     never : {X : Type 0} (b : Bool) (x : Option X) → (if b then x else x) ≡ x

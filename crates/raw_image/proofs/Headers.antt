@@ -152,8 +152,10 @@ protection_at true = refl
 protection_at false = refl
 
 rate_at : (v : Version) (r : Rate) → CanTell v r → rate_of v (rate_byte r) ≡ Some r
+rate_at First R500 can = refl
 rate_at First R250 can = absurd cc
-rate_at _ _ can = refl
+rate_at Second R500 can = refl
+rate_at Second R250 can = refl
 
 pub header_again : (v : Version) (h : Header) → CanTell v h.rate → IsHeader h → header_of (header_bytes v (disk_of h [])) ≡ Ok h
 unfolding header_of

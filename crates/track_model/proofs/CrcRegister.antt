@@ -32,8 +32,10 @@ length-invert _ _ = refl
 -- a last zero inverts nothing
 invert-append_false : (p row : List Bool) → invert (p ++ false ∷ []) row ≡ invert p row
 unfolding invert
+invert-append_false [] [] = refl
+invert-append_false [] (b ∷ row) = refl
+invert-append_false (f ∷ p) [] = refl
 invert-append_false (f ∷ p) (b ∷ row) = ap (λ r. cond f (not b) b ∷ r) (invert-append_false p row)
-invert-append_false _ _ = refl
 
 pub invert-append : (p q row tail : List Bool) → length p ≡ length row → invert (p ++ q) (row ++ tail) ≡ invert p row ++ invert q tail
 unfolding invert
