@@ -42,7 +42,6 @@ done_more requests more next answer old mid new told course is done fine step =
 -- ---- The requests of a transfer.
 
 module _ (kind : Kind) (bay : ℕ) (first : Chrn) (address : ℕ) where
-
   pub no_records : record_requests kind bay first address 0 ≡ []
   unfolding record_requests
   no_records = refl

@@ -116,7 +116,6 @@ keeps_both disk middle after c h first second = record {
 -- ---- what the other tracks have
 
 module _ (disk : Disk) (c h : ℕ) (after : Disk) (keeps : KeepsTracks disk c h after) where
-
   on_map : (from to : Disk) (entry : Entry) → HasTrack to entry.cylinder entry.head → track_of to entry.cylinder entry.head ≡ track_of from entry.cylinder entry.head → IsOnMap from entry → IsOnMap to entry
   on_map from to entry has same on = record {
     track = has;

@@ -180,7 +180,6 @@ pub follows_hunts : (separator : Separator) (fed : List ℕ) → SFollows separa
 follows_hunts separator fed follows = follows.hunts
 
 module _ (separator : Separator) (fed : List ℕ) (p size : ℕ) (waits : SWaits separator fed p size) where
-
   -- at most 1,022 cells stand behind the address field
   pub waits_early : 16 * length fed ≤ p + 160 + 1022
   waits_early = (waits_at fed separator.cells separator.back p size separator.stage waits).1
