@@ -30,7 +30,10 @@ def found(name, variable):
 
 
 class Browser:
-    """A window with the page, and what a person does in it."""
+    """A window with the page, and what a person does in it. Where `patience` is more than 1, everything may take so many
+    times as long."""
+
+    patience = 1
 
     def __init__(self, downloads, width, height, is_phone=False, scheme="light"):
         options = Options()
@@ -68,6 +71,7 @@ class Browser:
 
     def until(self, what, is_so, seconds=20):
         """Waits until something is so. It fails loudly if that never comes."""
+        seconds *= self.patience
         end = time.monotonic() + seconds
         while time.monotonic() < end:
             try:
