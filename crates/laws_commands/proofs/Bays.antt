@@ -92,11 +92,7 @@ pub record IsReadyFor (bay : ℕ) (disk : Disk) (station : StationState) : Type 
   pub kept : is_acknowledged station bay ≡ true
 
 pub ready_still : (bay : ℕ) (disk : Disk) (old new : StationState) → bay_of new bay ≡ bay_of old bay → IsReadyFor bay disk old → IsReadyFor bay disk new
-ready_still bay disk old new same ready = record {
-  medium = ap (λ (b : Bay). b.medium) same ∙ ready.medium;
-  bay_rate = ap (λ (b : Bay). b.rate) same ∙ ready.bay_rate;
-  kept = ap (λ (b : Bay). is_some b.acknowledged) same ∙ ready.kept;
-}
+ready_still bay disk old new same ready = search
 
 -- one bay is ready for this disk, and the other bay is as it was
 pub record IsReadyAlone (bay other : ℕ) (disk : Disk) (old new : Stage) : Type 0 where
@@ -208,20 +204,8 @@ pub insert_stops : (bay : ℕ) (from : List ℕ) (files : Files) (disk : Disk) (
     → IsImageOf (Some files) from disk → StopsAt (request.Insert bay from) old (Some files) cause new after → IsEndStop cause
 insert_stops bay from files disk old new after stop.FileFault image stops = tt
 insert_stops bay from files disk old new after stop.NoMemory image stops = tt
-insert_stops bay from files disk old new after (stop.BadImage name error) image stops =
-    let e = stops.cause.0.1 in
-    let same : name ≡ from = cc e in
-    let both = of_one (file_at files from) image (subst
-    (λ (n : List ℕ). IsSomeAnd (file_at files n) (λ bytes. (length bytes ≤ most_image_bytes) × (image_of bytes ≡ Err error))) same stops.cause.1) in
-    absurd (clash (image_of both.0) both.2.1 both.3.1)
-  where
-    clash : (r : Result Disk ImageError) → r ≡ Ok disk → r ≡ Err error → ⊥
-    clash r e f = cc (e, f)
-insert_stops bay from files disk old new after (stop.TooLong name most) image stops =
-    let e = stops.cause.0.1 in
-    let same : name ≡ from = cc e in
-    let both = of_one (file_at files from) image (subst (λ (n : List ℕ). IsSomeAnd (file_at files n) (λ bytes. most < length bytes)) same stops.cause.2) in
-    absurd (omega (arith, stops.cause.1, both.2.0, both.3))
+insert_stops bay from files disk old new after (stop.BadImage name error) image stops = grind (arith, of_one)
+insert_stops bay from files disk old new after (stop.TooLong name most) image stops = grind (arith, of_one)
 insert_stops bay from files disk old new after (stop.Absent name) image stops =
     let e = stops.cause.0.1 in
     let same : name ≡ from = cc e in

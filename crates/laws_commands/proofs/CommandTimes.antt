@@ -270,11 +270,7 @@ module _ (one : Request → StationState → ℕ) (sum : StationState → List T
 
   pub imports_most : (file bytes : List ℕ) (files : Files) → IsFlatFile (Some files) file bytes rate → old.files ≡ Some files
       → flat.Imports file name old course new ended → sum old.state.station course ≤ import_cost (costs 0) rate
-  imports_most file bytes files is_flat told imports =
-      found_most imports.0 (λ row at is_found.
-      (let other : IsFlatFile (Some files) file row at =
-      subst (λ (f : Option Files). IsFlatFile f file row at) told (subst (λ (r : Result (List ℕ × Rate) Stop). IsFlatFound old.files file r) is_found imports.1) in
-      one_rate at rate row bytes (one_flat files file row bytes at rate other is_flat) other.sectors is_flat.sectors)) imports.2
+  imports_most file bytes files is_flat told imports = grind (arith, found_most, one_rate, one_flat)
 
 -- ---- Commands on the disk of a told file.
 

@@ -23,10 +23,7 @@ keeps-append (asked ∷ one) two e f =
 pub copies_keep : (rate : Rate) (tracks : List Track) (marks : List Bool) → list_all keeps_drives (copy_each rate tracks marks) ≡ true
 copies_keep rate [] marks = refl
 copies_keep rate (track ∷ tracks) marks =
-    let keys = track_keys (sectors_at rate) track.0 track.1 in
-    keeps-append (read_records 0 keys ++ write_records 1 keys (take (sectors_at rate) marks)) (copy_each rate tracks (drop (sectors_at rate) marks))
-    (keeps-append (read_records 0 keys) (write_records 1 keys (take (sectors_at rate) marks)) (reads_keep keys) (writes_keep 1 keys (take (sectors_at rate) marks)))
-    (copies_keep rate tracks (drop (sectors_at rate) marks))
+    grind (arith, keeps-append, reads_keep, writes_keep, copies_keep rate tracks (drop (sectors_at rate) marks))
 
 -- What the copies of tracks made of the disk in bay 1. Each copied track is Laid, with its sectors as they were given.
 -- Tracks that were so before stay so.

@@ -120,16 +120,7 @@ copies_disk tidy from to disk files old new after course all size faultless =
     let calm = λ (s : sure).
     (sure_parts disk top.mid.station.counters body.mid.station.counters new.station.counters fell_body fell_end
     (sure_parts disk old.station.counters top.mid.station.counters new.station.counters fell_top fell_rest s).1).0 in
-    let ready : IsReady rate disk blank top.mid = record {
-      first = opened.first;
-      medium = opened.medium;
-      bay_rate = opened.rate;
-      valid = opened.valid;
-      regular = blank_regular disk.cylinders rate;
-      rate = refl;
-      words = refl;
-      size = opened.size;
-    } in
+    let ready : IsReady rate disk blank top.mid = assumption (blank_regular disk.cylinders rate) in
     let has = λ (c h : ℕ) (among : Among tracks c h).
     let at = among_only disk.cylinders disk.heads c h among in
     let track : HasTrack blank c h = (at.0, omega (arith, at.1, ranges.1)) in

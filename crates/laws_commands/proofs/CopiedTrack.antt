@@ -72,14 +72,7 @@ formats_it rate source c h disk old new told after course all ready has faultles
       words = keeps.alike.words_per_track ∙ ready.words;
       size = ap (λ (s : StationState). length s.memory) drive.becomes ∙ ready.size;
     } in
-    record {
-      next = formats.0;
-      ready = subst (λ (s : State). IsReady rate source formats.0 s) (sym end.0) at_mid;
-      keeps = keeps;
-      track = track;
-      names = ap (λ (s : State). s.names) end.0 ∙ does.0.names;
-      files = end.1 ∙ does.0.files;
-    }
+    search (subst (λ (s : State). IsReady rate source formats.0 s) (sym end.0) at_mid, ap (λ (s : State). s.names) end.0 ∙ does.0.names, end.1 ∙ does.0.files)
 
 -- ---- the records
 

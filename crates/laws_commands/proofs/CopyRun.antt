@@ -25,9 +25,7 @@ record CopiedTrack (rate : Rate) (track : Track) (old : World) (course : List Ta
 
 -- if the second of three courses is the only one with reads, the marks are those of its reads
 middle_marks : (one two three : List Taken) → marks_read one ≡ [] → marks_read three ≡ [] → marks_read (one ++ (two ++ three)) ≡ marks_read two
-middle_marks one two three first last =
-    marks-append one (two ++ three) ∙ ap (λ (row : List Bool). row ++ marks_read (two ++ three)) first
-    ∙ marks-append two three ∙ ap (λ (row : List Bool). marks_read two ++ row) last ∙ append-nil (marks_read two)
+middle_marks one two three first last = grind (arith, marks-append, append-nil)
 
 -- requests that are no reads tell no marks
 silent : (requests : List Request) (old mid : World) (course : List Taken) → Did requests old course mid → list_all is_no_read requests ≡ true

@@ -15,10 +15,7 @@ use Rattle.laws_commands.proofs.Verified.{one_image}
 -- an insert into an empty bay isn't refused
 insert_taken : (name : List ℕ) (old new : State) (told after : Option Files) (answer : Reply) → (bay_of old.station 0).medium ≡ None
     → Step (request.Insert 0 name) old told answer new after → is_refusal answer ≡ false
-insert_taken name old new told after answer empty step =
-    let free : refusal_of old (request.Insert 0 name) ≡ None = rw empty refl in
-    let does = reaches _ (refusal_of old (request.Insert 0 name)) free step in
-    ap is_refusal does.0
+insert_taken name old new told after answer empty step = grind (arith, reaches)
 
 -- an undisturbed acknowledgement of a bay with a medium isn't refused
 ack_taken : (disk : Disk) (old new : State) (told after : Option Files) (answer : Reply) → (bay_of old.station 0).medium ≡ Some disk
@@ -36,14 +33,7 @@ ack_taken disk old new told after answer medium quiet fell step = ap is_refusal 
 -- setting the rate of an acknowledged bay isn't refused
 rate_taken : (count : ℕ) (old new : State) (told after : Option Files) (answer : Reply) → (bay_of old.station 0).acknowledged ≡ Some count
     → Step (request.SetRate 0 R250) old told answer new after → is_refusal answer ≡ false
-rate_taken count old new told after answer acknowledged step =
-    let free : rate_refusal old.station 0 ≡ None = rw acknowledged refl in
-    let sets = reaches _ (rate_refusal old.station 0) free step.1.2 in
-    ap is_refusal step.1.1 ∙ go step.1.0 sets
-  where
-    go : (called : Result (Unit {0}) Code) → SetsRate 0 R250 old.station called new.station → is_refusal (reply_of called) ≡ false
-    go (Ok u) drive = refl
-    go (Err code) drive = absurd (cc drive.done)
+rate_taken count old new told after answer acknowledged step = grind (arith, reaches)
 
 -- ---- in a script
 
@@ -73,10 +63,7 @@ module _ (name : List ℕ) (disk : Disk) (files : Files) (rest : Shape → Unit 
   no_insert run = not_done run.cause (insert_taken name old.state new.state old.files new.files (reply.Refused run.cause) empty run.step)
 
   no_ack : (mid : World) (later : List Taken) → IsIn disk old mid → IsRefused (request.Ack 0) mid later new ended → ⊥
-  no_ack mid later is run =
-      let last = step_never_fell mid.state new.state mid.files new.files (request.Ack 0) (reply.Refused run.cause) run.step refl in
-      let calm = (quiet_parts old.state.station.counters mid.state.station.counters new.state.station.counters is.fell last quiet).1 in
-      not_done run.cause (ack_taken disk mid.state new.state mid.files new.files (reply.Refused run.cause) is.medium calm last run.step)
+  no_ack mid later is run = grind (arith, step_never_fell, quiet_parts, not_done, ack_taken)
 
   no_rate : (mid end : World) (between left : List Taken) → IsIn disk old mid → Did (request.Ack 0 ∷ []) mid between end
       → IsRefused (request.SetRate 0 R250) end left new ended → ⊥

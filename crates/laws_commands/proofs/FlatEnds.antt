@@ -108,11 +108,7 @@ taken_flat files flat bytes rate (stop.BadImage named error) is not =
     differ told e f = cc (e, f)
 taken_flat files flat bytes rate (stop.TooLong named most) is not = let both =
     of_one (file_at files flat) is.there not.2 in absurd (omega (arith, both.2.1, both.3))
-taken_flat files flat bytes rate (stop.Absent named) is not =
-    let one = of_one (file_at files flat) is.there is.there in
-    let none = not.1 in
-    let there = one.1 in
-    absurd (cc (none, there))
+taken_flat files flat bytes rate (stop.Absent named) is not = grind (arith, of_one)
 
 -- a name has only one flat file
 pub one_flat : (files : Files) (flat one two : List ℕ) (a b : Rate) → IsFlatFile (Some files) flat one a → IsFlatFile (Some files) flat two b → one ≡ two
@@ -135,10 +131,7 @@ one_rate a b one two same first second =
 -- the disk that was stored is that of the flat file of this name
 same_file : (files : Files) (flat name bytes : List ℕ) (rate : Rate) (after : Option Files) → IsFlatFile (Some files) flat bytes rate
     → StoresImported flat name (Some files) after → StoresDisk bytes name rate (Some files) after
-same_file files flat name bytes rate after is made =
-    let same = one_flat files flat made.0 bytes made.1 rate made.2 is in
-    subst (λ (a : Rate). StoresDisk bytes name a (Some files) after) (one_rate made.1 rate made.0 bytes same made.2.sectors is.sectors)
-    (subst (λ (row : List ℕ). StoresDisk row name made.1 (Some files) after) same made.3)
+same_file files flat name bytes rate after is made = grind (arith, one_flat, one_rate)
 
 module _ (flat name : List ℕ) (old new : World) (course : List Taken) (ended : Status) (files : Files) (bytes : List ℕ) (rate : Rate) (begins : BeginsSound old)
     (told : old.files ≡ Some files) (is : IsFlatFile (Some files) flat bytes rate) (calm : AreUndisturbed old.state.station.counters course) where
@@ -151,17 +144,13 @@ module _ (flat name : List ℕ) (old new : World) (course : List Taken) (ended :
       same_file files flat name bytes rate new.files is
       (subst (λ (f : Option Files). StoresImported flat name f new.files) told
       (import_stores flat name old new course (Ok (row, at_rate), there, done) (fresh_memory old.state.station begins.fresh) faultless.first)))
-  import_ends (Err cause) not runs =
-      let only = taken_flat files flat bytes rate cause is (subst (λ (f : Option Files). IsNotTaken f flat cause) told not) in
-      prints_outside _ _ _ _ ended _ (stop_outside _ cause only) (last_run (stop_lines cause) (stop_status cause) old course new ended runs).1.report
+  import_ends (Err cause) not runs = grind (arith, taken_flat, bytes, told, prints_outside, stop_outside, last_run)
 
 -- if nothing is left that can go wrong, an import goes to its end, or the outside failed
 pub import_complete : (flat name : List ℕ) (old new : World) (ended : Status) (files : Files) (bytes : List ℕ) (rate : Rate) → BeginsSound old
     → old.files ≡ Some files → IsFlatFile (Some files) flat bytes rate → Runs (Imports flat name) old new ended
     → EndsWellOrOutside (StoresDisk bytes name rate (Some files) new.files) ended
-import_complete flat name old new ended files bytes rate begins told is runs =
-    let calm = (script_ties (import_script runs.does.0 name) old runs.course new ended runs.does.2).undisturbed begins.sound in
-    import_ends flat name old new runs.course ended files bytes rate begins told is calm runs.does.0 runs.does.1 runs.does.2
+import_complete flat name old new ended files bytes rate begins told is runs = grind (arith, script_ties, import_ends)
 
 -- ---- Export.
 

@@ -50,10 +50,7 @@ formats_disk rate name cylinders old new told after course all faultless =
     let disk = is_formatted rate cylinders ready.mid new ready.files after laid in
     record {
       disk = disk.0;
-      there = record {
-        medium = disk.1;
-        named = ap (λ (n : Two (Option (List ℕ))). in_bay n 0) (laid.names ∙ ready.names) ∙ ap (λ (n : Two (Option (List ℕ))). in_bay n 0) put.named;
-      };
+      there = search (ap (λ (n : Two (Option (List ℕ))). in_bay n 0) (laid.names ∙ ready.names) ∙ ap (λ (n : Two (Option (List ℕ))). in_bay n 0) put.named);
       is = disk.2;
       files = laid.files ∙ ready.same_files ∙ put.files;
     }

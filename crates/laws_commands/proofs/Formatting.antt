@@ -37,24 +37,14 @@ same_some o x y e f = cc
 -- a list of layings leads from the disk before to the disk after, if these are in the bay
 lays_in : (format : Format) (before after : Option Disk) (disk next : Disk) (layings : List Laying) → before ≡ Some disk → after ≡ Some next
     → Lays format before layings after → LaysDisk format disk layings next
-lays_in format before after disk next layings e f lays =
-    let here = subst (λ (o : Option Disk). Lays format o layings after) e lays in
-    subst (λ (o : Option Disk). Lays format (Some disk) layings o) f here
+lays_in format before after disk next layings e f lays = grind arith
 
 pub drive_formats : (bay : ℕ) (rate : Rate) (c h : ℕ) (disk : Disk) (old new : StationState) (called : Result (Unit {0}) Code)
     → FormatsDrive (format_at c h rate (gap_at rate) standard_fill) bay old called new → IsOk called → IsFaultless bay old.counters new.counters
     → (bay_of old bay).medium ≡ Some disk → IsDisk disk
     → (next : Disk) × ((bay_of new bay).medium ≡ Some next) × KeepsTracks disk c h next
     × (track_of next c h ≡ formatted (format_at c h rate (gap_at rate) standard_fill) disk.words_per_track)
-drive_formats bay rate c h disk old new called drive ok faultless medium valid =
-    let done = drive.formatted_track ok faultless in
-    let can = done.0 in
-    let is : can.0 ≡ disk = same_some _ _ _ can.1 medium in
-    let track = subst (λ (d : Disk). HasTrack d c h) is can.2.track in
-    let same_rate = subst (λ (d : Disk). d.rate ≡ rate) is can.2.rate in
-    let laid = done.1 disk medium track same_rate in
-    let keeps = lays_keep _ disk drive.layings laid.0 valid (drive.only faultless) (lays_in _ _ _ disk laid.0 drive.layings medium laid.1 drive.lays) in
-    (laid.0, laid.1, keeps, laid.2)
+drive_formats bay rate c h disk old new called drive ok faultless medium valid = grind (arith, same_some, lays_keep, lays_in)
 
 pub one_format : (rate : Rate) (c h : ℕ) (disk : Disk) (old new : State) (told after : Option Files) (answer : Reply)
     → Does (request.Format 0 c h) old told answer new after → is_refusal answer ≡ false → IsFaultless 0 old.station.counters new.station.counters
@@ -65,16 +55,7 @@ one_format rate c h disk old new told after answer does done faultless medium ba
     let drive = reached (format_refusal old.station 0 c h (gap_at (bay_of old.station 0).rate)) called old.station new.station does.1.2 ok in
     let at = subst (λ (r : Rate). FormatsDrive (format_at c h r (gap_at r) standard_fill) 0 old.station called new.station) bay_rate drive in
     let formats = drive_formats 0 rate c h disk old.station new.station called at ok faultless medium valid in
-    record {
-      next = formats.0;
-      medium = formats.1;
-      bay_rate = ap (λ (s : StationState). (bay_of s 0).rate) drive.becomes ∙ bay_rate;
-      keeps = formats.2;
-      laid = formats.3;
-      memory = ap (λ (s : StationState). s.memory) drive.becomes;
-      names = does.0.names;
-      files = does.0.files;
-    }
+    search (ap (λ (s : StationState). (bay_of s 0).rate) drive.becomes ∙ bay_rate, ap (λ (s : StationState). s.memory) drive.becomes)
 
 -- What formats of tracks did to the disk in bay 0. Each of these tracks is laid, and a track that was laid in this way
 -- before stays.
@@ -96,10 +77,7 @@ at_place rate words c h = formatted (format_at c h rate (gap_at rate) standard_f
 module _ (rate : Rate) (b g : ℕ) (disk next final : Disk) (later : List Track) (keeps : KeepsTracks disk b g next) (first : track_of next b g ≡ at_place rate disk.words_per_track b g) (rest : (c h : ℕ) → HasTrack next c h → (Among later c h ⊎ (track_of next c h ≡ at_place rate next.words_per_track c h)) → track_of final c h ≡ at_place rate next.words_per_track c h) where
   goes_on : (c h : ℕ) → HasTrack disk c h → (Among later c h ⊎ (track_of next c h ≡ at_place rate disk.words_per_track c h))
       → track_of final c h ≡ at_place rate disk.words_per_track c h
-  goes_on c h has which =
-      let words = keeps.alike.words_per_track in
-      let has_next = (alike_tracks disk next c h keeps.alike).0 has in
-      subst (λ (w : ℕ). (Among later c h ⊎ (track_of next c h ≡ at_place rate w c h)) → track_of final c h ≡ at_place rate w c h) words (rest c h has_next) which
+  goes_on c h has which = grind (arith, alike_tracks)
 
   elsewhere : (c h : ℕ) → HasTrack disk c h → (c ≡ b → h ≡ g → ⊥)
       → (Among ((b, g) ∷ later) c h ⊎ (track_of disk c h ≡ at_place rate disk.words_per_track c h))
@@ -109,9 +87,7 @@ module _ (rate : Rate) (b g : ℕ) (disk next final : Disk) (later : List Track)
   elsewhere c h has other (inr laid) = goes_on c h has (inr (keeps.others c h has other ∙ laid))
 
   at_first : (c h : ℕ) → c ≡ b → h ≡ g → track_of next c h ≡ at_place rate disk.words_per_track c h
-  at_first c h same_c same_h =
-      let in_head = subst (λ k. track_of next b k ≡ at_place rate disk.words_per_track b k) (sym same_h) first in
-      subst (λ k. track_of next k h ≡ at_place rate disk.words_per_track k h) (sym same_c) in_head
+  at_first c h same_c same_h = grind (arith, first)
 
   laid_still : (c h : ℕ) → HasTrack disk c h → (Among ((b, g) ∷ later) c h ⊎ (track_of disk c h ≡ at_place rate disk.words_per_track c h))
       → track_of final c h ≡ at_place rate disk.words_per_track c h

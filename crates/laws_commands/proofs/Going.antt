@@ -52,11 +52,7 @@ step_still old new told after asked answer step keeps calm =
     }
 
 pub still_both : (one two three : Counters) → IsStill one two → IsStill two three → IsStill one three
-still_both one two three a b = record {
-  first = omega (arith, a.first, b.first);
-  second = omega (arith, a.second, b.second);
-  stalls = omega (arith, a.stalls, b.stalls);
-}
+still_both one two three a b = search
 
 -- ---- Scripts.
 
@@ -197,9 +193,7 @@ module _ (start : Counters) where
   goes_ends : (script : Script) (old new : World) (course : List Taken) (ended : Status) → GoesWell script (at old.state old.files)
       → IsStill start old.state.station.counters → AreUndisturbed old.state.station.counters course → RunsScript script old course new ended
       → EndsStill course new ended
-  goes_ends (Ends line wanted) old new [] ended well still calm runs =
-      let here = subst (λ (s : State). IsStill start s.station.counters) (sym runs.state) still in
-      prints_outside _ old.report line wanted ended new.report (subst (λ (s : Status). EndsStill [] new s) (sym well) (here, refl)) runs.report
+  goes_ends (Ends line wanted) old new [] ended well still calm runs = grind (arith, prints_outside)
   goes_ends (Ends line wanted) old new (taken ∷ later) ended well still calm runs = absurd runs
   goes_ends (Says line rest) old new course ended goes still calm (inl runs) =
       goes_ends rest (record old { report = grown old.report (line ∷ []) }) new course ended goes still calm runs
@@ -220,9 +214,7 @@ module _ (start : Counters) where
   goes_ends (Stores name bytes line wanted) old new (taken ∷ later) ended well still calm runs = absurd runs
   goes_ends (MayStarve rest) old new course ended goes still calm (inl runs) = goes_ends rest old new course ended goes still calm runs
   goes_ends (MayStarve rest) old new course ended goes still calm (inr none) = subst (λ (s : Status). EndsStill course new s) (sym none.2) tt
-  goes_ends (Fails cause) old new [] ended fails still calm runs =
-      let here = subst (λ (w : World). IsStill start w.state.station.counters) (sym runs.0) still in
-      subst (λ (s : Status). EndsStill [] new s) (sym runs.1) (ends_with _ _ cause fails (λ well none. (here, refl)))
+  goes_ends (Fails cause) old new [] ended fails still calm runs = grind (arith, ends_with)
   goes_ends (Fails cause) old new (taken ∷ later) ended fails still calm runs = absurd runs
 
 -- the drives of both bays had no fault, and nothing disturbed the drive of bay 0

@@ -31,27 +31,17 @@ drive_keeps key old new (Ok deleted) sized size drive =
       bays = ap (λ (s : StationState). s.bays) found.becomes;
       size = ap (λ (s : StationState). length s.memory) found.becomes ∙ length-with_items old.memory 0x10000 found.content (omega arith);
     }
-drive_keeps key old new (Err code) sized size drive = record {
-  bays = ap (λ (s : StationState). s.bays) drive.refused.becomes;
-  size = drive.refused.memory.length;
-}
+drive_keeps key old new (Err code) sized size drive = search
 
 pub read_keeps : (key : Chrn) (old new : StationState) (called : Result Bool Code) → key.n ≡ 2 → length old.memory ≡ user_bytes
     → Reads 0 key 0x10000 old called new → ReadKeeps old new
 read_keeps key old new called sized size reads =
     either (read_refusal old 0 key 0x10000) reads (drive_keeps key old new called sized size)
-    (λ code refused. record {
-      bays = ap (λ (s : StationState). s.bays) refused.stays;
-      size = ap (λ (s : StationState). length s.memory) refused.stays;
-    })
+    (λ code refused. search)
 
 -- a call of the driver lets no count fall
 pub call_fell : (old new : State) (told after : Option Files) → IsDriverCall old told new after → NeverFell old.station.counters new.station.counters
-call_fell old new told after call = record {
-  first = call.counts.first.never_falls;
-  second = call.counts.second.never_falls;
-  stalls = call.counts.stalls;
-}
+call_fell old new told after call = assumption
 
 -- ---- how the outcome of a read shows
 
@@ -75,10 +65,7 @@ gave_reads key deleted content taken given = (given.address, given.asked)
 
 -- a step that gave something wasn't refused
 pub never_both : (key : Chrn) (code : Code) (deleted : Bool) (bytes : List ℕ) (read : Taken) → WasRefused key code read → Gave key deleted bytes read → ⊥
-never_both key code deleted bytes read refused given =
-    let none : mark_of read.asked read.answer ≡ [] = ap₂ (λ (q : Request) (r : Reply). mark_of q r) refused.0 refused.1 in
-    let some = given.mark in
-    cc (none, some)
+never_both key code deleted bytes read refused given = grind arith
 
 -- the log line of a refused read
 pub line_of_refused : (key : Chrn) (cause : Code) (read : Taken) → read.asked ≡ read_of key → read.answer ≡ read_reply (Err cause)
@@ -188,20 +175,17 @@ pub record IsWrite (key : Chrn) (deleted : Bool) (old : World) (write : Taken) (
   pub done : is_refusal write.answer ≡ false
   pub step : Step (write_of key deleted) old.state old.files write.answer write.after files
 
--- A record that could be read was written, and one whose read was refused wasn't. Then the course went on.
-abbrev pub GoesAfter : Chrn → Result Bool Code → (World → List Taken → World → Type 0) → World → List Taken → World → Type 0
-GoesAfter key (Err cause) rest old course new = rest old course new
-GoesAfter key (Ok deleted) rest old [] new = ⊥
-GoesAfter key (Ok deleted) rest old (write ∷ later) new =
-    (files : Option Files) × IsWrite key deleted old write files × rest (with_report write.after files old.report) later new
-
--- a course goes through the records of these keys, one after the other
-abbrev pub GoesKeys : List Chrn → World → List Taken → World → Type 0
-GoesKeys [] old course new = (course ≡ []) × (new ≡ old)
-GoesKeys (key ∷ keys) old [] new = ⊥
-GoesKeys (key ∷ keys) old (read ∷ later) new =
-    (called : Result Bool Code) × (files : Option Files) × IsRead key called old read files
-    × GoesAfter key called (GoesKeys keys) (with_report read.after files old.report) later new
+-- A course goes through the records of these keys, one after the other. A record that could be read was written, and
+-- one whose read was refused wasn't.
+pub data GoesKeys : List Chrn → World → List Taken → World → Type 0 where
+  Over : (old : World) → GoesKeys [] old [] old
+  Lost : (key : Chrn) (keys : List Chrn) (cause : Code) (old : World) (read : Taken) (files : Option Files) (later : List Taken) (new : World)
+      → IsRead key (Err cause) old read files → GoesKeys keys (with_report read.after files old.report) later new
+      → GoesKeys (key ∷ keys) old (read ∷ later) new
+  Kept : (key : Chrn) (keys : List Chrn) (deleted : Bool) (old : World) (read : Taken) (files : Option Files) (write : Taken) (more : Option Files)
+      (later : List Taken) (new : World) → IsRead key (Ok deleted) old read files
+      → IsWrite key deleted (with_report read.after files old.report) write more
+      → GoesKeys keys (with_report write.after more old.report) later new → GoesKeys (key ∷ keys) old (read ∷ write ∷ later) new
 
 -- no count falls between two worlds
 abbrev pub Fell : World → World → Type 0
@@ -212,22 +196,26 @@ fell_both old mid new one two = both_fell old.state.station.counters mid.state.s
 
 pub write_fell : (key : Chrn) (deleted : Bool) (old new : World) (write : Taken) (files : Option Files) → new.state ≡ write.after
     → IsWrite key deleted old write files → Fell old new
-write_fell key deleted old new write files is wrote =
-    subst (λ (s : State). NeverFell old.state.station.counters s.station.counters) (sym is)
-    (step_never_fell old.state write.after old.files files (write_of key deleted) write.answer wrote.step (write_keeps key deleted))
+write_fell key deleted old new write files is wrote = grind (arith, step_never_fell, write_keeps)
 
-pub keys_fell : (keys : List Chrn) (old : World) (course : List Taken) (new : World) → GoesKeys keys old course new → Fell old new
-keys_fell [] old course new goes = subst (Fell old) (sym goes.1) (record { first = omega arith; second = omega arith; stalls = omega arith })
-keys_fell (key ∷ keys) old [] new goes = absurd goes
-keys_fell (key ∷ keys) old (read ∷ later) new (Err cause, files, is, goes) =
-    let mid = with_report read.after files old.report in
-    fell_both old mid new (call_fell old.state read.after old.files files is.call) (keys_fell keys mid later new goes)
-keys_fell (key ∷ keys) old (read ∷ []) new (Ok deleted, files, is, goes) = absurd goes
-keys_fell (key ∷ keys) old (read ∷ write ∷ later) new (Ok deleted, files, is, (more, wrote, goes)) =
-    let mid = with_report read.after files old.report in
-    let next = with_report write.after more old.report in
-    fell_both old mid new (call_fell old.state read.after old.files files is.call)
-    (fell_both mid next new (write_fell key deleted mid next write more refl wrote) (keys_fell keys next later new goes))
+pub keys_fell : {keys : List Chrn} {old : World} {course : List Taken} {new : World} → GoesKeys keys old course new → Fell old new
+keys_fell (Over old) = record { first = omega arith; second = omega arith; stalls = omega arith }
+keys_fell (Lost key keys cause old read files later new is goes) = grind (arith, fell_both, call_fell, keys_fell goes)
+keys_fell (Kept key keys deleted old read files write more later new is wrote goes) =
+    grind (arith, fell_both, call_fell, write_fell, keys_fell goes)
+
+-- ---- the lines of such a course
+
+-- the line of a record whose read was refused
+pub log_of_lost : (key : Chrn) (cause : Code) (old : World) (read : Taken) (files : Option Files) (later : List Taken)
+    → IsRead key (Err cause) old read files → log_of (read ∷ later) ≡ (record { key = key; code = cause }) ∷ log_of later
+log_of_lost key cause old read files later is =
+    ap (λ (row : List LogLine). row ++ log_of later) (line_of_refused key cause read is.asked is.answered)
+
+-- a record that was saved has no line
+pub log_of_kept : (key : Chrn) (deleted : Bool) (old mid : World) (read : Taken) (files : Option Files) (write : Taken) (more : Option Files)
+    (later : List Taken) → IsRead key (Ok deleted) old read files → IsWrite key deleted mid write more → log_of (read ∷ write ∷ later) ≡ log_of later
+log_of_kept key deleted old mid read files write more later is wrote = grind (arith, line_of_done, read_done)
 
 -- ---- by a script that went on to its end
 
@@ -269,10 +257,8 @@ module _ (rest : List LogLine → Script) (new : World) (ended : Status) (whole 
         (carry_run asked (λ none. Rest lines) (behind_step run) run.later new ended runs) in
         let write = one.run in
         let all = next lines (behind_step write) write.later (later_fine (write.taken ∷ []) write.later run.later write.course_is later) write.left in
-        let none : line_at run.taken.asked run.taken.answer ≡ [] = line_of_done run.taken.asked run.taken.answer
-        (ap is_refusal is.answered ∙ read_done deleted) in
-        let also : line_at write.taken.asked write.taken.answer ≡ [] = line_of_done write.taken.asked write.taken.answer one.fine in
-        let same : log_of all.one ≡ log_of (run.taken ∷ write.taken ∷ all.one) = rw (none, also) refl in
+        let saved : IsWrite key deleted (behind_step run) write.taken write.files = record { asked = write.asked_is; done = one.fine; step = write.step } in
+        let same = log_of_kept key deleted old (behind_step run) run.taken run.files write.taken write.files all.one is saved in
         record {
           one = run.taken ∷ write.taken ∷ all.one;
           two = all.two;
@@ -280,10 +266,10 @@ module _ (rest : List LogLine → Script) (new : World) (ended : Status) (whole 
           mid = all.mid;
           course_is = run.course_is ∙ ap (λ (row : List Taken). run.taken ∷ row) (write.course_is ∙ ap (λ (row : List Taken). write.taken ∷ row) all.course_is);
           knows = (
-            (Ok deleted, run.files, is, (write.files, record { asked = write.asked_is; done = one.fine; step = write.step }, all.knows.0)),
-            all.knows.1 ∙ ap (λ (row : List LogLine). lines ++ row) same,
+            Kept key keys deleted old run.taken run.files write.taken write.files all.one all.mid is saved all.knows.0,
+            all.knows.1 ∙ ap (λ (row : List LogLine). lines ++ row) (sym same),
             all.knows.2,
-            subst AreRefusals same all.knows.3,
+            subst AreRefusals (sym same) all.knows.3,
           );
           left = all.left;
         }
@@ -295,7 +281,7 @@ module _ (rest : List LogLine → Script) (new : World) (ended : Status) (whole 
     logged run cause device is later runs =
         let line : LogLine = record { key = key; code = cause } in
         let all = next (lines ++ line ∷ []) (behind_step run) run.later later runs in
-        let here = line_of_refused key cause run.taken is.asked is.answered in
+        let here = log_of_lost key cause old run.taken run.files all.one is in
         record {
           one = run.taken ∷ all.one;
           two = all.two;
@@ -303,10 +289,10 @@ module _ (rest : List LogLine → Script) (new : World) (ended : Status) (whole 
           mid = all.mid;
           course_is = run.course_is ∙ ap (λ (row : List Taken). run.taken ∷ row) all.course_is;
           knows = (
-            (Err cause, run.files, is, all.knows.0),
-            all.knows.1 ∙ append_assoc lines (line ∷ []) (log_of all.one) ∙ ap (λ (row : List LogLine). lines ++ (row ++ log_of all.one)) (sym here),
+            Lost key keys cause old run.taken run.files all.one all.mid is all.knows.0,
+            all.knows.1 ∙ append_assoc lines (line ∷ []) (log_of all.one) ∙ ap (λ (row : List LogLine). lines ++ row) (sym here),
             all.knows.2,
-            subst (λ (row : List LogLine). AreRefusals (row ++ log_of all.one)) (sym here) (device, all.knows.3),
+            subst AreRefusals (sym here) (device, all.knows.3),
           );
           left = all.left;
         }
@@ -334,7 +320,7 @@ pub keys_gone : (keys : List Chrn) (lines : List LogLine) (rest : List LogLine �
     → IsEndStatus ended → IsNotStopped course → RunsScript (through rescues keys lines rest) old course new ended
     → Passed (RescuesKeys keys lines) rest old course new ended
 unfolding through rescues
-keys_gone [] lines rest old course new ended whole fine runs = at_once lines runs ((refl, refl), sym (append-nil lines), refl, tt)
+keys_gone [] lines rest old course new ended whole fine runs = at_once lines runs (Over old, sym (append-nil lines), refl, tt)
 keys_gone (key ∷ keys) lines rest old course new ended whole fine runs =
     let follow = λ (answer : Reply) (after : State). follows key answer lines (λ now. through rescues keys now rest) in
     by_read rest new ended whole key keys (λ more now later sound next. keys_gone keys more rest now later new ended whole sound next) lines old course fine

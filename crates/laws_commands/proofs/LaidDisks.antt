@@ -8,9 +8,7 @@ use Rattle.laws_commands.proofs.Sectors.{track_laid}
 module _ (disk next : Disk) (c h : ℕ) (keeps : KeepsTracks disk c h next) where
   elsewhere_laid : HasLaidFields disk → (b g p : ℕ) (key : Chrn) → HasTrack disk b g → (b ≡ c → g ≡ h → ⊥) → IsAddressAt (track_of next b g) p key
       → IsLaid (track_of next b g)
-  elsewhere_laid laid b g p key had other address =
-      let same = keeps.others b g had other in
-      subst IsLaid (sym same) (laid b g p key had (subst (λ (t : List ℕ). IsAddressAt t p key) same address))
+  elsewhere_laid laid b g p key had other address = grind arith
 
   pub still_laid : HasLaidFields disk → IsLaid (track_of next c h) → HasLaidFields next
   still_laid laid here b g p key has address =
@@ -24,6 +22,4 @@ module _ (disk next : Disk) (c h : ℕ) (keeps : KeepsTracks disk c h next) wher
       ]
 
 pub formatted_laid : (rate : Rate) (count : ℕ) (disk : Disk) → IsFormattedDisk rate count disk → HasLaidFields disk
-formatted_laid rate count disk is c h p key has address =
-    subst IsLaid (sym (is.tracks c h has))
-    (track_laid rate c h (omega (arith, has.0, is.valid.cylinders.1)) (omega (arith, has.1, is.valid.heads.1)))
+formatted_laid rate count disk is c h p key has address = grind (arith, track_laid)

@@ -57,9 +57,7 @@ called_mark bay key address (Err code) done = absurd (true≢false done)
 read_mark : (bay : ℕ) (key : Chrn) (address : ℕ) (old new : State) (told after : Option Files) (answer : Reply)
     → Step (request.Read bay key address) old told answer new after → is_refusal answer ≡ false
     → mark_of (request.Read bay key address) answer ≡ tells_deleted answer ∷ []
-read_mark bay key address old new told after answer step done =
-    let fine = subst (λ (r : Reply). is_refusal r ≡ false) step.1.1 done in
-    subst (λ (r : Reply). mark_of (request.Read bay key address) r ≡ tells_deleted r ∷ []) (sym step.1.1) (called_mark bay key address step.1.0 fine)
+read_mark bay key address old new told after answer step done = grind (arith, called_mark)
 
 -- ---- the reads
 
@@ -86,13 +84,7 @@ module _ (c h : ℕ) where
   one_mark : (r : ℕ) (begun found : List Bool) (old mid : World) (course : List Taken)
       (taken : IsTaken (request.Read 0 (key_of c h r) (record_address r)) (finds begun r) old course found mid)
       → marks_read course ≡ tells_deleted taken.is.taken.answer ∷ []
-  one_mark r begun found old mid course taken =
-      let is = taken.is in
-      let answer = is.taken.answer in
-      let told = read_mark 0 (key_of c h r) (record_address r) old.state is.taken.after old.files mid.files answer is.step taken.fine in
-      ap marks_read is.course_is
-      ∙ ap (λ (q : Request). mark_of q answer ++ []) is.asked_is
-      ∙ ap (λ (row : List Bool). row ++ []) told
+  one_mark r begun found old mid course taken = grind (arith, read_mark)
 
   one_more : (r n : ℕ) (begun found last : List Bool) (old mid new : World) (one two : List Taken)
       → IsTaken (request.Read 0 (key_of c h r) (record_address r)) (finds begun r) old one found mid
@@ -141,9 +133,7 @@ writes_kept : (found : List Bool) (c h r : ℕ) (marks : List Bool) → AreKept 
     → writes_of found c h r (length marks) ≡ write_records 1 (keys_from c h r (length marks)) marks
 writes_kept found c h r [] kept = refl
 writes_kept found c h r (deleted ∷ marks) kept =
-    ap (λ (mark : Bool). write_request mark (key_of c h r) (record_address r) ∷ writes_of found c h (r + 1) (length marks)) kept.0
-    ∙ ap (λ (q : Request). q ∷ writes_of found c h (r + 1) (length marks)) (write_is deleted (key_of c h r))
-    ∙ ap (λ (row : List Request). write_record 1 (key_of c h r) deleted ∷ row) (writes_kept found c h (r + 1) marks kept.1)
+    grind (arith, write_is, writes_kept found c h (r + 1) marks kept.1)
 
 pub writes_are : (found : List Bool) (c h first count : ℕ) (marks : List Bool) → length marks ≡ count → AreKept found first marks
     → writes_of found c h first count ≡ write_records 1 (keys_from c h first count) marks

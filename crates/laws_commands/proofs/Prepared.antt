@@ -133,15 +133,15 @@ acks bay disk old new told after answer does done medium =
       files = does.0.files;
     }
 
--- ---- the bay gets the rate of its disk
+-- ---- the bay is set to a rate
 
--- a bay has the rate of its disk, and these requests are left to do
-pub record IsRated (bay : ℕ) (disk : Disk) (old : State) (told : Option Files) (rest : List Request) (new : State) (after : Option Files) : Type 0 where
+-- The bay was set to this rate, unless it has this rate after an acknowledgement anyway. These requests are left to do.
+pub record IsSet (bay : ℕ) (rate : Rate) (old : State) (told : Option Files) (rest : List Request) (new : State) (after : Option Files) : Type 0 where
   pub mid : State
   pub files : Option Files
   pub course : List Taken
-  pub medium : (bay_of mid.station bay).medium ≡ Some disk
-  pub rate : (bay_of mid.station bay).rate ≡ disk.rate
+  pub medium : (bay_of mid.station bay).medium ≡ (bay_of old.station bay).medium
+  pub rate_is : (rate ≡ R500 → (bay_of old.station bay).rate ≡ R500) → (bay_of mid.station bay).rate ≡ rate
   pub kept : (bay_of mid.station bay).acknowledged ≡ (bay_of old.station bay).acknowledged
   pub value : Bay
   pub bays : mid.station.bays ≡ with_bay old.station.bays bay value
@@ -159,15 +159,14 @@ with_itself two bay = go (bay == 0)
     go true = refl
     go false = refl
 
-pub rates : (bay : ℕ) (rate : Rate) (disk : Disk) (rest : List Request) (old new : State) (told after : Option Files) (course : List Taken)
-    → DoesAll (rate_requests rate bay ++ rest) old told course new after → disk.rate ≡ rate → (bay_of old.station bay).medium ≡ Some disk
-    → (disk.rate ≡ R500 → (bay_of old.station bay).rate ≡ R500) → IsRated bay disk old told rest new after
-rates bay R500 disk rest old new told after course all is medium high = record {
+pub sets : (bay : ℕ) (rate : Rate) (rest : List Request) (old new : State) (told after : Option Files) (course : List Taken)
+    → DoesAll (rate_requests rate bay ++ rest) old told course new after → IsSet bay rate old told rest new after
+sets bay R500 rest old new told after course all = record {
   mid = old;
   files = told;
   course = course;
-  medium = medium;
-  rate = high is ∙ sym is;
+  medium = refl;
+  rate_is = λ high. high refl;
   kept = refl;
   value = bay_of old.station bay;
   bays = with_itself old.station.bays bay;
@@ -177,23 +176,23 @@ rates bay R500 disk rest old new told after course all is medium high = record {
   fell = record { first = omega arith; second = omega arith; stalls = omega arith };
   behind = all;
 }
-rates bay R250 disk rest old new told after course all is medium high =
+sets bay R250 rest old new told after course all =
     let first = begins old new told after (request.SetRate bay R250) rest course all in
     let does = first.does in
     let ok = ok_called does.1.0 first.answer does.1.1 first.done in
-    let sets = reached (rate_refusal old.station bay) does.1.0 old.station first.mid.station does.1.2 ok in
+    let drive = reached (rate_refusal old.station bay) does.1.0 old.station first.mid.station does.1.2 ok in
     let value : Bay = record (bay_of old.station bay) { rate = R250 } in
-    let at = ap (λ (s : StationState). bay_of s bay) sets.becomes ∙ in_with old.station.bays bay value in
+    let at = ap (λ (s : StationState). bay_of s bay) drive.becomes ∙ in_with old.station.bays bay value in
     record {
       mid = first.mid;
       files = first.files;
       course = first.later;
-      medium = ap (λ (b : Bay). b.medium) at ∙ medium;
-      rate = ap (λ (b : Bay). b.rate) at ∙ sym is;
+      medium = ap (λ (b : Bay). b.medium) at;
+      rate_is = λ high. ap (λ (b : Bay). b.rate) at;
       kept = ap (λ (b : Bay). b.acknowledged) at;
       value = value;
-      bays = ap (λ (s : StationState). s.bays) sets.becomes;
-      memory = ap (λ (s : StationState). s.memory) sets.becomes;
+      bays = ap (λ (s : StationState). s.bays) drive.becomes;
+      memory = ap (λ (s : StationState). s.memory) drive.becomes;
       names = does.0.names;
       same_files = does.0.files;
       fell = step_never_fell old first.mid told first.files (request.SetRate bay R250) first.answer first.step refl;
@@ -225,11 +224,7 @@ abbrev put_by : Bool → Two Bay → Bay → Two Bay
 put_by first two value = if first then record two { first = value } else record two { second = value }
 
 with_twice : (two : Two Bay) (bay : ℕ) (before value : Bay) → with_bay (with_bay two bay before) bay value ≡ with_bay two bay value
-with_twice two bay before value = go (bay == 0)
-  where
-    go : (b : Bool) → put_by b (put_by b two before) value ≡ put_by b two value
-    go true = refl
-    go false = refl
+with_twice two bay before value = grind arith
 
 pub readies : (bay : ℕ) (disk : Disk) (rest : List Request) (old new : State) (told after : Option Files) (course : List Taken)
     → DoesAll (request.Ack bay ∷ (rate_requests disk.rate bay ++ rest)) old told course new after → (bay_of old.station bay).medium ≡ Some disk
@@ -237,14 +232,14 @@ pub readies : (bay : ℕ) (disk : Disk) (rest : List Request) (old new : State) 
 readies bay disk rest old new told after course all medium =
     let one = begins old new told after (request.Ack bay) (rate_requests disk.rate bay ++ rest) course all in
     let acked = acks bay disk old one.mid told one.files one.answer one.does one.done medium in
-    let rated = rates bay disk.rate disk rest one.mid new one.files after one.later one.behind refl acked.medium acked.high in
+    let rated = sets bay disk.rate rest one.mid new one.files after one.later one.behind in
     record {
       mid = rated.mid;
       files = rated.files;
       course = rated.course;
       acked = one.mid;
-      medium = rated.medium;
-      rate = rated.rate;
+      medium = rated.medium ∙ acked.medium;
+      rate = rated.rate_is acked.high;
       kept = rated.kept ∙ acked.kept;
       value = rated.value;
       bays = rated.bays ∙ ap (λ (s : StationState). with_bay s.bays bay rated.value) acked.becomes ∙ with_twice old.station.bays bay acked.value rated.value;

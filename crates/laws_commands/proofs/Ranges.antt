@@ -16,16 +16,7 @@ field_some offset None x same = absurd (cc same)
 field_some offset (Some y) x same = cc same
 
 within_range : (least most n m : ℕ) → within least most n ≡ Some m → (m ≤ most) × (least ≤ m)
-within_range least most n m e = go (leb least n && leb n most) refl e
-  where
-    go : (b : Bool) → (leb least n && leb n most) ≡ b → cond b (Some n) None ≡ Some m → (m ≤ most) × (least ≤ m)
-    go true is e =
-        let same : n ≡ m = cc e in
-        let parts = and_parts (leb least n) (leb n most) is in
-        let low = leb-true least n parts.0 in
-        let high = leb-true n most parts.1 in
-        (omega (arith, same, high), omega (arith, same, low))
-    go false is e = absurd (cc e)
+within_range least most n m e = grind (arith, leb, cond, and_parts, leb-true)
 
 -- the steps of reading a header, each together with the steps after it
 abbrev words_then : List ℕ → Bool → ℕ → ℕ → Rate → Result Header ImageError

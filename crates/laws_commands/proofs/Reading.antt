@@ -16,11 +16,7 @@ pub record Holds (disk : Disk) (count : ℕ) (station : StationState) : Type 0 w
 -- a read of a standard key in an acknowledged bay reaches the drive
 pub not_refused : (station : StationState) (c h r count : ℕ) → c ≤ 79 → h ≤ 1 → 1 ≤ r → (bay_of station 0).acknowledged ≡ Some count
     → read_refusal station 0 (key_of c h r) 0x10000 ≡ None
-not_refused station c h r count cylinder head sector acknowledged =
-    let one : nat_le c 79 ≡ true = le-leb c 79 cylinder in
-    let two : nat_le h 1 ≡ true = le-leb h 1 head in
-    let three : nat_le 1 r ≡ true = le-leb 1 r sector in
-    rw (one, two, three, acknowledged) refl
+not_refused station c h r count cylinder head sector acknowledged = grind arith
 
 pub reaches : {C P : Type 0} (Q : C → Type 0) (refusal : Option C) → refusal ≡ None → MatchOption refusal P Q → P
 reaches Q None e p = p
@@ -33,12 +29,7 @@ bays_stay old new memory becomes = ap (λ (s : StationState). bay_of s 0) become
 
 pub holds_on : (disk : Disk) (count : ℕ) (old new : StationState) → Holds disk count old → bay_of new 0 ≡ bay_of old 0
     → faults_of new.counters 0 ≡ count → Holds disk count new
-holds_on disk count old new holds same faults = record {
-  medium = ap (λ (b : Bay). b.medium) same ∙ holds.medium;
-  rate = ap (λ (b : Bay). b.rate) same ∙ holds.rate;
-  acknowledged = ap (λ (b : Bay). b.acknowledged) same ∙ holds.acknowledged;
-  faults = faults;
-}
+holds_on disk count old new holds same faults = search
 
 -- what one read told
 pub record Tells (disk : Disk) (count : ℕ) (key : Chrn) (answer : Reply) (new : StationState) : Type 0 where
@@ -88,12 +79,7 @@ module _ (disk : Disk) (unmistaken : IsUnmistaken disk) (count : ℕ) (key : Chr
       let met = met_track (bay_of old 0).medium (bay_of old 0).rate key.c key.h disk (record { is_in = holds.medium; has = standard.track; same_rate = sym holds.rate }) in
       let is = subst (λ track. IsReadCause track key old.tries 0 old cause new) met drive.refused.cause in
       let told = cause_tells old.tries cause is in
-      record {
-        look = told.0;
-        looked = told.1;
-        told = sym told.2;
-        holds = holds_on disk count old new holds (bays_stay old new _ drive.refused.becomes) same_faults;
-      }
+      search (sym told.2, holds_on disk count old new holds (bays_stay old new _ drive.refused.becomes) same_faults)
 
 pub key_is : (key : Chrn) → key.n ≡ standard_code → key ≡ key_of key.c key.h key.r
 key_is key size = ap (λ (n : ℕ). record { c = key.c; h = key.h; r = key.r; n = n }) size
@@ -138,9 +124,7 @@ told_alone key NoData = refl
 told_alone key BadCrc = refl
 
 pub told_more : (key : Chrn) (look : Look) (rest : List (Chrn × Look)) → all_told_of (unless_found key look ++ rest) ≡ told_of key look ++ all_told_of rest
-told_more key look rest =
-    flat_map-append (λ (pair : Chrn × Look). told_of pair.0 pair.1) (unless_found key look) rest
-    ∙ ap (λ (row : List (Chrn × Code)). row ++ all_told_of rest) (told_alone key look)
+told_more key look rest = grind (arith, flat_map-append, told_alone)
 
 -- the reads of some keys tell which of these keys aren't found
 pub reads_tell : (disk : Disk) (count : ℕ) (keys : List Chrn) (failed : List (Chrn × Look)) (old new : State) (told after : Option Files)

@@ -21,10 +21,7 @@ record SameRates (old new : StationState) : Type 0 where
   pub second : new.bays.second.rate ≡ old.bays.second.rate
 
 becomes_rates : (target new : StationState) → Becomes target new → SameRates target new
-becomes_rates target new becomes = record {
-  first = ap (λ (s : StationState). s.bays.first.rate) becomes;
-  second = ap (λ (s : StationState). s.bays.second.rate) becomes;
-}
+becomes_rates target new becomes = search
 
 both_rates : (old mid new : StationState) → SameRates old mid → SameRates mid new → SameRates old new
 both_rates old mid new one two = record { first = two.first ∙ one.first; second = two.second ∙ one.second }
@@ -47,10 +44,7 @@ read_rates bay key address old (Ok deleted) new drive = record {
   first = ap (λ (s : StationState). s.bays.first.rate) drive.found.becomes;
   second = ap (λ (s : StationState). s.bays.second.rate) drive.found.becomes;
 }
-read_rates bay key address old (Err code) new drive = record {
-  first = ap (λ (s : StationState). s.bays.first.rate) drive.refused.becomes;
-  second = ap (λ (s : StationState). s.bays.second.rate) drive.refused.becomes;
-}
+read_rates bay key address old (Err code) new drive = search
 
 medium_set : (old new : StationState) (bay : ℕ) (medium : Option Disk) → Becomes (set_bay old bay (record (bay_of old bay) { medium = medium })) new
     → SameRates old new
@@ -77,13 +71,8 @@ track_rates old new told after (request.Write bay key address) answer on does =
 track_rates old new told after (request.WriteDeleted bay key address) answer on does =
     called_rates (write_refusal old.station bay key address) does.1.0 old.station new.station does.1.2
     (λ drive. medium_set old.station new.station bay (bay_of new.station bay).medium drive.becomes)
-track_rates old new told after (request.Format bay c h) answer on does =
-    called_rates (format_refusal old.station bay c h (gap_at (bay_of old.station bay).rate)) does.1.0 old.station new.station does.1.2
-    (λ drive. medium_set old.station new.station bay (bay_of new.station bay).medium drive.becomes)
-track_rates old new told after (request.Fill address count byte) answer on does = record {
-  first = ap (λ (s : StationState). s.bays.first.rate) does.2.becomes;
-  second = ap (λ (s : StationState). s.bays.second.rate) does.2.becomes;
-}
+track_rates old new told after (request.Format bay c h) answer on does = grind (arith, called_rates, medium_set)
+track_rates old new told after (request.Fill address count byte) answer on does = search
 track_rates old new told after _ answer on does = absurd on
 
 track_fair : (limit : Two ℕ) (asked : Request) (after : State) → IsOnTracks asked → IsFair limit 3 asked after

@@ -134,18 +134,7 @@ module _ (from to log : List ℕ) (old new : World) (course : List Taken) (files
       let keys = standard_keys disk.rate disk.cylinders disk.heads in
       record {
         between = stored (Some files) to (file_of saves.final);
-        disk_stored = record {
-          copied = saves.final;
-          valid = saves.valid;
-          protected = saves.shape.protected;
-          regular = saves.regular;
-          laid = saves.laid;
-          cylinders = saves.shape.cylinders;
-          heads = saves.shape.heads;
-          rate = saves.shape.rate;
-          sectors = each_standard (HaveSameSector disk saves.final) disk (recursion_from_All (HaveSameSector disk saves.final) keys saves.sectors);
-          files = refl;
-        };
+        disk_stored = search (each_standard (HaveSameSector disk saves.final) disk (recursion_from_All (HaveSameSector disk saves.final) keys saves.sectors));
         log_stored = saves.files_are;
         disk_there = saves.disk_there;
         image = saves.stands saves.valid;

@@ -25,12 +25,7 @@ use Rattle.laws_commands.proofs.RescueSteps.{StandsOnBoth, records_go, unstopped
 -- a key that is on the map of a regular disk is on the track of its own cylinder and head
 module _ (disk : Disk) (key : Chrn) (regular : IsRegularDisk disk) (there : HasKey disk key) where
   at_places : (entry_of : ℕ → ℕ → Chrn → Entry) → IsOnMap disk (entry_of there.0.cylinder there.0.head there.0.key) → IsOnMap disk (entry_of key.c key.h key)
-  at_places entry_of on =
-      let entry = there.0 in
-      let place = key_cylinder disk entry.cylinder entry.head entry.place entry.key regular there.1.track there.1.address in
-      let on_cylinder = subst (λ (b : ℕ). IsOnMap disk (entry_of b entry.head entry.key)) (sym place.0) on in
-      let on_head = subst (λ (g : ℕ). IsOnMap disk (entry_of entry.key.c g entry.key)) (sym place.1) on_cylinder in
-      subst (λ (k : Chrn). IsOnMap disk (entry_of k.c k.h k)) there.2 on_head
+  at_places entry_of on = grind (arith, there, key_cylinder, regular)
 
   on_track : IsOnMap disk (entry_at key there.0.place there.0.deleted there.0.content)
   on_track = at_places (λ c h k. record {
@@ -63,13 +58,7 @@ asked_stand : (disk target : Disk) (keys : List Chrn) → IsRegularDisk disk →
     → AllByRecursion (HasKey disk) keys → AllByRecursion (HasKey target) keys → AllByRecursion (StandsOnBoth disk target) keys
 asked_stand disk target [] regular other asked has takes = tt
 asked_stand disk target (key ∷ keys) regular other asked has takes = (
-  record {
-    size = asked.0.size;
-    track = (on_track disk key regular has.0).track;
-    least = asked.0.sector.0;
-    field = has_data disk key has.0.0 regular has.0.1 has.0.2;
-    other = some_there target key other takes.0 asked.0.size;
-  },
+  assumption ((on_track disk key regular has.0).track, has_data disk key has.0.0 regular has.0.1 has.0.2, some_there target key other takes.0 asked.0.size),
   asked_stand disk target keys regular other asked.1 has.1 takes.1,
 )
 

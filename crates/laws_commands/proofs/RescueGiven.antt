@@ -5,7 +5,7 @@ use Rattle.laws_commands.proofs.Common.{AllByRecursion, Files, Chrn, Code, Disk,
 use Rattle.laws_commands.proofs.DiskRecords.{length-bytes_at, read_sector, sure_parts}
 use Rattle.laws_commands.proofs.Steps.{ok_called, reached}
 use Rattle.laws_commands.proofs.UserMemory.{at_stands}
-use Rattle.laws_commands.proofs.Gone.{read_keeps, call_fell, gave, never_both, write_no_read, write_fell, fell_both, keys_fell, IsRead, IsWrite, GoesKeys}
+use Rattle.laws_commands.proofs.Gone.{read_keeps, call_fell, gave, never_both, write_no_read, write_fell, fell_both, keys_fell, IsRead, IsWrite, GoesKeys, Over, Lost, Kept}
 use Rattle.laws_commands.proofs.RescueRecords.{IsAsked, write_does}
 
 module _ (disk : Disk) where
@@ -85,31 +85,26 @@ module _ (disk : Disk) where
         size = ap (λ (s : StationState). length s.memory) drive.becomes ∙ hand.size;
       }
 
-  pub keys_give : (sure : Type 0) (keys : List Chrn) (old : World) (course : List Taken) (new : World) → GoesKeys keys old course new
+  pub keys_give : (sure : Type 0) {keys : List Chrn} {old : World} {course : List Taken} {new : World} → GoesKeys keys old course new
       → AllByRecursion (IsAsked disk) keys → IsAtHand old.state.station
       → (sure → IsSure disk old.state.station.counters new.state.station.counters) → (other : Chrn) (deleted : Bool) (content : List ℕ)
       → SomeStep (Gave other deleted content) course → IsGivenOf sure other deleted content
-  keys_give sure [] old course new goes asked hand calm other deleted content some =
-      absurd (subst (SomeStep (Gave other deleted content)) goes.0 some)
-  keys_give sure (key ∷ keys) old [] new goes asked hand calm other deleted content some = absurd some
-  keys_give sure (key ∷ keys) old (read ∷ later) new (Err cause, files, is, goes) asked hand calm other deleted content some =
-      let mid = with_report read.after files old.report in
+  keys_give sure (Over old) asked hand calm other deleted content some = absurd some
+  keys_give sure (Lost key keys cause old read files later new is goes) asked hand calm other deleted content some =
       let fell = call_fell old.state read.after old.files files is.call in
       let calms = λ (s : sure). sure_parts disk old.state.station.counters read.after.station.counters new.state.station.counters fell
-      (keys_fell keys mid later new goes) (calm s) in
+      (keys_fell goes) (calm s) in
       elim some [
         | inl here ↦ read_gives sure key other (Err cause) old read files asked.0.size is hand (λ s. (calms s).0) deleted content here
         | inr there ↦
-            keys_give sure keys mid later new goes asked.1 (read_at_hand key (Err cause) old read files asked.0.size is hand)
-            (λ s. (calms s).1) other deleted content there
+            keys_give sure goes asked.1 (read_at_hand key (Err cause) old read files asked.0.size is hand) (λ s. (calms s).1) other deleted content there
       ]
-  keys_give sure (key ∷ keys) old (read ∷ []) new (Ok mark, files, is, goes) asked hand calm other deleted content some = absurd goes
-  keys_give sure (key ∷ keys) old (read ∷ write ∷ later) new (Ok mark, files, is, (more, wrote, goes)) asked hand calm other deleted content some =
+  keys_give sure (Kept key keys mark old read files write more later new is wrote goes) asked hand calm other deleted content some =
       let mid = with_report read.after files old.report in
       let next = with_report write.after more old.report in
       let now = write_at_hand key mark mid write more wrote (read_at_hand key (Ok mark) old read files asked.0.size is hand) in
       let fell_write = write_fell key mark mid next write more refl wrote in
-      let fell_later = keys_fell keys next later new goes in
+      let fell_later = keys_fell goes in
       let first = λ (s : sure). sure_parts disk old.state.station.counters read.after.station.counters new.state.station.counters
       (call_fell old.state read.after old.files files is.call) (fell_both mid next new fell_write fell_later) (calm s) in
       let second = λ (s : sure). sure_parts disk read.after.station.counters write.after.station.counters new.state.station.counters
@@ -117,5 +112,5 @@ module _ (disk : Disk) where
       elim some [
         | inl here ↦ read_gives sure key other (Ok mark) old read files asked.0.size is hand (λ s. (first s).0) deleted content here
         | inr (inl here) ↦ absurd (write_no_read key other mark here.address (sym wrote.asked ∙ here.asked))
-        | inr (inr there) ↦ keys_give sure keys next later new goes asked.1 now (λ s. (second s).1) other deleted content there
+        | inr (inr there) ↦ keys_give sure goes asked.1 now (λ s. (second s).1) other deleted content there
       ]

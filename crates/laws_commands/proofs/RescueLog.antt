@@ -12,7 +12,7 @@ use Rattle.sector_map.specs.Standard.{standard_keys as disk_keys}
 use Rattle.rescue.specs.Course.{standard_keys}
 use Rattle.laws_commands.proofs.Sectors.{few_sectors}
 use Rattle.laws_commands.proofs.VerifyRun.{standard_count}
-use Rattle.laws_commands.proofs.Gone.{GoesKeys, AreRefusals, line_of_refused, line_of_done, read_done}
+use Rattle.laws_commands.proofs.Gone.{GoesKeys, Over, Lost, Kept, AreRefusals, log_of_lost, log_of_kept}
 use Rattle.laws_commands.proofs.RescueRecords.{IsAsked, asked_all, asked_rises}
 
 -- ---- the lines of the log
@@ -23,19 +23,11 @@ AreOf lines [] = lines ≡ []
 AreOf lines (key ∷ keys) =
     AreOf lines keys ⊎ ((line : LogLine) × (later : List LogLine) × (lines ≡ line ∷ later) × (line.key ≡ key) × AreOf later keys)
 
-lines_are_of : (keys : List Chrn) (old : World) (course : List Taken) (new : World) → GoesKeys keys old course new → AreOf (log_of course) keys
-lines_are_of [] old course new goes = ap log_of goes.0
-lines_are_of (key ∷ keys) old [] new goes = absurd goes
-lines_are_of (key ∷ keys) old (read ∷ later) new (Err cause, files, is, goes) =
-    let line : LogLine = record { key = key; code = cause } in
-    let here = ap (λ (row : List LogLine). row ++ log_of later) (line_of_refused key cause read is.asked is.answered) in
-    inr (line, log_of later, here, refl, lines_are_of keys (with_report read.after files old.report) later new goes)
-lines_are_of (key ∷ keys) old (read ∷ []) new (Ok deleted, files, is, goes) = absurd goes
-lines_are_of (key ∷ keys) old (read ∷ write ∷ later) new (Ok deleted, files, is, (more, wrote, goes)) =
-    let none : line_at read.asked read.answer ≡ [] = line_of_done read.asked read.answer (ap is_refusal is.answered ∙ read_done deleted) in
-    let also : line_at write.asked write.answer ≡ [] = line_of_done write.asked write.answer wrote.done in
-    let same : log_of later ≡ log_of (read ∷ write ∷ later) = rw (none, also) refl in
-    inl (subst (λ (row : List LogLine). AreOf row keys) same (lines_are_of keys (with_report write.after more old.report) later new goes))
+lines_are_of : {keys : List Chrn} {old : World} {course : List Taken} {new : World} → GoesKeys keys old course new → AreOf (log_of course) keys
+lines_are_of (Over old) = refl
+lines_are_of (Lost key keys cause old read files later new is goes) =
+    inr (record { key = key; code = cause }, log_of later, log_of_lost key cause old read files later is, refl, lines_are_of goes)
+lines_are_of (Kept key keys deleted old read files write more later new is wrote goes) = grind (arith, log_of_kept, lines_are_of goes)
 
 all_of : (P : Chrn → Type 0) (keys : List Chrn) (lines : List LogLine) → AreOf lines keys → AllByRecursion P keys
     → AllByRecursion (λ (line : LogLine). P line.key) lines
@@ -45,13 +37,13 @@ all_of P (key ∷ keys) lines (inr (line, later, is, same, are)) all =
     subst (AllByRecursion (λ (line : LogLine). P line.key)) (sym is) (subst P (sym same) all.0, all_of P keys later are all.1)
 
 -- the lines are those of these keys alone
-pub only_of : (keys : List Chrn) (old : World) (course : List Taken) (new : World) → GoesKeys keys old course new
+pub only_of : {keys : List Chrn} {old : World} {course : List Taken} {new : World} → GoesKeys keys old course new
     → All (Contains keys) (logged_keys (log_of course))
-only_of keys old course new goes =
+only_of {keys = keys} {course = course} goes =
     let each = recursion_from_All (Contains keys) keys (All-contains_itself keys) in
     All-map (Contains keys) (λ (line : LogLine). line.key) (log_of course)
     (All-from_recursion (λ (line : LogLine). Contains keys line.key) (log_of course)
-    (all_of (Contains keys) keys (log_of course) (lines_are_of keys old course new goes) each))
+    (all_of (Contains keys) keys (log_of course) (lines_are_of goes) each))
 
 -- each record is before all later ones
 abbrev Rising : List LogLine → Type 0
@@ -73,14 +65,7 @@ valid_of : (disk : Disk) (lines : List LogLine) → AllByRecursion (λ (line : L
     → AllByRecursion (IsLogLine (sectors_at disk.rate)) lines
 valid_of disk [] asked refused = tt
 valid_of disk (line ∷ later) asked refused = (
-  record {
-    cylinder = asked.0.cylinder;
-    head = asked.0.side;
-    first = asked.0.sector.0;
-    last = asked.0.sector.1;
-    size = asked.0.size;
-    refused = refused.0;
-  },
+  assumption,
   valid_of disk later asked.1 refused.1,
 )
 
@@ -91,19 +76,11 @@ abbrev line_size : Chrn → ℕ
 line_size key = length (decimal key.c) + length (decimal key.h) + length (decimal key.r) + 6
 
 two_digits : (n : ℕ) → length (hex2 n) ≡ 2
-two_digits n =
-    let high = hex_one_digit true (n / 16 % 16) (omega arith) in
-    let low = hex_one_digit true (n % 16) (omega arith) in
-    rw (high, low) refl
+two_digits n = grind (arith, hex_one_digit)
 
 words_long : (c h r code : List ℕ) → length code ≡ 2
     → length ((c ++ (32 ∷ (h ++ (32 ∷ (r ++ (32 ∷ code)))))) ++ 10 ∷ []) ≡ length c + length h + length r + 6
-words_long c h r code two =
-    let all = length-append (c ++ (32 ∷ (h ++ (32 ∷ (r ++ (32 ∷ code)))))) (10 ∷ []) in
-    let first = length-append c (32 ∷ (h ++ (32 ∷ (r ++ (32 ∷ code))))) in
-    let second = length-append h (32 ∷ (r ++ (32 ∷ code))) in
-    let third = length-append r (32 ∷ code) in
-    omega (arith, all, first, second, third, two)
+words_long c h r code two = grind (arith, length-append)
 
 line_long : (line : LogLine) → length (line_text line ++ 10 ∷ []) ≡ line_size line.key
 line_long line =
@@ -116,19 +93,12 @@ text_size (key ∷ keys) = line_size key + text_size keys
 
 text_long : (lines : List LogLine) → length (log_text lines) ≡ text_size (logged_keys lines)
 text_long [] = refl
-text_long (line ∷ later) =
-    let here = line_long line in
-    let rest = text_long later in
-    let both = length-append (line_text line ++ 10 ∷ []) (log_text later) in
-    omega (arith, here, rest, both)
+text_long (line ∷ later) = grind (arith, line_long, length-append, text_long later)
 
 less_of : (keys : List Chrn) (lines : List LogLine) → AreOf lines keys → text_size (logged_keys lines) ≤ text_size keys
 less_of [] lines are = subst (λ (row : List LogLine). text_size (logged_keys row) ≤ 0) (sym are) (omega arith)
 less_of (key ∷ keys) lines (inl are) = let less = less_of keys lines are in omega (arith, less)
-less_of (key ∷ keys) lines (inr (line, later, is, same, are)) =
-    let less = less_of keys later are in
-    let here : line_size line.key ≡ line_size key = ap line_size same in
-    subst (λ (row : List LogLine). text_size (logged_keys row) ≤ text_size (key ∷ keys)) (sym is) (omega (arith, less, here))
+less_of (key ∷ keys) lines (inr (line, later, is, same, are)) = grind (arith, less_of keys later are)
 
 size_most : (disk : Disk) (keys : List Chrn) → AllByRecursion (IsAsked disk) keys → text_size keys ≤ 11 * length keys
 size_most disk [] asked = omega arith
@@ -156,24 +126,16 @@ module _ (disk : Disk) (files : Files) (log : List ℕ) (few_cylinders : disk.cy
       let tracks = mul-le disk.cylinders disk.heads 80 2 few_cylinders few_heads in
       let all = mul-le (disk.cylinders * disk.heads) (sectors_at disk.rate) 160 18 (omega (arith, tracks)) (few_sectors disk.rate) in
       omega (arith, most, count, all)
-  text_fits (Some lines) there = go (file_at files log) there
-    where
-      go : (o : Option (List ℕ)) → IsSomeAnd o (λ text. (length text ≤ most_log_bytes) × (IsLog (sectors_at disk.rate) lines × (text ≡ log_text lines)))
-          → text_size (logged_keys lines) ≤ most_log_bytes
-      go None there = absurd there
-      go (Some text) there =
-          let long = text_long lines in
-          let same = ap (λ (row : List ℕ). length row) there.1.1 in
-          omega (arith, there.0, long, same)
+  text_fits (Some lines) there = grind (arith, text_long)
 
   -- what a rescue logs is a log again, and isn't too long for the next run
   pub logs_again : (found : Option (List LogLine)) → IsLogFound (Some files) log (sectors_at disk.rate) found
-      → (old : World) (course : List Taken) (new : World) → GoesKeys (asked_keys (shape_of disk) found) old course new → AreRefusals (log_of course)
+      → {old : World} {course : List Taken} {new : World} → GoesKeys (asked_keys (shape_of disk) found) old course new → AreRefusals (log_of course)
       → IsLog (sectors_at disk.rate) (log_of course) × (length (log_text (log_of course)) ≤ most_log_bytes)
-  logs_again found there old course new goes refused =
+  logs_again found there {course = course} goes refused =
       let keys = asked_keys (shape_of disk) found in
       let lines = log_of course in
-      let are = lines_are_of keys old course new goes in
+      let are = lines_are_of goes in
       let asked = all_of (IsAsked disk) keys lines are (asked_all disk files log found few_cylinders few_heads there) in
       let long = text_long lines in
       let less = less_of keys lines are in

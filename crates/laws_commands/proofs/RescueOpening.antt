@@ -5,7 +5,7 @@ use Rattle.std.specs.Prelude.{if◌then◌else◌}
 use Rattle.floppy_jobs.specs.declared.request.Request.TheVariants as request
 use Rattle.commands.specs.Parts.{carries, sets_rate, acknowledges, through}
 use Rattle.laws_commands.proofs.CopiedTrack.{IsReady, formats_it, small}
-use Rattle.laws_commands.proofs.Prepared.{acks, blanks, readies}
+use Rattle.laws_commands.proofs.Prepared.{acks, blanks, readies, sets}
 use Rattle.laws_commands.proofs.Steps.{and_both, keeps_drives, splits, NeverFell, begins, step_never_fell, ok_called, reached, done_does, ends_there, never_fell, keeps_drives}
 use Rattle.laws_commands.proofs.Formatted.{blank_keeps}
 use Rattle.laws_commands.proofs.Verified.{one_image, image_ranges}
@@ -114,9 +114,7 @@ prepares_carried to shape false rest =
 pub disk_in : (from : List ℕ) (disk : Disk) (files : Files) (old new : State) (after : Option Files) (answer : Reply)
     → IsImageOf (Some files) from disk → Step (request.Insert 0 from) old (Some files) answer new after → is_refusal answer ≡ false
     → (bay_of new.station 0).medium ≡ Some disk
-disk_in from disk files old new after answer image step done =
-    let put = (done_does old new (Some files) after (request.Insert 0 from) answer step done).2 in
-    ap (λ (s : StationState). (bay_of s 0).medium) put.2.exchanged.becomes ∙ ap (λ (d : Disk). Some d) (one_image files from put.0 disk put.1 image)
+disk_in from disk files old new after answer image step done = grind (arith, done_does, one_image)
 
 -- a disk that can be formatted and that has this shape
 pub record IsFresh (shape : Shape) (disk : Disk) : Type 0 where
@@ -185,54 +183,6 @@ second_put to shape false old new told after answer step done =
 
 -- ---- both bays made ready
 
--- bay 1 was set to this rate, unless it has this rate after an acknowledgement anyway
-record IsSet (rate : Rate) (old : State) (told : Option Files) (rest : List Request) (new : State) (after : Option Files) : Type 0 where
-  pub mid : State
-  pub files : Option Files
-  pub course : List Taken
-  pub first : bay_of mid.station 0 ≡ bay_of old.station 0
-  pub medium : (bay_of mid.station 1).medium ≡ (bay_of old.station 1).medium
-  pub rate_is : (rate ≡ R500 → (bay_of old.station 1).rate ≡ R500) → (bay_of mid.station 1).rate ≡ rate
-  pub memory : mid.station.memory ≡ old.station.memory
-  pub names : mid.names ≡ old.names
-  pub same_files : files ≡ told
-  pub fell : NeverFell old.station.counters mid.station.counters
-  pub behind : DoesAll rest mid files course new after
-
-sets : (rate : Rate) (rest : List Request) (old new : State) (told after : Option Files) (course : List Taken)
-    → DoesAll (rate_requests rate 1 ++ rest) old told course new after → IsSet rate old told rest new after
-sets R500 rest old new told after course all = record {
-  mid = old;
-  files = told;
-  course = course;
-  first = refl;
-  medium = refl;
-  rate_is = λ high. high refl;
-  memory = refl;
-  names = refl;
-  same_files = refl;
-  fell = record { first = omega arith; second = omega arith; stalls = omega arith };
-  behind = all;
-}
-sets R250 rest old new told after course all =
-    let one = begins old new told after (request.SetRate 1 R250) rest course all in
-    let does = one.does in
-    let ok = ok_called does.1.0 one.answer does.1.1 one.done in
-    let drive = reached (rate_refusal old.station 1) does.1.0 old.station one.mid.station does.1.2 ok in
-    record {
-      mid = one.mid;
-      files = one.files;
-      course = one.later;
-      first = ap (λ (s : StationState). bay_of s 0) drive.becomes;
-      medium = ap (λ (s : StationState). (bay_of s 1).medium) drive.becomes;
-      rate_is = λ high. ap (λ (s : StationState). (bay_of s 1).rate) drive.becomes;
-      memory = ap (λ (s : StationState). s.memory) drive.becomes;
-      names = does.0.names;
-      same_files = does.0.files;
-      fell = step_never_fell old one.mid told one.files (request.SetRate 1 R250) one.answer one.step refl;
-      behind = one.behind;
-    }
-
 -- Both disks are in, and both bays are ready. If there is no log, the formats are left to do.
 pub record AreOpen (disk : Disk) (to : List ℕ) (files : Files) (logged : Bool) (old new : State) (after : Option Files) : Type 0 where
   pub mid : State
@@ -270,8 +220,9 @@ are_open from to disk files logged old new after course image all =
     let other = ap (λ (b : Two Bay). (in_bay b 1).medium) three.bays ∙ put.medium in
     let four = begins three.mid new three.files after (request.Ack 1) (rate_requests rate 1 ++ formats) three.course three.behind in
     let acked = acks 1 put.target three.mid four.mid three.files four.files four.answer four.does four.done other in
-    let set = sets rate formats four.mid new four.files after four.later four.behind in
-    let same : bay_of set.mid.station 0 ≡ bay_of three.mid.station 0 = set.first ∙ ap (λ (s : StationState). bay_of s 0) acked.becomes in
+    let set = sets 1 rate formats four.mid new four.files after four.later four.behind in
+    let same : bay_of set.mid.station 0 ≡ bay_of three.mid.station 0 =
+    ap (λ (b : Two Bay). in_bay b 0) set.bays ∙ ap (λ (s : StationState). bay_of s 0) acked.becomes in
     let a = step_never_fell old one.mid (Some files) one.files (request.Insert 0 from) one.answer one.step refl in
     let b = put.fell in
     let c = step_never_fell three.mid four.mid three.files four.files (request.Ack 1) four.answer four.step refl in
@@ -367,12 +318,7 @@ formats_stay : (shape : Shape) (logged : Bool) (old new : State) (told after : O
     → DoesAll (formats_for shape logged) old told course new after
     → (bay_of new.station 0 ≡ bay_of old.station 0) × NeverFell old.station.counters new.station.counters
 formats_stay shape true old new told after course all = (first_stays [] old new told after course all, never_fell old new told after [] course all refl)
-formats_stay shape false old new told after course all =
-    let tracks = tracks_of shape.cylinders shape.heads in (
-      first_stays tracks old new told after course all,
-      never_fell old new told after (format_each 1 tracks) course all
-          (plain_keep (format_each 1 tracks) (formats_plain tracks)),
-    )
+formats_stay shape false old new told after course all = search (first_stays, never_fell, plain_keep, formats_plain)
 
 -- ---- the whole opening
 
@@ -427,28 +373,13 @@ begins_new from to disk files old new after course image all size faultless =
     let such = it.such in
     let tracks = tracks_of disk.cylinders disk.heads in
     let ranges = image_ranges files from disk image in
-    let ready : IsReady disk.rate disk it.target it.mid = record {
-      first = it.first;
-      medium = it.second;
-      bay_rate = it.second_rate such.rate;
-      valid = such.valid;
-      regular = such.regular;
-      rate = such.rate;
-      words = such.words;
-      size = ap (λ (m : List ℕ). length m) it.memory ∙ size;
-    } in
+    let ready : IsReady disk.rate disk it.target it.mid = assumption (it.second_rate such.rate, ap (λ (m : List ℕ). length m) it.memory ∙ size) in
     let has = λ (c h : ℕ) (among : Among tracks c h).
     let at = among_only disk.cylinders disk.heads c h among in
     (such.tracks c h).1 (at.0, omega (arith, at.1, ranges.1)) in
     let lays = lays_tracks disk.rate disk tracks it.target it.mid new it.mid_files after it.course it.formats_left has ready
     (omega (arith, it.fell.second, faultless.0), omega (arith, it.fell.second, faultless.1)) in
-    let there : HasOther lays.final to files new after = record {
-      medium = lays.ready.medium;
-      regular = lays.ready.regular;
-      size = lays.ready.size;
-      named = ap (λ (n : Two (Option (List ℕ))). in_bay n 1) lays.names ∙ it.named;
-      files_are = lays.files ∙ it.files_are;
-    } in
+    let there : HasOther lays.final to files new after = search in
     let new_one : IsNew disk lays.final = record {
       shape = shape_both (blank_of disk.cylinders disk.rate) it.target lays.final such.shape_is (alike_shape it.target lays.final lays.alike);
       valid = lays.ready.valid;

@@ -13,7 +13,7 @@ use Rattle.laws_commands.proofs.WrittenHere.{WritesHere, writes_here, reaches_in
 use Rattle.rescue.specs.Course.{standard_keys}
 use Rattle.rescue.proofs.OrderLemmas.{standard_rises, logged_rises}
 use Rattle.laws_commands.proofs.LaidDisks.{still_laid}
-use Rattle.laws_commands.proofs.Gone.{GoesKeys, keys_fell, write_fell, line_of_refused, line_of_done, read_done, write_no_read, write_writes, read_keeps, call_fell, gave, gave_reads}
+use Rattle.laws_commands.proofs.Gone.{GoesKeys, Over, Lost, Kept, keys_fell, write_fell, log_of_lost, log_of_kept, write_no_read, write_writes, read_keeps, call_fell, gave, gave_reads}
 
 -- ---- each record comes once
 
@@ -63,11 +63,7 @@ all_standard disk = standard_all disk
 
 -- the lines of a log that was found
 found_log : (files : Files) (log : List ℕ) (sectors : ℕ) (lines : List LogLine) → IsLogFound (Some files) log sectors (Some lines) → IsLog sectors lines
-found_log files log sectors lines found = go (file_at files log) found
-  where
-    go : (o : Option (List ℕ)) → IsSomeAnd o (λ text. (length text ≤ most_log_bytes) × (IsLog sectors lines × (text ≡ log_text lines))) → IsLog sectors lines
-    go None there = absurd there
-    go (Some text) there = there.1.0
+found_log files log sectors lines found = grind arith
 
 pub asked_all : (disk : Disk) (files : Files) (log : List ℕ) (found : Option (List LogLine)) → disk.cylinders ≤ 80 → disk.heads ≤ 2
     → IsLogFound (Some files) log (sectors_at disk.rate) found → AllByRecursion (IsAsked disk) (asked_keys (shape_of disk) found)
@@ -81,12 +77,7 @@ asked_all disk files log None few_cylinders few_heads found =
     }) keys (all_standard disk))
 asked_all disk files log (Some lines) few_cylinders few_heads found =
     recursion_from_All (IsAsked disk) (logged_keys lines) (All-map (IsAsked disk) (λ (line : LogLine). line.key) lines
-    (All-weaker (IsLogLine (sectors_at disk.rate)) (λ (line : LogLine). IsAsked disk line.key) (λ line is. record {
-      cylinder = is.cylinder;
-      side = is.head;
-      sector = (is.first, is.last);
-      size = is.size;
-    }) lines (found_log files log (sectors_at disk.rate) lines found).each))
+    (All-weaker (IsLogLine (sectors_at disk.rate)) (λ (line : LogLine). IsAsked disk line.key) (λ line is. assumption) lines (found_log files log (sectors_at disk.rate) lines found).each))
 
 pub asked_rises : (disk : Disk) (files : Files) (log : List ℕ) (found : Option (List LogLine))
     → IsLogFound (Some files) log (sectors_at disk.rate) found → AllPairs IsBefore (asked_keys (shape_of disk) found)
@@ -147,35 +138,21 @@ reads_write key deleted keys write later asked reads = record {
     none : (other : Chrn) → ReadsKey other write → ⊥
     none other (address, is) = write_no_read key other deleted address (sym asked ∙ is)
 
-pub keys_read : (keys : List Chrn) → AreDistinct keys → (old : World) (course : List Taken) (new : World) → GoesKeys keys old course new → ReadsOnce keys course
-keys_read [] distinct old course new goes =
-    subst (ReadsOnce []) (sym goes.0) (record { only = λ key some. some; once = λ key P Q p q some also. absurd some })
-keys_read (key ∷ keys) distinct old [] new goes = absurd goes
-keys_read (key ∷ keys) distinct old (read ∷ later) new (Err cause, files, is, goes) =
-    reads_first key keys read later distinct.0 is.asked (keys_read keys distinct.1 (with_report read.after files old.report) later new goes)
-keys_read (key ∷ keys) distinct old (read ∷ []) new (Ok deleted, files, is, goes) = absurd goes
-keys_read (key ∷ keys) distinct old (read ∷ write ∷ later) new (Ok deleted, files, is, (more, wrote, goes)) =
+pub keys_read : {keys : List Chrn} {old : World} {course : List Taken} {new : World} → GoesKeys keys old course new → AreDistinct keys → ReadsOnce keys course
+keys_read (Over old) distinct = record { only = λ key some. some; once = λ key P Q p q some also. absurd some }
+keys_read (Lost key keys cause old read files later new is goes) distinct =
+    reads_first key keys read later distinct.0 is.asked (keys_read goes distinct.1)
+keys_read (Kept key keys deleted old read files write more later new is wrote goes) distinct =
     reads_first key keys read (write ∷ later) distinct.0 is.asked
-    (reads_write key deleted keys write later wrote.asked (keys_read keys distinct.1 (with_report write.after more old.report) later new goes))
+    (reads_write key deleted keys write later wrote.asked (keys_read goes distinct.1))
 
 -- each record is either written or has its line in the log
-pub keys_counted : (keys : List Chrn) (old : World) (course : List Taken) (new : World) → GoesKeys keys old course new
+pub keys_counted : {keys : List Chrn} {old : World} {course : List Taken} {new : World} → GoesKeys keys old course new
     → count_writes course + length (log_of course) ≡ length keys
-keys_counted [] old course new goes = rw goes.0 refl
-keys_counted (key ∷ keys) old [] new goes = absurd goes
-keys_counted (key ∷ keys) old (read ∷ later) new (Err cause, files, is, goes) =
-    let line = line_of_refused key cause read is.asked is.answered in
-    let is_read : is_write read.asked ≡ false = ap is_write is.asked in
-    let rest = keys_counted keys (with_report read.after files old.report) later new goes in
-    rw (line, is_read) (omega (arith, rest))
-keys_counted (key ∷ keys) old (read ∷ []) new (Ok deleted, files, is, goes) = absurd goes
-keys_counted (key ∷ keys) old (read ∷ write ∷ later) new (Ok deleted, files, is, (more, wrote, goes)) =
-    let none : line_at read.asked read.answer ≡ [] = line_of_done read.asked read.answer (ap is_refusal is.answered ∙ read_done deleted) in
-    let also : line_at write.asked write.answer ≡ [] = line_of_done write.asked write.answer wrote.done in
-    let is_read : is_write read.asked ≡ false = ap is_write is.asked in
-    let is_written : is_write write.asked ≡ true = ap is_write wrote.asked ∙ write_writes key deleted in
-    let rest = keys_counted keys (with_report write.after more old.report) later new goes in
-    rw (none, also, is_read, is_written) (omega (arith, rest))
+keys_counted (Over old) = refl
+keys_counted (Lost key keys cause old read files later new is goes) = grind (arith, log_of_lost, keys_counted goes)
+keys_counted (Kept key keys deleted old read files write more later new is wrote goes) =
+    grind (arith, write_writes, log_of_kept, keys_counted goes)
 
 -- ---- changes of a disk
 
@@ -183,22 +160,10 @@ pub shape_itself : (disk : Disk) → HasShapeOf disk disk
 shape_itself disk = record { protected = refl; cylinders = refl; heads = refl; rate = refl; words_per_track = refl }
 
 pub shape_both : (disk middle after : Disk) → HasShapeOf disk middle → HasShapeOf middle after → HasShapeOf disk after
-shape_both disk middle after first second = record {
-  protected = second.protected ∙ first.protected;
-  cylinders = second.cylinders ∙ first.cylinders;
-  heads = second.heads ∙ first.heads;
-  rate = second.rate ∙ first.rate;
-  words_per_track = second.words_per_track ∙ first.words_per_track;
-}
+shape_both disk middle after first second = search
 
 pub alike_shape : (disk after : Disk) → AreAlike disk after → HasShapeOf disk after
-alike_shape disk after alike = record {
-  protected = alike.protected;
-  cylinders = alike.cylinders;
-  heads = alike.heads;
-  rate = alike.rate;
-  words_per_track = alike.words_per_track;
-}
+alike_shape disk after alike = assumption
 
 -- if a list of changes isn't empty, its first change is possible on the disk
 first_change : (written : Written) (disk : Disk) (earlier : List Change) (last : Change) (after : Disk)
@@ -356,31 +321,19 @@ module _ (tidy : AllTidy) (source : Disk) (whole : List Taken) (lines : List Log
     lines_are = λ line there. part.lines_are line (Contains-append_right (line_at first.asked first.answer) (log_of later) line there);
   }
 
-  pub saves_keys : (keys : List Chrn) (disk : Disk) (old : World) (course : List Taken) (new : World) → GoesKeys keys old course new → IsPart course
+  pub saves_keys : {keys : List Chrn} (disk : Disk) {old : World} {course : List Taken} {new : World} → GoesKeys keys old course new → IsPart course
       → AllByRecursion (IsAsked source) keys → AreDistinct keys → IsRegularDisk disk → length old.state.station.memory ≡ user_bytes
       → (bay_of old.state.station 1).medium ≡ Some disk → BringsUpNoMark disk old.state course
       → IsFaultless 1 old.state.station.counters new.state.station.counters → SavesKeys whole lines keys disk old course new
-  saves_keys [] disk old course new goes part asked distinct regular size medium unmarked faultless = record {
-    final = disk;
-    medium = ap (λ (w : World). (bay_of w.state.station 1).medium) goes.1 ∙ medium;
-    regular = regular;
-    shape = shape_itself disk;
-    valid = λ is. is;
-    laid = λ is. is;
-    names = ap (λ (w : World). w.state.names) goes.1;
-    files = ap (λ (w : World). w.files) goes.1;
-    settled = tt;
-    others = λ entry unread. (λ on. on, λ on. on);
-  }
-  saves_keys (key ∷ keys) disk old [] new goes part asked distinct regular size medium unmarked faultless = absurd goes
-  saves_keys (key ∷ keys) disk old (read ∷ later) new (Err cause, files, is, goes) part asked distinct regular size medium unmarked faultless =
+  saves_keys disk (Over old) part asked distinct regular size medium unmarked faultless = search
+  saves_keys disk (Lost key keys cause old read files later new is goes) part asked distinct regular size medium unmarked faultless =
       let keeps = read_keeps key old.state.station read.after.station (Err cause) asked.0.size size is.reads in
       let fell = call_fell old.state read.after old.files files is.call in
       let still = ap (λ (bays : Two Bay). (in_bay bays 1).medium) keeps.bays ∙ medium in
-      let all = saves_keys keys disk (with_report read.after files old.report) later new goes (part_later read later part) asked.1 distinct.1 regular
+      let all = saves_keys disk goes (part_later read later part) asked.1 distinct.1 regular
       (keeps.size ∙ size) still (unmarked_later disk old.state read later unmarked) (omega (arith, fell.second, faultless.0), faultless.1) in
       let line : LogLine = record { key = key; code = cause } in
-      let here = line_of_refused key cause read is.asked is.answered in
+      let here = log_of_lost key cause old read files later is in
       record {
         final = all.final;
         medium = all.medium;
@@ -394,21 +347,19 @@ module _ (tidy : AllTidy) (source : Disk) (whole : List Taken) (lines : List Log
           inl (record {
             code = cause;
             read = part.steps _ (inl (is.asked, is.answered));
-            line = part.lines_are line (subst (λ (row : List LogLine). Contains (row ++ log_of later) line) (sym here) (0, omega arith, refl));
+            line = part.lines_are line (subst (λ (row : List LogLine). Contains row line) (sym here) (0, omega arith, refl));
           }),
           all.settled,
         );
         others = λ entry unread. all.others entry (λ deleted content some. unread deleted content (inr some));
       }
-  saves_keys (key ∷ keys) disk old (read ∷ []) new (Ok deleted, files, is, goes) part asked distinct regular size medium unmarked faultless = absurd goes
-  saves_keys (key ∷ keys) disk old (read ∷ write ∷ later) new
-      (Ok deleted, files, is, (more, wrote, goes)) part asked distinct regular size medium unmarked faultless =
+  saves_keys disk (Kept key keys deleted old read files write more later new is wrote goes) part asked distinct regular size medium unmarked faultless =
       let mid = with_report read.after files old.report in
       let next = with_report write.after more old.report in
       let keeps = read_keeps key old.state.station read.after.station (Ok deleted) asked.0.size size is.reads in
       let fell_read = call_fell old.state read.after old.files files is.call in
       let fell_write = write_fell key deleted mid next write more refl wrote in
-      let there = keys_fell keys next later new goes in
+      let there = keys_fell goes in
       let none_yet = unmarked_later disk old.state read (write ∷ later) unmarked in
       let still = ap (λ (bays : Two Bay). (in_bay bays 1).medium) keeps.bays ∙ medium in
       let calm : IsFaultless 1 mid.state.station.counters next.state.station.counters =
@@ -416,13 +367,13 @@ module _ (tidy : AllTidy) (source : Disk) (whole : List Taken) (lines : List Log
       let one = saves_key tidy disk key deleted read.after files write more later regular
       (keeps.size ∙ size) asked.0.size wrote.asked wrote.step
       wrote.done calm still none_yet in
-      let all = saves_keys keys one.wrote.next next later new goes (part_later write later (part_later read (write ∷ later) part))
+      let all = saves_keys one.wrote.next goes (part_later write later (part_later read (write ∷ later) part))
       asked.1 distinct.1 one.wrote.regular
       (ap (λ (m : List ℕ). length m) one.memory ∙ keeps.size ∙ size) one.wrote.medium one.unmarked
       (omega (arith, fell_read.second, fell_write.second, faultless.0), faultless.1) in
       let content = bytes_from read.after.station.memory 0x10000 (content_size key.n) in
       let given = gave key deleted read is.asked is.answered in
-      let reads = keys_read keys distinct.1 next later new goes in
+      let reads = keys_read goes distinct.1 in
       let unread : WasNotRead later key = λ mark bytes some. distinct.0 (reads.only key (some_apart _ _ later (gave_reads key mark bytes) some)) in
       record {
         final = all.final;

@@ -17,15 +17,7 @@ pub formatted_target : (rate : Rate) (name : List ℕ) (count : ℕ) (told after
     → HoldsTarget name stores.disk stores.disk after
 formatted_target rate name count told after stores =
     let readable = formatted_readable rate count stores.disk stores.is in
-    record {
-      valid = stores.is.valid;
-      image = image_stands told name stores.disk after stores.is.valid stores.files;
-      regular = readable.regular;
-      protected = stores.is.protected;
-      rate = refl;
-      laid = formatted_laid rate count stores.disk stores.is;
-      sectors = readable.sectors;
-    }
+    assumption (image_stands told name stores.disk after stores.is.valid stores.files, formatted_laid rate count stores.disk stores.is)
 
 pub copied_target : (to : List ℕ) (disk : Disk) (old : Counters) (told : Option Files) (course : List Taken) (new : Counters) (after : Option Files)
     (stores : StoresCopy disk to old told course new after) → HoldsTarget to disk stores.copied after
@@ -97,10 +89,4 @@ imported_target bytes name at told after stores = record {
 -- sectors of the standard keys can be written to such a disk
 pub target_takes : (name : List ℕ) (keyed disk : Disk) (after : Option Files) (keys : List Chrn) → HoldsTarget name keyed disk after
     → All (IsStandardKey keyed) keys → TakesKeys keyed.rate keys disk
-target_takes name keyed disk after keys holds standard = record {
-  regular = holds.regular;
-  protected = holds.protected;
-  rate = holds.rate;
-  sectors = All-weaker (IsStandardKey keyed) (HasKey disk) holds.sectors keys standard;
-  laid = holds.laid;
-}
+target_takes name keyed disk after keys holds standard = assumption (All-weaker (IsStandardKey keyed) (HasKey disk) holds.sectors keys standard)

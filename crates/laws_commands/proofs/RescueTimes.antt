@@ -56,9 +56,7 @@ module _ (one : Request → StationState → ℕ) (sum : StationState → List T
       subst (λ (q : Request). Costs sum Ready ((costs 1).write + n) (carries q (λ none. rest log))) (sym writes.1)
       (carries_cost one sum is Ready Ready (costs 1).write (write_of key writes.0) (written key writes.0)
       (on_tracks one sum is limit disk.rate costs charged 1 (write_of key writes.0) (write_on key writes.0)) n (λ none. rest log) (λ none. later log))
-  next_cost key (Ok (next.Log line)) log writes n rest later =
-      starve_cost one sum is Ready ((costs 1).write + n) (rest (log ++ line ∷ []))
-      (more_cost one sum is Ready Ready n ((costs 1).write + n) _ (omega arith) (λ s ready. ready) (later (log ++ line ∷ [])))
+  next_cost key (Ok (next.Log line)) log writes n rest later = grind (arith, starve_cost, more_cost)
   next_cost key _ log writes n rest later = ends_cost one sum is Ready ((costs 1).write + n) _ _
 
   record_cost : (key : Chrn) (log : List LogLine) → PartCosts sum Ready Ready ((costs 0).read + (costs 1).write) (rescues key log)
@@ -78,10 +76,7 @@ module _ (one : Request → StationState → ℕ) (sum : StationState → List T
 
   log_cost : (log : List ℕ) (asked : ℕ) (lines : List LogLine) → Costs sum (λ s. Unit {0}) 0 (stores_log log asked lines)
   unfolding stores_log may_starve
-  log_cost log asked lines =
-      let outcome = outcome_of asked lines in
-      starve_cost one sum is (λ s. Unit {0}) 0 (Stores log (log_text lines) (last_text outcome) (outcome_status outcome))
-      (stores_cost one sum is (λ s. Unit {0}) 0 log (log_text lines) (last_text outcome) (outcome_status outcome))
+  log_cost log asked lines = search (starve_cost, stores_cost)
 
   -- a rescue for which there is no log
   new_cost : (to log : List ℕ) → words_at disk.rate ≤ limit.second

@@ -40,10 +40,7 @@ script_rises n (Ends line wanted) old new [] ended most runs = same_rises n old 
 script_rises n (Says line rest) old new course ended most (inl runs) =
     script_rises n rest (record old { report = grown old.report (line ∷ []) }) new course ended most runs
 script_rises n (Says line rest) old new course ended most (inr cut) = same_rises n old new cut.1.0.state
-script_rises n (Asks asked rest) old new [] ended most runs =
-    let stop = stopped_rises old.state new.state asked runs.1.after in
-    let few = most.1 in
-    omega (arith, stop, few)
+script_rises n (Asks asked rest) old new [] ended most runs = grind (arith, stopped_rises)
 script_rises n (Asks asked rest) old new (taken ∷ later) ended most runs =
     let step : Taken = record { asked = asked; answer = taken.answer; after = taken.after } in
     let rises = (ran_ties old.state taken.after old.files runs.1 (step ∷ []) (runs.1, runs.2, (refl, refl))).by_requests in

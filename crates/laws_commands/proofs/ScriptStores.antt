@@ -210,10 +210,7 @@ module _ {Kind : Type 0} (stores : Kind → List Store) (some : Kind) where
 
   track_copied : (Such : Names → Type 0) (sectors c h : ℕ) (none : Unit {0}) → IsQuiet Such (copies_track sectors c h none)
   unfolding copies_track
-  track_copied Such sectors c h none rest next =
-      quiet Such (request.Format 1 c h) (format_calm 1 c h) _ (λ still.
-      each_quiet Such (reads_record c h) (read_quiet Such c h) 1 sectors _ _ (λ marks.
-      each_quiet Such (writes_record marks c h) (write_quiet Such marks c h) 1 sectors tt rest next))
+  track_copied Such sectors c h none rest next = search (quiet, format_calm, each_quiet, read_quiet, write_quiet)
 
   told_quiet : (Such : Names → Type 0) (key : Chrn) (answer : Reply) → IsQuiet Such (tells_failure key answer)
   unfolding tells_failure
@@ -268,11 +265,7 @@ module _ {Kind : Type 0} (stores : Kind → List Store) (some : Kind) where
   imported_quiet : (Such : Names → Type 0) (bytes : List ℕ) (sectors c h : ℕ) (none : Unit {0}) → IsQuiet Such (imports.imports_track bytes sectors c h none)
   unfolding imports.imports_track imports.fills_track imports.writes_track imports.writes_record
   imported_quiet Such bytes sectors c h none rest next =
-      quiet Such (request.Format 0 c h) (format_calm 0 c h) _ (λ still.
-      each_quiet Such (λ r. imports.fills_record bytes (sector_place sectors c h r) (record_address r))
-      (λ r. filled_quiet Such bytes (sector_place sectors c h r) (record_address r)) 1 sectors tt _ (λ again.
-      each_quiet Such (imports.writes_record c h)
-      (λ r once. quiet Such (request.Write 0 (key_of c h r) (record_address r)) (write_calm 0 (key_of c h r) (record_address r))) 1 sectors tt rest next))
+      search (quiet, format_calm, each_quiet, filled_quiet, write_calm)
 
   exported_quiet : (Such : Names → Type 0) (c h r : ℕ) (bytes : List ℕ) → IsQuiet Such (exports.reads_record c h r bytes)
   unfolding exports.reads_record

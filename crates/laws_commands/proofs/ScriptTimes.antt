@@ -37,16 +37,11 @@ Leads From asked To =
 
 module _ (one : Request → StationState → ℕ) (sum : StationState → List Taken → ℕ) (is : IsSum one sum) where
   pub idle_cost : (station : StationState) (course : List Taken) (most : ℕ) → course ≡ [] → sum station course ≤ most
-  idle_cost station course most empty =
-      let same = ap (sum station) empty in
-      let none = is.none station in
-      omega (arith, same, none)
+  idle_cost station course most empty = grind arith
 
   pub more_cost : (From To : StationState → Type 0) (few most : ℕ) (script : Script) → few ≤ most → ((s : StationState) → To s → From s)
       → Costs sum From few script → Costs sum To most script
-  more_cost From To few most script less stronger costs old new course ended holds runs =
-      let within = costs old new course ended (stronger old.state.station holds) runs in
-      omega (arith, within, less)
+  more_cost From To few most script less stronger costs old new course ended holds runs = grind arith
 
   -- ---- Requests.
 
@@ -97,10 +92,7 @@ module _ (one : Request → StationState → ℕ) (sum : StationState → List T
       → ((s : StationState) → From s → one asked s ≤ price) → Leads From asked To
       → ((answer : Reply) (after : State) → Costs sum To n (rest answer after)) → Costs sum From (price + n) (needs asked rest)
   unfolding needs
-  needs_cost From To price n asked rest least leads later =
-      asks_cost From (λ answer s. is_refusal answer ≡ false → To s) price n asked (λ answer after. unless_refused asked answer (rest answer after)) least leads
-      (λ answer after old new course ended holds runs.
-      unless_run n asked answer (rest answer after) old new course ended (λ fine run. later answer after old new course ended (holds fine) run) runs)
+  needs_cost From To price n asked rest least leads later = grind (arith, asks_cost, unless_run)
 
   pub carries_cost : (From To : StationState → Type 0) (price : ℕ) (asked : Request) → ((s : StationState) → From s → one asked s ≤ price)
       → Leads From asked To → PartCosts sum From To price (carries asked)

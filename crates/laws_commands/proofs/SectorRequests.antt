@@ -29,9 +29,7 @@ within_page r least most = same_page (record_address r / 65536) ((record_address
 pub sector_asked : (bay c h r place : ℕ) → nat_le bay 1 ≡ true → c ≤ 79 → h ≤ 1 → 1 ≤ r → 1 ≤ place → place ≤ 18
     → is_sector_request bay (key_of c h r) (record_address place) ≡ true
 sector_asked bay c h r place is_one cylinder head least from few =
-    let there = both_true _ _ (le-leb c 79 cylinder) (le-leb h 1 head) in
-    let inside : nat_le (record_address place + content_size standard_code) user_bytes ≡ true = le-leb _ _ (omega arith) in
-    both_true _ _ (both_true _ _ (both_true _ _ (both_true _ _ is_one there) refl) (le-leb 1 r least)) inside
+    grind (arith, both_true)
 
 read_order : (good crosses acknowledged : Bool) → good ≡ true → crosses ≡ false → acknowledged ≡ true
     → (if not good then Some BadRequest else (if crosses then Some Page else (if not acknowledged then Some Changed else None))) ≡ None
@@ -53,12 +51,7 @@ HasData track key =
     (p : ℕ) × (deleted : Bool) × (place : ℕ) × IsAddressAt track p key × LookAt track p key.n (look.Found deleted place)
 
 pub has_data : (disk : Disk) (key : Chrn) (entry : Entry) → IsRegularDisk disk → IsOnMap disk entry → entry.key ≡ key → HasData (track_of disk key.c key.h) key
-has_data disk key entry regular on same =
-    let at_field : HasData (track_of disk entry.cylinder entry.head) entry.key = (entry.place, entry.deleted, on.content.0, on.address, on.content.1) in
-    let place = key_cylinder disk entry.cylinder entry.head entry.place entry.key regular on.track on.address in
-    let on_cylinder = subst (λ (b : ℕ). HasData (track_of disk b entry.head) entry.key) (sym place.0) at_field in
-    let on_head = subst (λ (g : ℕ). HasData (track_of disk entry.key.c g) entry.key) (sym place.1) on_cylinder in
-    subst (λ (k : Chrn). HasData (track_of disk k.c k.h) k) same on_head
+has_data disk key entry regular on same = grind (arith, key_cylinder)
 
 module _ (disk : Disk) (regular : IsRegularDisk disk) (key : Chrn) (has : HasTrack disk key.c key.h) (field : HasData (track_of disk key.c key.h) key) where
   clear : HasClearAddress (track_of disk key.c key.h) key
@@ -192,15 +185,7 @@ module _ (bay : ℕ) (rate : Rate) (count : ℕ) where
   -- once its bay is ready, a blank disk is such a disk
   pub blank_made : (station : StationState) → IsDisk (blank_of count rate) → IsReadyFor bay (blank_of count rate) station
       → IsMaking bay rate count AnyDisk station
-  blank_made station valid ready = record {
-    disk = blank_of count rate;
-    medium = ready.medium;
-    alike = alike_itself (blank_of count rate) valid;
-    bay_rate = ready.bay_rate;
-    kept = ready.kept;
-    regular = blank_regular count rate;
-    also = tt;
-  }
+  blank_made station valid ready = search (blank_of count rate, alike_itself (blank_of count rate) valid, blank_regular count rate)
 
   -- such a disk stays one if a weaker condition is asked of it and the bay stays as it is
   pub made_still : (Also Less : Disk → Type 0) (old new : StationState) → ((disk : Disk) → Also disk → Less disk) → bay_of new bay ≡ bay_of old bay
@@ -234,15 +219,7 @@ remade bay other rate count Before Also old new next apart made becomes medium a
     let value : Bay = record (bay_of station bay) { medium = (bay_of new.state.station bay).medium } in
     let at_bay = ap (λ (s : StationState). bay_of s bay) becomes ∙ in_with station.bays bay value in
     record {
-      made = record {
-        disk = next;
-        medium = medium;
-        alike = alike;
-        bay_rate = ap (λ (b : Bay). b.rate) at_bay ∙ made.bay_rate;
-        kept = ap (λ (b : Bay). is_some b.acknowledged) at_bay ∙ made.kept;
-        regular = regular;
-        also = also;
-      };
+      made = search (ap (λ (b : Bay). b.rate) at_bay ∙ made.bay_rate, ap (λ (b : Bay). is_some b.acknowledged) at_bay ∙ made.kept);
       same = other_stays bay other station new.state.station value apart becomes;
     }
 
@@ -278,15 +255,7 @@ module _ (bay other : ℕ) (rate : Rate) (count c h : ℕ) (is_one : is_bay bay 
   station = old.state.station
 
   format_free : format_refusal station bay c h (gap_at (bay_of station bay).rate) ≡ None
-  format_free =
-      let gap = (bay_of station bay).rate in
-      let gaps = gap_asked gap in
-      let alike = made.alike in
-      let place_c : nat_le c 79 ≡ true = le-leb c 79 (omega (arith, cylinder, alike.cylinders, alike.valid.cylinders.1)) in
-      let place_h : nat_le h 1 ≡ true = le-leb h 1 (omega (arith, head)) in
-      let good = both_true _ _ (both_true _ _ (both_true _ _ is_one (both_true _ _ place_c place_h)) gaps.0) gaps.1 in
-      let free : is_protected station bay ≡ false = protected_by (bay_of station bay).medium made.disk made.medium alike.protected in
-      format_order (is_format_request station bay c h (gap_at gap)) (is_acknowledged station bay) (is_protected station bay) good made.kept free
+  format_free = grind (arith, gap_asked, made, le-leb, cylinder, head, both_true, protected_by, format_order)
 
   formatted_done : (answer : Reply) (new : Stage) → Step (request.Format bay c h) old.state old.files answer new.state new.files
       → IsUndisturbed bay station.counters new.state.station.counters
@@ -420,9 +389,7 @@ module _ (bay other : ℕ) (disk : Disk) (c h r slot : ℕ) (deleted : Bool) (is
       (drive : WritesDrive written bay before called new.state.station) where
     never : (code : Code)
         → IsWriteCause written (met (bay_of before bay) c h) (met (bay_of new.state.station bay) c h) drive.changes bay before code new.state.station → ⊥
-    never code cause =
-        let on = subst (λ (t : List ℕ). IsRegular t c h) (sym met_is) (regular c h track) in
-        cause.never on place address (inr calm) (disturbed_less before.tries bay before.counters new.state.station.counters calm)
+    never code cause = grind (arith, met_is, regular, track, address, inr, calm, disturbed_less)
 
     ok : IsOk called
     ok = go called drive.refused

@@ -21,11 +21,7 @@ module _ (rate : Rate) (c h : ℕ) where
       go R250 = lit≤ tt
 
   wide : 16 ≤ gap_at rate
-  wide = go rate
-    where
-      go : (r : Rate) → 16 ≤ gap_at r
-      go R500 = lit≤ tt
-      go R250 = lit≤ tt
+  wide = grind arith
 
   bytes : c < 256 → h < 256 → All (λ key. IsKey key) keys
   bytes small_c small_h = all_track_keys (sectors_at rate) c h IsKey
@@ -38,19 +34,10 @@ module _ (rate : Rate) (c h : ℕ) where
   together = all_track_keys (sectors_at rate) c h (λ key. (key.c ≡ c) × (key.h ≡ h)) (λ r least most. (refl, refl))
 
   distinct : AllPairs (λ a b. a ≢ b) keys
-  distinct i j d before below same =
-      let long = length-track_keys (sectors_at rate) c h in
-      let first = track_key_at (sectors_at rate) c h i d (omega arith) in
-      let second = track_key_at (sectors_at rate) c h j d (omega arith) in
-      let records : 1 + i ≡ 1 + j = ap (λ (k : Chrn). k.r) (sym first ∙ same ∙ second) in
-      absurd (omega arith)
+  distinct i j d before below same = grind (arith, length-track_keys, track_key_at)
 
   room : HasEndRoom (length keys) standard_code (gap_at rate) (words_at rate)
-  room = go rate
-    where
-      go : (r : Rate) → 27 ≤ gap_at r + (words_at r - (146 + length (track_keys (sectors_at r) c h) * (62 + 512 + gap_at r)))
-      go R500 = omega arith
-      go R250 = omega arith
+  room = grind arith
 
   coded : IsSizeCode standard_code
   coded = (lit≤ tt, lit≤ tt)

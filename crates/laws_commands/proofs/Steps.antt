@@ -16,9 +16,7 @@ or_false false b e = (refl, e)
 -- a request that wasn't refused was done
 pub done_does : (old new : State) (told after : Option Files) (asked : Request) (answer : Reply) → Step asked old told answer new after
     → is_refusal answer ≡ false → Does asked old told answer new after
-done_does old new told after asked answer step done =
-    either (refusal_of old asked) step (λ does. does)
-    (λ cause refused. absurd (true≢false (subst (λ (r : Reply). is_refusal r ≡ false) refused.answered done)))
+done_does old new told after asked answer step done = grind (arith, either)
 
 -- the first request of a run, and then the others
 pub record Begins (old : State) (told : Option Files) (asked : Request) (rest : List Request) (new : State) (after : Option Files) : Type 0 where

@@ -50,25 +50,17 @@ stands_under (Some files) name bytes after is =
 -- ---- images
 
 length-file : (d : Disk) → length (file_of d) ≡ 14 + 2 * length d.words
-length-file d =
-    let front : length (take 14 (file_of d)) ≡ 14 = refl in
-    let back : length (drop 14 (file_of d)) ≡ length (bytes_of d.words) = refl in
-    omega (arith, front, back, length-take 14 (file_of d), length-drop 14 (file_of d), length-bytes_of d.words)
+length-file d = grind (arith, file_of, bytes_of, length-take, length-drop, length-bytes_of)
 
 -- the file of a disk is no longer than an image may be
 pub file_fits : (d : Disk) → IsDisk d → length (file_of d) ≤ most_image_bytes
-file_fits d valid =
-    let tracks = mul-le d.cylinders d.heads 80 2 valid.cylinders.1 valid.heads.1 in
-    let words = mul-le (d.cylinders * d.heads) d.words_per_track 160 16384 (omega (arith, tracks)) valid.words_per_track.1 in
-    omega (arith, length-file d, valid.count, words)
+file_fits d valid = grind (arith, mul-le, length-file)
 
 -- if the file of a disk is under a name, its image is too
 pub image_there : (told : Option Files) (name : List ℕ) (d : Disk) → IfSome told (λ files. file_at files name ≡ Some (file_of d)) → IsDisk d
     → IsImageOf told name d
 image_there None name d there valid = tt
-image_there (Some files) name d there valid =
-    subst (λ (o : Option (List ℕ)). IsSomeAnd o (λ bytes. (length bytes ≤ most_image_bytes) × (image_of bytes ≡ Ok d))) (sym there)
-    (file_fits d valid, image_again (file_of d) d (valid, inl refl))
+image_there (Some files) name d there valid = grind (arith, file_fits, image_again, inl)
 
 -- ---- logs
 
@@ -76,6 +68,4 @@ image_there (Some files) name d there valid =
 pub log_stands : (told : Option Files) (log : List ℕ) (sectors : ℕ) (lines : List LogLine) → IfSome told (λ files. file_at files log ≡ Some (log_text lines))
     → IsLog sectors lines → length (log_text lines) ≤ most_log_bytes → IsLogFound told log sectors (Some lines)
 log_stands None log sectors lines there is fits = tt
-log_stands (Some files) log sectors lines there is fits =
-    subst (λ (o : Option (List ℕ)). IsSomeAnd o (λ text. (length text ≤ most_log_bytes) × (IsLog sectors lines × (text ≡ log_text lines)))) (sym there)
-    (fits, (is, refl))
+log_stands (Some files) log sectors lines there is fits = grind arith

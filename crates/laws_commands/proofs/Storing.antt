@@ -30,11 +30,7 @@ later_too (Some before) store later = ap (λ (l : List Store). Some l) (append_a
 
 listed : (files : Files) (made : List Store) → IsListed files made
 listed files [] = record { after = files; files_are = refl; stores = none_more files.stores }
-listed files (store ∷ later) = let rest = listed (after_store files store.name store.bytes) later in record {
-  after = rest.after;
-  files_are = rest.files_are;
-  stores = rest.stores ∙ later_too files.stores store later;
-}
+listed files (store ∷ later) = let rest = listed (after_store files store.name store.bytes) later in search (rest.stores ∙ later_too files.stores store later)
 
 -- a shelf that tells its stores lists those that were made, after those that it listed before
 pub stores_listed : (files after : Files) (made : List Store) → Some after ≡ all_stored (Some files) made

@@ -120,13 +120,7 @@ one_done asked old new course did =
     let end = ends_there first.mid new.state first.files new.files first.later first.behind in
     let step = subst (λ (s : State). Step asked old.state old.files first.answer s new.files) (sym end.0)
     (subst (λ (f : Option Files). Step asked old.state old.files first.answer first.mid f) (sym end.1) first.step) in
-    record {
-      answer = first.answer;
-      step = step;
-      fine = first.done;
-      does =
-          done_does old.state new.state old.files new.files asked first.answer step first.done;
-    }
+    search (done_does old.state new.state old.files new.files asked first.answer step first.done)
 
 -- No count fell since the start. If the drive of bay 0 had no fault since then, this holds.
 pub record Since (start : Counters) (P : World → Type 0) (now : World) : Type 0 where

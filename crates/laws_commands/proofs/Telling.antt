@@ -7,7 +7,7 @@ use Rattle.floppy_jobs.specs.declared.request.Request.TheVariants as request
 use Rattle.laws_commands.proofs.Looks.{rose_by}
 use Rattle.laws_commands.proofs.Reading.{Holds, not_refused, reaches, bays_stay, holds_on, key_is, one_read, quiet_parts, told_more}
 use Rattle.laws_commands.proofs.Steps.{NeverFell, ok_called, reached}
-use Rattle.laws_commands.proofs.Gone.{call_fell, line_of_refused, line_of_done, read_done, IsRead, IsWrite, GoesKeys, fell_both, write_fell, keys_fell}
+use Rattle.laws_commands.proofs.Gone.{call_fell, log_of_lost, log_of_kept, IsRead, IsWrite, GoesKeys, Over, Lost, Kept, fell_both, write_fell, keys_fell}
 use Rattle.laws_commands.proofs.RescueRecords.{IsAsked, write_does}
 
 -- the refusal of a read, if the read was refused
@@ -59,10 +59,7 @@ module _ (disk : Disk) (count : ℕ) (key : Chrn) (asked : IsAsked disk key) (no
   }
 
   off_disk : (called : Result Bool Code) → Reads 0 key 0x10000 old called new → TellsKey disk count key called new
-  off_disk called reads =
-      let free = subst (λ (k : Chrn). read_refusal old 0 k 0x10000 ≡ None) (sym (key_is key asked.size))
-      (not_refused old key.c key.h key.r count asked.cylinder asked.side asked.sector.0 holds.acknowledged) in
-      drive_tells called (reaches _ (read_refusal old 0 key 0x10000) free reads)
+  off_disk called reads = grind (arith, key_is, not_refused, drive_tells, reaches)
 
 -- ---- what the log has
 
@@ -71,15 +68,41 @@ abbrev lines_of : List (Chrn × Code) → List LogLine
 lines_of refused = map (λ (told : Chrn × Code). record { key = told.0; code = told.1 }) refused
 
 -- the log lines of one more key
-lines_more : (key : Chrn) (look : Look) (failed rest : List (Chrn × Look)) (refused : List (Chrn × Code)) (lines later : List LogLine)
-    → failed ≡ unless_found key look ++ rest → refused ≡ told_of key look → lines ≡ lines_of refused → later ≡ failing_lines rest
-    → lines ++ later ≡ failing_lines failed
-lines_more key look failed rest refused lines later all told here there =
-    ap (λ (row : List LogLine). row ++ later) (here ∙ ap lines_of told)
-    ∙ ap (λ (row : List LogLine). lines_of (told_of key look) ++ row) there
+lines_more : (key : Chrn) (look : Look) (failed rest : List (Chrn × Look)) (later : List LogLine) → failed ≡ unless_found key look ++ rest
+    → later ≡ failing_lines rest → lines_of (told_of key look) ++ later ≡ failing_lines failed
+lines_more key look failed rest later all there =
+    ap (λ (row : List LogLine). lines_of (told_of key look) ++ row) there
     ∙ sym (map-append (λ (told : Chrn × Code). record { key = told.0; code = told.1 }) (told_of key look) (all_told_of rest))
     ∙ ap lines_of (sym (told_more key look rest))
     ∙ ap failing_lines (sym all)
+
+module _ (disk : Disk) where
+  -- The lines are what the looks for these keys tell. Each of these looks has only one answer.
+  abbrev pub AreTold : List Chrn → List LogLine → Type 0
+  AreTold [] lines = lines ≡ []
+  AreTold (key ∷ keys) lines =
+      (look : Look) × ((other : Look) → LookOn disk key other → other ≡ look)
+      × (later : List LogLine) × (lines ≡ lines_of (told_of key look) ++ later) × AreTold keys later
+
+  abbrev AreLost : List LogLine → Type 0
+  AreLost lines = AllByRecursion (λ (line : LogLine). IsNotFound disk line.key) lines
+
+  lost_more : (key : Chrn) (look : Look) (later : List LogLine) → ((other : Look) → LookOn disk key other → other ≡ look) → AreLost later
+      → AreLost (lines_of (told_of key look) ++ later)
+  lost_more key (Found deleted place) later one lost = lost
+  lost_more key look later one lost = (λ deleted place on. cc (one (Found deleted place) on), lost)
+
+  -- the records that are logged aren't found on the disk
+  pub told_lost : (keys : List Chrn) (lines : List LogLine) → AreTold keys lines → AreLost lines
+  told_lost [] lines told = subst AreLost (sym told) tt
+  told_lost (key ∷ keys) lines (look, one, later, is, told) = subst AreLost (sym is) (lost_more key look later one (told_lost keys later told))
+
+  -- all that fail are logged
+  pub told_failing : (keys : List Chrn) (lines : List LogLine) (failed : List (Chrn × Look)) → AreTold keys lines → AreFailing disk keys failed
+      → lines ≡ failing_lines failed
+  told_failing [] lines failed told failing = told ∙ ap failing_lines (sym failing)
+  told_failing (key ∷ keys) lines failed (look, one, later, is, told) failing =
+      grind (arith, lines_more, told_failing keys later failing.1 told failing.4)
 
 module _ (disk : Disk) (few_cylinders : disk.cylinders ≤ 80) (few_heads : disk.heads ≤ 2) (unmistaken : IsUnmistaken disk) (count : ℕ) where
   -- what the read of a record told
@@ -113,81 +136,31 @@ module _ (disk : Disk) (few_cylinders : disk.cylinders ≤ 80) (few_heads : disk
   write_holds : (key : Chrn) (deleted : Bool) (old new : World) (write : Taken) (files : Option Files) → new.state ≡ write.after
       → IsWrite key deleted old write files
       → Holds disk count old.state.station → IsUndisturbed 0 old.state.station.counters new.state.station.counters → Holds disk count new.state.station
-  write_holds key deleted old new write files same wrote holds quiet =
-      let does = write_does key deleted old.state write.after old.files files write.answer wrote.step in
-      let ok = ok_called does.1.0 write.answer does.1.1 wrote.done in
-      let drive = reached (write_refusal old.state.station 1 key 0x10000) does.1.0 old.state.station write.after.station does.1.2 ok in
-      let fell = write_fell key deleted old new write files same wrote in
-      let was = holds.faults in
-      let faults : faults_of new.state.station.counters 0 ≡ count = omega (arith, was, fell.first, fell.stalls, quiet.together) in
-      holds_on disk count old.state.station new.state.station holds
-      (ap (λ (s : State). bay_of s.station 0) same ∙ ap (λ (s : StationState). bay_of s 0) drive.becomes) faults
+  write_holds key deleted old new write files same wrote holds quiet = grind (arith, write_does, ok_called, reached, write_fell, holds_on)
 
-  -- the records that are logged aren't found on the disk
-  pub lost_keys : (keys : List Chrn) (old : World) (course : List Taken) (new : World) → GoesKeys keys old course new
+  pub keys_told : {keys : List Chrn} {old : World} {course : List Taken} {new : World} → GoesKeys keys old course new
       → AllByRecursion (IsAsked disk) keys → Holds disk count old.state.station
-      → IsUndisturbed 0 old.state.station.counters new.state.station.counters
-      → AllByRecursion (λ (line : LogLine). IsNotFound disk line.key) (log_of course)
-  lost_keys [] old course new goes asked holds quiet =
-      subst (λ (row : List Taken). AllByRecursion (λ (line : LogLine). IsNotFound disk line.key) (log_of row)) (sym goes.0) tt
-  lost_keys (key ∷ keys) old [] new goes asked holds quiet = absurd goes
-  lost_keys (key ∷ keys) old (read ∷ later) new (Err cause, files, is, goes) asked holds quiet =
-      let mid = with_report read.after files old.report in
+      → IsUndisturbed 0 old.state.station.counters new.state.station.counters → AreTold disk keys (log_of course)
+  keys_told (Over old) asked holds quiet = refl
+  keys_told (Lost key keys cause old read files later new is goes) asked holds quiet =
       let here = call_fell old.state read.after old.files files is.call in
-      let parts = quiet_parts old.state.station.counters read.after.station.counters new.state.station.counters here
-      (keys_fell keys mid later new goes) quiet in
+      let parts = quiet_parts old.state.station.counters read.after.station.counters new.state.station.counters here (keys_fell goes) quiet in
       let tells = read_tells key (Err cause) old read files asked.0 is holds parts.0 in
-      let not_found : IsNotFound disk key = λ deleted place on. absurd (cc (tells.told ∙ ap (told_of key) (sym (tells.one (Found deleted place) on)))) in
-      subst (λ (row : List LogLine). AllByRecursion (λ (line : LogLine). IsNotFound disk line.key) (row ++ log_of later))
-      (sym (line_of_refused key cause read is.asked is.answered))
-      (not_found, lost_keys keys mid later new goes asked.1 tells.holds parts.1)
-  lost_keys (key ∷ keys) old (read ∷ []) new (Ok deleted, files, is, goes) asked holds quiet = absurd goes
-  lost_keys (key ∷ keys) old (read ∷ write ∷ later) new (Ok deleted, files, is, (more, wrote, goes)) asked holds quiet =
+      let line = log_of_lost key cause old read files later is in
+      let all = keys_told goes asked.1 tells.holds parts.1 in
+      (tells.look, tells.one, log_of later, line ∙ ap (λ (told : List (Chrn × Code)). lines_of told ++ log_of later) tells.told, all)
+  keys_told (Kept key keys deleted old read files write more later new is wrote goes) asked holds quiet =
       let mid = with_report read.after files old.report in
       let next = with_report write.after more old.report in
       let fell = write_fell key deleted mid next write more refl wrote in
-      let there = keys_fell keys next later new goes in
+      let there = keys_fell goes in
       let here = call_fell old.state read.after old.files files is.call in
       let parts = quiet_parts old.state.station.counters read.after.station.counters new.state.station.counters here
       (fell_both mid next new fell there) quiet in
       let last = quiet_parts read.after.station.counters write.after.station.counters new.state.station.counters fell there parts.1 in
       let tells = read_tells key (Ok deleted) old read files asked.0 is holds parts.0 in
       let now = write_holds key deleted mid next write more refl wrote tells.holds last.0 in
-      let none : line_at read.asked read.answer ≡ [] = line_of_done read.asked read.answer (ap is_refusal is.answered ∙ read_done deleted) in
-      let also : line_at write.asked write.answer ≡ [] = line_of_done write.asked write.answer wrote.done in
-      let same : log_of later ≡ log_of (read ∷ write ∷ later) = rw (none, also) refl in
-      subst (AllByRecursion (λ (line : LogLine). IsNotFound disk line.key)) same (lost_keys keys next later new goes asked.1 now last.1)
-
-  pub tells_keys : (keys : List Chrn) (failed : List (Chrn × Look)) (old : World) (course : List Taken) (new : World) → GoesKeys keys old course new
-      → AllByRecursion (IsAsked disk) keys → AreFailing disk keys failed → Holds disk count old.state.station
-      → IsUndisturbed 0 old.state.station.counters new.state.station.counters → log_of course ≡ failing_lines failed
-  tells_keys [] failed old course new goes asked failing holds quiet = ap log_of goes.0 ∙ ap failing_lines (sym failing)
-  tells_keys (key ∷ keys) failed old [] new goes asked failing holds quiet = absurd goes
-  tells_keys (key ∷ keys) failed old (read ∷ later) new (Err cause, files, is, goes) asked failing holds quiet =
-      let mid = with_report read.after files old.report in
-      let here = call_fell old.state read.after old.files files is.call in
-      let parts = quiet_parts old.state.station.counters read.after.station.counters new.state.station.counters here
-      (keys_fell keys mid later new goes) quiet in
-      let tells = read_tells key (Err cause) old read files asked.0 is holds parts.0 in
-      let same = tells.one failing.0 failing.2 in
-      lines_more key failing.0 failed failing.1 ((key, cause) ∷ []) (line_at read.asked read.answer) (log_of later) failing.3
-      (tells.told ∙ ap (told_of key) (sym same))
-      (line_of_refused key cause read is.asked is.answered) (tells_keys keys failing.1 mid later new goes asked.1 failing.4 tells.holds parts.1)
-  tells_keys (key ∷ keys) failed old (read ∷ []) new (Ok deleted, files, is, goes) asked failing holds quiet = absurd goes
-  tells_keys (key ∷ keys) failed old (read ∷ write ∷ later) new (Ok deleted, files, is, (more, wrote, goes)) asked failing holds quiet =
-      let mid = with_report read.after files old.report in
-      let next = with_report write.after more old.report in
-      let fell = write_fell key deleted mid next write more refl wrote in
-      let there = keys_fell keys next later new goes in
-      let here = call_fell old.state read.after old.files files is.call in
-      let parts = quiet_parts old.state.station.counters read.after.station.counters new.state.station.counters here
-      (fell_both mid next new fell there) quiet in
-      let last = quiet_parts read.after.station.counters write.after.station.counters new.state.station.counters fell there parts.1 in
-      let tells = read_tells key (Ok deleted) old read files asked.0 is holds parts.0 in
-      let same = tells.one failing.0 failing.2 in
-      let now = write_holds key deleted mid next write more refl wrote tells.holds last.0 in
-      let none = line_of_done read.asked read.answer (ap is_refusal is.answered ∙ read_done deleted) in
-      let also = ap (λ (row : List LogLine). row ++ log_of later) (line_of_done write.asked write.answer wrote.done) in
-      lines_more key failing.0 failed failing.1 [] (line_at read.asked read.answer) (log_of (write ∷ later)) failing.3
-      (sym (none_told key deleted) ∙ tells.told ∙ ap (told_of key) (sym same))
-      none (also ∙ tells_keys keys failing.1 next later new goes asked.1 failing.4 now last.1)
+      let none = log_of_kept key deleted old mid read files write more later is wrote in
+      let told = sym (none_told key deleted) ∙ tells.told in
+      let all = keys_told goes asked.1 now last.1 in
+      (tells.look, tells.one, log_of later, none ∙ ap (λ (told : List (Chrn × Code)). lines_of told ++ log_of later) told, all)

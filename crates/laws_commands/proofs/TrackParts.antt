@@ -13,10 +13,7 @@ use Rattle.laws_commands.proofs.Steps.{begins, ends_there}
 pub tracks_part : {Found : Type 0} (cylinders heads : ℕ) (part : ℕ → ℕ → Found → Part Found) (found : Found) (rest : Found → Script)
     → by_track cylinders heads part found rest ≡ through (λ (track : Track). part track.0 track.1) (tracks_of cylinders heads) found rest
 unfolding tracks_of
-tracks_part {Found} cylinders heads part found rest =
-    let on : Track → Found → Part Found = λ track. part track.0 track.1 in
-    each_nested on 0 cylinders (λ c. each 0 heads (part c)) (heads_of heads)
-    (λ c now next. each_named on 0 heads (part c) (λ h. (c, h)) (λ h then last. refl) now next) found rest
+tracks_part {Found} cylinders heads part found rest = search (each_nested, each_named)
 
 -- a part for each record of a track is a part for each key of a list
 pub records_part : {Found : Type 0} (sectors c h : ℕ) (part : ℕ → Found → Part Found) (on : Chrn → Found → Part Found)

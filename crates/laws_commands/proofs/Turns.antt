@@ -54,9 +54,7 @@ module _ (limit : Two ℕ) (tries : ℕ) where
   -- a bay has another value, whose medium has no longer revolution than the one before
   kept_turns : (old new : StationState) (bay : ℕ) (value : Bay) → turn_of value.medium ≡ turn_of (bay_of old bay).medium → Becomes (set_bay old bay value) new
       → HasTurns limit tries old → HasTurns limit tries new
-  kept_turns old new bay value same becomes has =
-      let short = turn_in old bay has in
-      becomes_turns (set_bay old bay value) new becomes (set_turns old bay value (omega (arith, same, short)) has)
+  kept_turns old new bay value same becomes has = grind (arith, turn_in, becomes_turns, set_turns)
 
   refused_turns : {A : Type 0} (code : Code) (old : StationState) (answer : Result A Code) (new : StationState) → IsRefusedAtOnce code old answer new
       → HasTurns limit tries old → HasTurns limit tries new
@@ -91,23 +89,15 @@ lays_turn format None layings after lays = ap turn_of lays.1
 module _ (limit : Two ℕ) (tries : ℕ) where
   changed_turns : (bay : ℕ) (name : Option (List ℕ)) (medium : Option Disk) (old new : State) → turn_of medium ≤ in_bay limit bay
       → ChangesMedium bay name medium old new → HasTurns limit tries old.station → HasTurns limit tries new.station
-  changed_turns bay name medium old new short changes has =
-      becomes_turns limit tries (set_bay old.station bay (fresh_bay medium)) new.station changes.exchanged.becomes
-      (set_turns limit tries old.station bay (fresh_bay medium) short has)
+  changed_turns bay name medium old new short changes has = grind (arith, becomes_turns, set_turns)
 
   put_turns : (bay : ℕ) (name : Option (List ℕ)) (disk : Disk) (old new : State) → turn_of (bay_of new.station bay).medium ≤ in_bay limit bay
       → ChangesMedium bay name (Some disk) old new → HasTurns limit tries old.station → HasTurns limit tries new.station
-  put_turns bay name disk old new short changes has =
-      let there : turn_of (bay_of new.station bay).medium ≡ disk.words_per_track =
-      ap (λ (s : StationState). turn_of (bay_of s bay).medium) changes.exchanged.becomes
-      ∙ ap (λ (b : Bay). turn_of b.medium) (bay_set old.station bay (fresh_bay (Some disk))) in
-      changed_turns bay name (Some disk) old new (omega (arith, there, short)) changes has
+  put_turns bay name disk old new short changes has = grind (arith, bay_set, changed_turns)
 
   acks_turns : (bay : ℕ) (old : StationState) (called : Result (Unit {0}) Code) (new : StationState) → AcksDrive bay old called new
       → HasTurns limit tries old → HasTurns limit tries new
-  acks_turns bay old (Ok u) new drive has =
-      let done = drive.done refl in
-      kept_turns limit tries old new bay _ (sym (ap turn_of done.medium)) done.becomes has
+  acks_turns bay old (Ok u) new drive has = grind (arith, kept_turns)
   acks_turns bay old (Err code) new drive has = kept_turns limit tries old new bay (fresh_bay (bay_of old bay).medium) refl drive.refused.becomes has
 
   ack_turns : (good : Bool) (bay : ℕ) (old : StationState) (called : Result (Unit {0}) Code) (new : StationState)
@@ -150,9 +140,7 @@ module _ (limit : Two ℕ) (tries : ℕ) where
   does_turns old new told after (request.BlankDd bay name cylinders) answer fair does has = changed_turns bay (Some name) _ old new fair does.2 has
   does_turns old new told after (request.Eject bay) answer fair does has = changed_turns bay None None old new (omega arith) does.1.4 has
   does_turns old new told after (request.Ack bay) answer fair does has = ack_turns (is_bay bay) bay old.station does.1.0 new.station does.1.2 has
-  does_turns old new told after (request.Read bay key address) answer fair does has =
-      called_turns (read_refusal old.station bay key address) does.1.0 old.station new.station does.1.2
-      (read_turns bay key address old.station does.1.0 new.station) has
+  does_turns old new told after (request.Read bay key address) answer fair does has = grind (arith, called_turns, read_turns)
   does_turns old new told after (request.Write bay key address) answer fair does has =
       called_turns (write_refusal old.station bay key address) does.1.0 old.station new.station does.1.2
       (write_turns _ bay old.station does.1.0 new.station) has
@@ -180,9 +168,7 @@ module _ (limit : Two ℕ) (tries : ℕ) where
 
   pub step_turns : (old new : State) (told after : Option Files) (asked : Request) (answer : Reply) → IsFair limit tries asked new
       → Step asked old told answer new after → HasTurns limit tries old.station → HasTurns limit tries new.station
-  step_turns old new told after asked answer fair step has =
-      either (refusal_of old asked) step (λ does. does_turns old new told after asked answer fair does has)
-      (λ cause refused. becomes_turns limit tries old.station new.station refused.same.stays has)
+  step_turns old new told after asked answer fair step has = grind (arith, either, does_turns, becomes_turns)
 
 -- ---- Courses.
 

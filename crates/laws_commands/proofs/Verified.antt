@@ -27,25 +27,12 @@ standard_all disk =
 
 -- the file of a name is the image of only one disk
 pub one_image : (files : Files) (name : List ℕ) (a b : Disk) → IsImageOf (Some files) name a → IsImageOf (Some files) name b → a ≡ b
-one_image files name a b one two = go (file_at files name) one two
-  where
-    same : (r : Result Disk ImageError) → r ≡ Ok a → r ≡ Ok b → a ≡ b
-    same r e f = cc (e, f)
-
-    go : (o : Option (List ℕ)) → IsSomeAnd o (λ bytes. (length bytes ≤ most_image_bytes) × (image_of bytes ≡ Ok a))
-        → IsSomeAnd o (λ bytes. (length bytes ≤ most_image_bytes) × (image_of bytes ≡ Ok b)) → a ≡ b
-    go None x y = absurd x
-    go (Some bytes) x y = same (image_of bytes) x.1 y.1
+one_image files name a b one two = grind arith
 
 -- the fields of such a disk are in range
 pub image_ranges : (files : Files) (name : List ℕ) (disk : Disk) → IsImageOf (Some files) name disk
     → (disk.cylinders ≤ 80) × (disk.heads ≤ 2) × (1 ≤ disk.cylinders) × (disk.words_per_track ≤ 16384)
-image_ranges files name disk is = go (file_at files name) is
-  where
-    go : (o : Option (List ℕ)) → IsSomeAnd o (λ bytes. (length bytes ≤ most_image_bytes) × (image_of bytes ≡ Ok disk))
-        → (disk.cylinders ≤ 80) × (disk.heads ≤ 2) × (1 ≤ disk.cylinders) × (disk.words_per_track ≤ 16384)
-    go None x = absurd x
-    go (Some bytes) x = image_range bytes disk x.1
+image_ranges files name disk is = grind (arith, image_range)
 
 -- ---- the opening
 

@@ -156,26 +156,16 @@ track_part sectors c h tally rest = records_part sectors c h (verifies_record c 
 disk_part : (disk : Disk) (tally : Tally) (rest : Tally → Script)
     → by_track disk.cylinders disk.heads (verifies_track (sectors_at disk.rate)) tally rest ≡ through verifies_key (standard_keys disk) tally rest
 unfolding standard_keys cylinder_keys
-disk_part disk tally rest =
-    let sectors = sectors_at disk.rate in
-    each_nested verifies_key 0 disk.cylinders (λ c. each 0 disk.heads (verifies_track sectors c)) (cylinder_keys sectors disk.heads)
-    (λ c now next. each_nested verifies_key 0 disk.heads (verifies_track sectors c) (track_keys sectors c) (track_part sectors c) now next) tally rest
+disk_part disk tally rest = search (each_nested, track_part)
 
 pub keys_pass : (ended : Status) → IsWhole ended → (disk : Disk)
     → Passes ended (by_track disk.cylinders disk.heads (verifies_track (sectors_at disk.rate)) no_reads) (Verifies (standard_keys disk) no_reads)
-keys_pass ended whole disk rest old course new runs =
-    keys_run ended whole rest new (standard_keys disk) no_reads old course
-    (subst (λ (s : Script). RunsScript s old course new ended) (disk_part disk no_reads rest) runs)
+keys_pass ended whole disk rest old course new runs = grind (arith, keys_run, disk_part)
 
 -- how many keys there are
 length_same : {X Y : Type 0} (f : X → List Y) (k : ℕ) (xs : List X) → ((x : X) → length (f x) ≡ k) → length (flat_map f xs) ≡ length xs * k
 length_same f k [] each = let none : length (flat_map f []) ≡ 0 = refl in omega (arith, none)
-length_same f k (x ∷ xs) each =
-    let here = each x in
-    let rest = length_same f k xs each in
-    let size = length-append (f x) (flat_map f xs) in
-    let product = suc-mul (length xs) k in
-    omega (arith, here, rest, size, product)
+length_same f k (x ∷ xs) each = grind (arith, length-append, suc-mul, length_same f k xs each)
 
 pub standard_count : (disk : Disk) → length (standard_keys disk) ≡ sectors_of (shape_of disk)
 unfolding standard_keys cylinder_keys

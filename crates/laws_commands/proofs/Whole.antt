@@ -22,7 +22,7 @@ use Rattle.laws_commands.proofs.RescueRecords.{asked_all, asked_distinct, shape_
 use Rattle.laws_commands.proofs.RescueLog.{logs_again, only_of}
 use Rattle.laws_commands.proofs.StoredFiles.{stores_both, stands_under, image_there, log_stands}
 use Rattle.laws_commands.proofs.RescueGiven.{IsAtHand, IsGivenOf, keys_give}
-use Rattle.laws_commands.proofs.Telling.{lost_keys, tells_keys}
+use Rattle.laws_commands.proofs.Telling.{told_lost, told_failing, keys_told}
 
 -- ---- the new log
 
@@ -57,9 +57,7 @@ module _ (log : List ℕ) (asked : ℕ) (lines : List LogLine) (old : World) (co
 -- a last line with another status than 0 or 1 isn't such an end
 ends_not : (line : List (List ℕ)) (wanted : Status) (old : World) (course : List Taken) (new : World) (ended : Status)
     → IsEndStatus ended → (IsEndStatus wanted → ⊥) → RunsScript (Ends line wanted) old course new ended → ⊥
-ends_not line wanted old course new ended whole bad runs =
-    let last = last_run line wanted old course new ended runs in
-    bad (subst IsEndStatus (prints_status old.report line wanted ended new.report (not_put ended whole) last.1.report).1 whole)
+ends_not line wanted old course new ended whole bad runs = grind (arith, last_run, prints_status, not_put)
 
 -- what comes after the records, with the lines of those that weren't read
 abbrev Behind : List ℕ → List Chrn → List LogLine → Script
@@ -168,9 +166,7 @@ module _ (from to log : List ℕ) (disk : Disk) (files : Files) (old : World) (c
 -- no step of the course reads a key
 plain_reads : (course : List Taken) → list_all is_plain (requests_of course) ≡ true → (key : Chrn) → SomeStep (ReadsKey key) course → ⊥
 plain_reads [] e key some = some
-plain_reads (taken ∷ later) e key (inl here) =
-    let both = and_both (is_plain taken.asked) (list_all is_plain (requests_of later)) e in
-    true≢false (sym both.0 ∙ ap is_plain here.1)
+plain_reads (taken ∷ later) e key (inl here) = grind (arith, and_both)
 plain_reads (taken ∷ later) e key (inr there) =
     let both = and_both (is_plain taken.asked) (list_all is_plain (requests_of later)) e in
     plain_reads later both.1 key there
@@ -190,9 +186,7 @@ writes_join (taken ∷ one) two = let rest = writes_join one two in omega (arith
 
 log_join : (one two : List Taken) → log_of (one ++ two) ≡ log_of one ++ log_of two
 log_join [] two = refl
-log_join (taken ∷ one) two =
-    ap (λ (row : List LogLine). line_at taken.asked taken.answer ++ row) (log_join one two)
-    ∙ sym (append_assoc (line_at taken.asked taken.answer) (log_of one) (log_of two))
+log_join (taken ∷ one) two = grind (arith, log_join one two)
 
 -- a course in which nothing was refused has no log lines
 done_lines : (course : List Taken) → has_refusal course ≡ false → log_of course ≡ []
@@ -270,19 +264,10 @@ module _ (from to log : List ℕ) (disk : Disk) (found : Option (List LogLine)) 
 
   -- the log lines of the whole course are those of the records
   pub log_is : log_of course ≡ log_of p.body
-  log_is =
-      ap log_of p.is ∙ log_join p.top (p.body ++ p.last) ∙ ap (λ (row : List LogLine). row ++ log_of (p.body ++ p.last)) (done_lines p.top p.opens.done)
-      ∙ log_join p.body p.last ∙ ap (λ (row : List LogLine). log_of p.body ++ row) (done_lines p.last p.ejects.done) ∙ append-nil (log_of p.body)
+  log_is = grind (arith, log_join, done_lines, append-nil)
 
   counted : count_writes course + length (log_of course) ≡ length keys
-  counted =
-      let first = plain_writes p.top top_plain in
-      let more = plain_writes p.last last_plain in
-      let above : count_writes course ≡ count_writes p.top + count_writes (p.body ++ p.last) = ap count_writes p.is ∙ writes_join p.top (p.body ++ p.last) in
-      let below = writes_join p.body p.last in
-      let lines = ap (λ (row : List LogLine). length row) log_is in
-      let all = keys_counted keys p.opened p.body p.rescued p.goes in
-      omega (arith, above, below, first, more, lines, all)
+  counted = grind (arith, plain_writes, top_plain, last_plain, writes_join, log_is, keys_counted)
 
   -- the reads of the whole course are those of the records
   inner : (P : Taken → Type 0) (key : Chrn) → ((taken : Taken) → P taken → ReadsKey key taken) → SomeStep P course → SomeStep P p.body
@@ -304,17 +289,15 @@ module _ (from to log : List ℕ) (disk : Disk) (found : Option (List LogLine)) 
       (plain_keep requests (opening_plain from to (shape_of disk) (is_some found)))
 
   pub fell_rescued : Fell p.rescued new
-  fell_rescued =
-      subst (λ (s : State). NeverFell p.rescued.state.station.counters s.station.counters) (sym p.stores.state)
-      (never_fell p.rescued.state p.ejected.state p.rescued.files p.ejected.files (request.Eject 1 ∷ []) p.last p.ejects refl)
+  fell_rescued = grind (arith, never_fell)
 
   pub fell_opened : Fell p.opened new
-  fell_opened = fell_both p.opened p.rescued new (keys_fell keys p.opened p.body p.rescued p.goes) fell_rescued
+  fell_opened = fell_both p.opened p.rescued new (keys_fell p.goes) fell_rescued
 
   -- a record that wasn't asked for wasn't read
   unread : (key : Chrn) → (Contains keys key → ⊥) → WasNotRead course key
   unread key never deleted content some =
-      let reads = keys_read keys (asked_distinct disk files log found there) p.opened p.body p.rescued p.goes in
+      let reads = keys_read p.goes (asked_distinct disk files log found there) in
       let gave = gave_reads key deleted content in
       let at = index_of key keys (reads.only key (some_apart _ (ReadsKey key) p.body gave (inner _ key gave some))) in
       never (at.0, at.1, at.2 key)
@@ -336,7 +319,7 @@ module _ (from to log : List ℕ) (disk : Disk) (found : Option (List LogLine)) 
     settles key either = record {
       either = either;
       never_both = λ logged kept.
-          let reads = keys_read keys (asked_distinct disk files log found there) p.opened p.body p.rescued p.goes in
+          let reads = keys_read p.goes (asked_distinct disk files log found there) in
           let refused : (taken : Taken) → WasRefused key logged.code taken → ReadsKey key taken = λ taken is. (0x10000, is.0) in
           let gave = gave_reads key kept.deleted kept.content in
           let one = reads.once key _ _ refused gave (inner _ key refused logged.read) (inner _ key gave kept.read) in
@@ -352,22 +335,16 @@ module _ (from to log : List ℕ) (disk : Disk) (found : Option (List LogLine)) 
           medium = first_in from to disk files (is_some found) old.state p.opened.state p.opened.files p.top image p.opens;
           size = has.size;
         } in
-        keys_give disk sure keys p.opened p.body p.rescued p.goes (asked_all disk files log found few.0 few.1 there) hand calm
+        keys_give disk sure p.goes (asked_all disk files log found few.0 few.1 there) hand calm
         key deleted content (inner _ key (gave_reads key deleted content) some)
 
     is_stored : new.files ≡ stored (stored (Some files) to (file_of saves.final)) log (log_text (log_of course))
-    is_stored =
-        p.stores.stores ∙ ap (λ (f : Option Files). stored f log (log_text (log_of p.body))) disk_stored
-        ∙ ap (λ (row : List LogLine). stored (stored (Some files) to (file_of saves.final)) log (log_text row)) (sym log_is)
+    is_stored = grind (arith, disk_stored, saves, log_is)
 
     -- the next run finds the new log
     log_again : IfSome new.files (λ files. file_at files log ≡ Some (log_text (log_of course)))
         → IsLogFound new.files log (sectors_at disk.rate) (Some (log_of course))
-    log_again stands =
-        let few = image_ranges files from disk image in
-        let is = logs_again disk files log few.0 few.1 found there p.opened p.body p.rescued p.goes p.refused in
-        let at_end = subst (λ (row : List LogLine). IsLog (sectors_at disk.rate) row × (length (log_text row) ≤ most_log_bytes)) (sym log_is) is in
-        log_stands new.files log (sectors_at disk.rate) (log_of course) stands at_end.0 at_end.1
+    log_again stands = grind (arith, image_ranges, image, logs_again, found, log_is, log_stands)
 
     is_rescue : to ≢ log → IsDiskette disk target found start → KeepsEntries found course target saves.final
         → IsRescue disk target to log files old course new ended
@@ -392,7 +369,7 @@ module _ (from to log : List ℕ) (disk : Disk) (found : Option (List LogLine)) 
             log_there = both.1;
             log_found = log_again both.1;
             settled = All-weaker _ (IsSettled course saves.final (log_of course)) settles keys (All-from_recursion _ keys saves.settled);
-            asked = subst (λ (row : List LogLine). All (Contains keys) (logged_keys row)) lines (only_of keys p.opened p.body p.rescued p.goes);
+            asked = subst (λ (row : List LogLine). All (Contains keys) (logged_keys row)) lines (only_of p.goes);
             unasked = unread;
             kept = keeps;
             given = λ key deleted content some. (given_of ⊥ (λ never. absurd never) key deleted content some).field;
@@ -413,7 +390,7 @@ module _ (from to log : List ℕ) (disk : Disk) (found : Option (List LogLine)) 
         let line = subst (λ (row : List LogLine). Contains row (record { key = key; code = logged.code })) none logged.line in
         absurd (omega (arith, line.1))
     same_sector regular faultless none key (inr saved) =
-        let body = keys_fell keys p.opened p.body p.rescued p.goes in
+        let body = keys_fell p.goes in
         let end = fell_rescued in
         let part : IsFaultless 0 p.opened.state.station.counters p.rescued.state.station.counters =
         (omega (arith, fell_top.first, end.first, faultless.0), omega (arith, end.first, faultless.1)) in
@@ -431,7 +408,7 @@ module _ (from to log : List ℕ) (disk : Disk) (found : Option (List LogLine)) 
         steps = outer;
         lines_are = λ line some. subst (λ (row : List LogLine). Contains row line) (sym log_is) some;
       } in
-      saves_keys laid_tidy disk course (log_of course) keys start p.opened p.body p.rescued p.goes part
+      saves_keys laid_tidy disk course (log_of course) start p.goes part
       (asked_all disk files log found few.0 few.1 there) (asked_distinct disk files log found there)
       has.regular has.size has.medium unmarked (omega (arith, fell_top.second, fell.second, faultless.0), omega (arith, fell.second, faultless.1))
 
@@ -487,10 +464,11 @@ module _ (from to log : List ℕ) (disk : Disk) (found : Option (List LogLine)) 
   pub logs_exactly : IsUndisturbed 0 old.state.station.counters new.state.station.counters → IsUnmistaken disk → LogsNotFound disk log files course new
   logs_exactly quiet unmistaken =
       let few = image_ranges files from disk image in
-      let body = keys_fell keys p.opened p.body p.rescued p.goes in
+      let body = keys_fell p.goes in
       let parts = quiet_parts old.state.station.counters p.opened.state.station.counters new.state.station.counters fell_top fell_opened quiet in
       let calm = quiet_parts p.opened.state.station.counters p.rescued.state.station.counters new.state.station.counters body fell_rescued parts.1 in
       let first = holds_first from to disk files (is_some found) old.state p.opened.state p.opened.files p.top image p.opens parts.0 in
+      let told = keys_told disk few.0 few.1 unmistaken first.0 p.goes (asked_all disk files log found few.0 few.1 there) first.1 calm.0 in
       record {
         found = found;
         there = there;
@@ -498,10 +476,8 @@ module _ (from to log : List ℕ) (disk : Disk) (found : Option (List LogLine)) 
             (p.stores.stores ∙ ap (λ (row : List LogLine). stored p.ejected.files log (log_text row)) (sym log_is));
         lost = subst (λ (row : List LogLine). All (IsNotFound disk) (logged_keys row)) (sym log_is)
             (All-map (IsNotFound disk) (λ (line : LogLine). line.key) (log_of p.body)
-            (All-from_recursion (λ (line : LogLine). IsNotFound disk line.key) (log_of p.body)
-            (lost_keys disk few.0 few.1 unmistaken first.0 keys p.opened p.body p.rescued p.goes (asked_all disk files log found few.0 few.1 there) first.1 calm.0)));
-        exactly = λ failed failing. log_is ∙ tells_keys disk few.0 few.1 unmistaken first.0 keys failed
-            p.opened p.body p.rescued p.goes (asked_all disk files log found few.0 few.1 there) failing first.1 calm.0;
+            (All-from_recursion (λ (line : LogLine). IsNotFound disk line.key) (log_of p.body) (told_lost disk keys (log_of p.body) told)));
+        exactly = λ failed failing. log_is ∙ told_failing disk keys (log_of p.body) failed told failing;
       }
 
 -- ---- both ways to begin: with a new diskette, and with that of an earlier run

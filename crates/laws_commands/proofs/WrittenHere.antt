@@ -14,9 +14,7 @@ last_change written disk (change ∷ earlier) last after changes = last_change w
 
 pub reaches_in : (written : Written) (before after : Option Disk) (disk next : Disk) (changes : List Change) → before ≡ Some disk → after ≡ Some next
     → Reaches written before changes after → ChangesDisk written disk changes next
-reaches_in written before after disk next changes e f reach =
-    let here = subst (λ (o : Option Disk). Reaches written o changes after) e reach in
-    subst (λ (o : Option Disk). Reaches written (Some disk) changes o) f here
+reaches_in written before after disk next changes e f reach = grind arith
 
 -- ---- the write
 

@@ -1,9 +1,8 @@
 -- What many lemmas cite: of numbers, truth values, phases and the latch.
 use Rattle.dma_8237.specs.Channel.{grants}
-use Rattle.fdc_phases.specs.declared.phases.Task.TheVariants.{Read}
 use Rattle.irq_events.specs.Latch.{Latch}
 use Rattle.std.proofs.Common.{◌∙◌, Option, ◌⊎◌, inl, inr, ◌≡◌, ◌+◌, ◌≤◌, ◌==◌, ◌||◌, ◌&&◌, if◌then◌else◌, Bool, true, false, refl, ℕ, nat_le, arith, [], Some, None, not}
-use Rattle.laws_machine.proofs.Common.{Channel, after_transfer, answer, after_byte, IsReadingData, fifo_told, phase_told, task_asks, Sent, is_executing, is_held, polled, Short, Long, Answer, Fdc, Command, Execute, Result, Phase, Task, Fifo, with_polls, Holds, shown, strayed_if, lined, phase_after, Ending, Results, nat_tests}
+use Rattle.laws_machine.proofs.Common.{Channel, after_transfer, answer, after_byte, IsReadingData, phase_told, task_asks, Sent, is_executing, is_held, polled, Short, Long, Answer, Fdc, Command, Execute, Result, Phase, Task, Fifo, with_polls, Holds, shown, strayed_if, lined, phase_after, Ending, Results, nat_tests, Execution, Format, Formatting, ReadId, Reading, Writing, ReadTask as Read, WriteTask as Write}
 pub use Rattle.fdc_core.proofs.drives.Facts.{if_both, different, le_true, length_more, lt_true, not_granting, number_is}
 
 pub either_is : (b : Bool) → (b ≡ true) ⊎ (b ≡ false)
@@ -26,9 +25,6 @@ pub set_over : (channel : Channel) → (channel.count == 0) ≡ true → grants 
 unfolding grants
 set_over channel last = rw (last, or_true channel.masked) refl
 
-pub zero_is : (n : ℕ) → (n == 0) ≡ true → n ≡ 0
-zero_is n h = grind (arith, nat_tests)
-
 pub some_of : (n : ℕ) → (n == 0) ≡ false → 1 ≤ n
 some_of n h = grind (arith, nat_tests)
 
@@ -36,10 +32,21 @@ pub shown_stalls : (line : Bool) (holding : Holds) → (shown line holding).stal
 shown_stalls true holding = refl
 shown_stalls false holding = refl
 
+-- what holds of the four kinds of tasks holds of each task
+pub each_task : (P : Task → Type 0) → ((search : _) → P (ReadId search)) → ((reading : Reading) → P (Read reading)) → ((writing : Writing) → P (Write writing))
+    → ((formatting : Formatting) → P (Format formatting)) → (task : Task) → P task
+each_task P identifies reads writes formats (ReadId search) = identifies search
+each_task P identifies reads writes formats (Read reading) = reads reading
+each_task P identifies reads writes formats (Write writing) = writes writing
+each_task P identifies reads writes formats (Format formatting) = formats formatting
+
+-- what TC leaves of each execution it leaves of each phase
+pub told_keeps : {V : Type 0} (F : Phase → V) → ((execution : Execution) → F (phase_told (Execute execution)) ≡ F (Execute execution)) → (phase : Phase) → F (phase_told phase) ≡ F phase
+told_keeps F keeps (Execute execution) = keeps execution
+told_keeps F keeps _ = refl
+
 pub told_busy : (phase : Phase) → is_executing (phase_told phase) ≡ is_executing phase
-told_busy Command = refl
-told_busy (Result answer) = refl
-told_busy (Execute execution) = refl
+told_busy = told_keeps is_executing (λ _. refl)
 
 -- a flag of the phase that is down where commands are taken and in short results, and in long ones whatever was taken;
 -- it stays down when the data port is read
@@ -71,14 +78,6 @@ polled_phase old = polled_keeps (λ fdc. fdc.phase) old refl
 
 pub polled_asking : (old : Fdc) → (polled old).asking ≡ old.asking
 polled_asking old = polled_keeps (λ fdc. fdc.asking) old refl
-
-pub told_on : (b : Bool) (fifo : Fifo) → (fifo_told b fifo).on ≡ fifo.on
-told_on true fifo = refl
-told_on false fifo = refl
-
-pub told_threshold : (b : Bool) (fifo : Fifo) → (fifo_told b fifo).threshold ≡ fifo.threshold
-told_threshold true fifo = refl
-told_threshold false fifo = refl
 
 pub quiet_task : (sent : Sent) (task : Task) (fifo : Fifo) → IsReadingData sent task → fifo.bytes ≡ [] → false ≡ task_asks task false fifo
 quiet_task sent (Read reading) fifo is none = rw none refl

@@ -1,8 +1,9 @@
 -- Disks, bays and stations that differ only in contents.
 use Rattle.std.proofs.Common.{◌≡◌, ◌∙◌, ℕ, Bool, true, false, List, length, refl, sym, subst, Option, Some, None}
 use Rattle.std.specs.Prelude.{is_some, ◌==◌, if◌then◌else◌}
-use Rattle.laws_program.proofs.Common.{option_map_or, Rate, Disk, IsDisk, HasTrack, track_of, Two, in_bay, with_bay, user_bytes, IsRegular, IsRegularDisk, AreAlike, unrecorded, met_on, met_in, alike_itself, alike_tracks, by_met, on_there, on_nothing, nothing_unrecorded, StationState, Bay, Becomes, bay_of, set_bay, met, State, IsRegularIn, HasRegularDisks}
+use Rattle.laws_program.proofs.Common.{option_map_or, Rate, Disk, IsDisk, HasTrack, track_of, Two, user_bytes, IsRegular, IsRegularDisk, AreAlike, unrecorded, met_on, met_in, alike_itself, alike_tracks, by_met, on_there, on_nothing, nothing_unrecorded, StationState, Bay, Becomes, bay_of, set_bay, met, State, IsRegularIn, HasRegularDisks}
 use Rattle.laws_program.proofs.Shown.{ShowSame, show_itself, none_regular, none_show}
+use Rattle.laws_program.proofs.Bays.{each_bay}
 
 -- ---- disks
 
@@ -94,11 +95,7 @@ abbrev pub AlikeStations : StationState → StationState → Type 0
 AlikeStations one two = AlikeParts one.bays one.memory one.spares two.bays two.memory two.spares
 
 pub bays_in : (one two : StationState) (bay : ℕ) → AlikeStations one two → AlikeBays (bay_of one bay) (bay_of two bay)
-bays_in one two bay same = go (bay == 0)
-  where
-    go : (b : Bool) → AlikeBays (if b then one.bays.first else one.bays.second) (if b then two.bays.first else two.bays.second)
-    go true = same.first
-    go false = same.second
+bays_in one two bay same = each_bay one.bays two.bays AlikeBays bay same.first same.second
 
 pub set_same : (one two : StationState) (bay : ℕ) (a b : Bay) → AlikeStations one two → AlikeBays a b → AlikeStations (set_bay one bay a) (set_bay two bay b)
 set_same one two bay a b same bays = go (bay == 0)
@@ -124,15 +121,6 @@ becomes_same one two one_new two_new same first second =
 
 -- the disk in a bay is regular
 pub regular_bay : (state : State) (bay : ℕ) → HasRegularDisks state → IsRegularIn (bay_of state.station bay).medium
-regular_bay state bay regular = go (bay == 0)
-  where
-    go : (b : Bool) → IsRegularIn (if b then state.station.bays.first else state.station.bays.second).medium
-    go true = regular.first
-    go false = regular.second
-
-pub in_with : {T : Type 0} (two : Two T) (bay : ℕ) (value : T) → in_bay (with_bay two bay value) bay ≡ value
-in_with {T} two bay value = go (bay == 0)
-  where
-    go : (b : Bool) → (if b then (if b then record two { first = value } else record two { second = value }).first else (if b then record two { first = value } else record two { second = value }).second) ≡ value
-    go true = refl
-    go false = refl
+regular_bay state bay regular =
+    let bays = state.station.bays in
+    each_bay bays bays (λ x y. IsRegularIn x.medium) bay regular.first regular.second

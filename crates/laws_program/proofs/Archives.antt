@@ -16,10 +16,7 @@ put_well line wanted old new (Part grows fault) = absurd fault
 
 not_stop : (cause : Stop) → status.AllOk ≡ stop_status cause → ⊥
 not_stop (stop.BadImage name error) well = absurd (cc well)
-not_stop (stop.TooLong name most) well = absurd (cc well)
-not_stop (stop.Absent name) well = absurd (cc well)
-not_stop stop.FileFault well = absurd (cc well)
-not_stop stop.NoMemory well = absurd (cc well)
+not_stop _ well = absurd (cc well)
 
 pub made_well : (Makes : Option Files → Result ℕ Halt → Option Files → Type 0) (verb : List ℕ) (before after : Outside) (outcome : Result ℕ Halt)
     → Makes before.files outcome after.files → Tells verb outcome before.report after.report status.AllOk → MakesFile Makes verb before after

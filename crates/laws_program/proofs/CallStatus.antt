@@ -1,22 +1,23 @@
 -- How a text of calls of INT 13h ends, where each file that is put in is the file of a disk.
 use Rattle.std.proofs.Common.{◌≡◌, ◌∙◌, ℕ, Bool, true, false, List, [], ◌∷◌, ◌++◌, map, Option, Some, None, Result, Ok, refl, ap, sym, subst}
 use Rattle.std.specs.Prelude.{MatchBool, length}
-use Rattle.laws_program.proofs.Common.{list_all, range_with_len, Files, Status, Chrn, both, DriveCounts, calls_of, CallLine, Request, Stop, Blames, State, is_acknowledged, StopsAt, IsAbsent, IsLonger, stop_status, Taken, IsEndStop, World, IsText, Prints, Whole, Part, IsPutFault, most_job_bytes, whole_status, Round, AreRounds, lines_of, has_refused, Breaks, AtStop, AtPut, ServesCalls, ServesParsed, ServesLines, Through, Broken, world, DoesOrStarves, AsAsked, StarvesWords, Stand, RanOver, and_both, AnswersCalls, EndsAnswered, IsDiskFile, Names, named_by, HoldsBy, InsertsDisks, requests_among, IsEndStatus}
+use Rattle.laws_program.proofs.Common.{list_all, range_with_len, Files, Status, Chrn, both, DriveCounts, calls_of, CallLine, Request, Stop, State, is_acknowledged, StopsAt, Taken, IsEndStop, World, IsText, Round, AreRounds, lines_of, has_refused, Breaks, AtStop, AtPut, ServesCalls, ServesParsed, ServesLines, Through, Broken, world, DoesOrStarves, AsAsked, StarvesWords, Stand, RanOver, and_both, AnswersCalls, EndsAnswered, IsDiskFile, Names, named_by, HoldsBy, InsertsDisks, requests_among, IsEndStatus}
 use Rattle.flop_base.specs.declared.answers.Status.TheVariants as status
 use Rattle.floppy_jobs.specs.declared.calls.CallLine.TheVariants as call
 use Rattle.floppy_jobs.specs.declared.request.Request.TheVariants as request
 use Rattle.bios_int13.specs.declared.work.Kind.{Kind}
-use Rattle.bios_int13.specs.declared.work.Kind.TheVariants.{Read, Write, Verify}
+use Rattle.bios_int13.specs.declared.work.Kind.TheVariants.{Read, Verify}
 use Rattle.bios_int13.specs.declared.work.Work.{Work}
 use Rattle.bios_int13.specs.declared.work.Work.TheVariants.{Answer, Changed, Move}
 use Rattle.bios_int13.specs.Services.{record_requests, record_request, record_behind, place_of_record, put_requests, put_request, MovesRecords, All, UpToOne, MovesIn, AcksAlone, DoesWork}
 use Rattle.text_commands.specs.CallRounds.{DoesLine}
 use Rattle.text_commands.specs.CallCourses.{There, Missing, TooLong, Faulty, Starved, EndStopped}
 use Rattle.floppy_words.specs.declared.form.Form.TheVariants as form
-use Rattle.laws_program.proofs.Telling.{EndsBy, end_by}
+use Rattle.laws_program.proofs.Telling.{EndsAs, whole_as, put_as, stop_as, prints_as, ends_so}
 use Rattle.laws_program.proofs.Inserting.{IsKept}
-use Rattle.laws_program.proofs.KeptSteps.{keeps_media, same_kept, media_kept, step_kept, course_kept}
-use Rattle.laws_program.proofs.PlayStatus.{kept_stop, same_text, text_there, text_short, begins_kept}
+use Rattle.laws_program.proofs.KeptSteps.{same_kept, media_kept, step_kept, course_kept}
+use Rattle.laws_program.proofs.Stepping.{keeps_media}
+use Rattle.laws_program.proofs.PlayStatus.{kept_stop, same_text, not_absent, not_long, begins_kept}
 use Rattle.laws_program.proofs.Calls.{int13_answers}
 
 -- ---- the requests of a call keep the media
@@ -27,8 +28,7 @@ all_keep f each (i ∷ later) = rw (each i, all_keep f each later) refl
 
 record_keeps : (kind : Kind) (bay address : ℕ) (key : Chrn) → keeps_media (record_request kind bay key address) ≡ true
 record_keeps Read bay address key = refl
-record_keeps Write bay address key = refl
-record_keeps Verify bay address key = refl
+record_keeps kind bay address key = refl
 
 records_keep : (kind : Kind) (bay : ℕ) (first : Chrn) (address count : ℕ) → list_all keeps_media (record_requests kind bay first address count) ≡ true
 unfolding record_requests
@@ -115,80 +115,41 @@ rounds_stop asked later cause mid new files after kept_mid stops (round ∷ rest
 -- ---- the whole text
 
 -- a status 0 or 1, or one that the outside gives
+abbrev Any : Bool → Type 0
+Any flag = Unit {0}
+
 abbrev IsAnswered : Status → Type 0
-IsAnswered status.AllOk = Unit {0}
-IsAnswered status.SomeRefused = Unit {0}
-IsAnswered status.NoMemory = Unit {0}
-IsAnswered status.FileFault = Unit {0}
-IsAnswered status.SinkFault = Unit {0}
-IsAnswered _ = ⊥
-
-outside_answered : (ended : Status) → EndsBy false ended → IsAnswered ended
-outside_answered status.BadImage ends = ends
-outside_answered status.Absent ends = ends
-outside_answered status.BadJob ends = ends
-outside_answered status.BadWords ends = ends
-outside_answered _ ends = tt
-
-put_answered : (ended : Status) → IsPutFault ended → IsAnswered ended
-put_answered status.NoMemory fault = tt
-put_answered status.SinkFault fault = tt
-put_answered _ fault = absurd fault
-
-prints_answered : (line : List (List ℕ)) (wanted : Status) (old new : Option (List (List ℕ))) (ended : Status) → Prints line wanted old new ended → IsAnswered wanted
-    → IsAnswered ended
-prints_answered line wanted old new ended (Whole is well) by = subst IsAnswered (sym well) by
-prints_answered line wanted old new ended (Part grows fault) by = put_answered ended fault
-
-whole_answered : (refused : Bool) → IsAnswered (whole_status refused)
-whole_answered true = tt
-whole_answered false = tt
-
-stop_answered : (cause : Stop) → IsEndStop cause → IsAnswered (stop_status cause)
-stop_answered cause only = outside_answered (stop_status cause) (end_by false cause only)
+IsAnswered ended = EndsAs Any ended
 
 module _ (Holds : List ℕ → Type 0) (names : Names) where
   lines_by : (lines : List CallLine) (old : World) (course : List Taken) (new : World) (ended : Status) → InsertsDisks Holds names (requests_among lines)
       → IsKept Holds names old.state old.files → ServesLines lines old course new ended → IsAnswered ended
-  lines_by lines old course new ended inserts kept (Through is) = subst IsAnswered (sym is.status) (whole_answered (has_refused is.rounds))
+  lines_by lines old course new ended inserts kept (Through is) = subst IsAnswered (sym is.status) (whole_as Any (has_refused is.rounds) tt)
   lines_by lines old course new ended inserts kept (Broken is) = broken is.breaks
     where
       broken : Breaks is.kept is.line is.mid is.last new ended → IsAnswered ended
       broken (AtStop asked cause line nothing stops prints) =
           let parts = is.parts ∙ ap (λ (row : List CallLine). row ++ is.line ∷ is.later) is.served.all
           ∙ ap (λ (l : CallLine). lines_of is.rounds ++ l ∷ is.later) line in
-          prints_answered _ _ _ _ ended prints
-          (stop_answered cause
+          prints_as Any _ _ _ _ ended prints
+          (λ well. stop_as Any cause
           (rounds_stop asked is.later cause is.mid.state new.state is.mid.files new.files is.kept stops is.rounds Holds names 0 old.state old.files
           is.served.served (subst (λ (l : List CallLine). InsertsDisks Holds names (requests_among l)) parts inserts) kept))
-      broken (AtPut round does last after grows fault) = put_answered ended fault
-  lines_by lines old course new ended inserts kept (EndStopped is) = subst IsAnswered (sym is.status) (stop_answered is.cause is.only)
+      broken (AtPut round does last after grows fault) = put_as Any ended fault
+  lines_by lines old course new ended inserts kept (EndStopped is) = subst IsAnswered (sym is.status) (stop_as Any is.cause is.only)
 
 calls_by : (name : List ℕ) (files : Files) (text : List ℕ) (lines : List CallLine) (old : World) (course : List Taken) (new : World) (ended : Status)
     → old.files ≡ Some files → IsText (Some files) name text → calls_of text ≡ Ok lines
     → InsertsDisks (IsDiskFile (Some files)) (both None) (requests_among lines) → IsKept (IsDiskFile (Some files)) (both None) old.state old.files
     → ServesCalls name old course new ended → IsAnswered ended
 calls_by name files text lines old course new ended told is spells inserts kept (There there) =
-    let same = same_text files name there.text text (subst (λ (f : Option Files). IsText f name there.text) told there.told) is in
     lines_by (IsDiskFile (Some files)) (both None) lines old course new ended inserts kept
-    (subst (λ (parsed : Result (List CallLine) ℕ). ServesParsed parsed old course new ended) (ap calls_of same ∙ spells) there.serves)
-calls_by name files text lines old course new ended told is spells inserts kept (Missing absent tells) =
-    absurd (text_there files name text is (subst (λ (f : Option Files). IsAbsent f name) told absent))
-calls_by name files text lines old course new ended told is spells inserts kept (TooLong longer tells) =
-    absurd (text_short files name text is (subst (λ (f : Option Files). IsLonger f name most_job_bytes) told longer))
+    (subst (λ (parsed : Result (List CallLine) ℕ). ServesParsed parsed old course new ended)
+    (ap calls_of (same_text files name text old.files told is there.text there.told) ∙ spells) there.serves)
+calls_by name files text lines old course new ended told is spells inserts kept (Missing absent tells) = absurd (not_absent files name text old.files told is absent)
+calls_by name files text lines old course new ended told is spells inserts kept (TooLong longer tells) = absurd (not_long files name text old.files told is longer)
 calls_by name files text lines old course new ended told is spells inserts kept (Faulty nothing idle) = subst IsAnswered (sym idle.status) tt
 calls_by name files text lines old course new ended told is spells inserts kept (Starved nothing idle) = subst IsAnswered (sym idle.status) tt
-
--- such a status, with the faults of the outside counted
-counted_answered : (Such : Type 0) (old new : Stand) (ended : Status) → Blames (ended ≡ status.FileFault) old.outside.shelf_faults new.outside.shelf_faults
-    → Blames (ended ≡ status.SinkFault) old.outside.sink_faults new.outside.sink_faults → IsAnswered ended
-    → (IsEndStatus ended → Such) → EndsAnswered Such old new ended
-counted_answered Such old new status.AllOk shelf sink ends such = such tt
-counted_answered Such old new status.SomeRefused shelf sink ends such = such tt
-counted_answered Such old new status.NoMemory shelf sink ends such = tt
-counted_answered Such old new status.FileFault shelf sink ends such = shelf.rose refl
-counted_answered Such old new status.SinkFault shelf sink ends such = sink.rose refl
-counted_answered Such old new _ shelf sink ends such = ends
 
 pub int13_ends : (name : List ℕ) (spares : List DriveCounts) (old new : Stand) (ended : Status) (files : Files) (text : List ℕ) (lines : List CallLine)
     → old.outside.outside.files ≡ Some files → IsText (Some files) name text → calls_of text ≡ Ok lines
@@ -199,7 +160,9 @@ int13_ends name spares old new ended files text lines told is spells inserts ran
     let over = ran.runs in
     let first = world over.start old.outside.outside.files old.outside.outside.report in
     let last = world over.last new.outside.outside.files new.outside.outside.report in
-    counted_answered (AnswersCalls name first over.runs.course last ended) old new ended ran.shelf_faults ran.sink_faults (go over.runs.does)
+    let answers = AnswersCalls name first over.runs.course last ended in
+    ends_so Any (λ s. (IsEndStatus s → answers) → EndsAnswered answers old new s) ended (λ fine told. told tt) (λ refused told. told tt) (λ told. tt)
+    (λ is told. ran.shelf_faults.rose is) (λ is told. ran.sink_faults.rose is) (go over.runs.does)
     (λ whole. int13_answers name spares old.board new.board old.outside.outside new.outside.outside ended over whole)
   where
     go : DoesOrStarves (form.Int13 name) (world ran.runs.start old.outside.outside.files old.outside.outside.report) ran.runs.runs.course

@@ -1,9 +1,10 @@
 -- What a text of calls of INT 13h prints.
-use Rattle.std.proofs.Common.{◌≡◌, ◌∙◌, ℕ, List, Result, Ok, Err, Some, refl, subst}
-use Rattle.laws_program.proofs.Common.{Status, DriveCounts, Board, calls_of, CallLine, Taken, World, IsText, Breaks, AtStop, AtPut, ServesCalls, ServesParsed, ServesLines, Through, Broken, Outside, DoesOrStarves, AsAsked, StarvesWords, world, RunsOver, IsEndStatus, not_put, AnswersCalls}
+use Rattle.std.proofs.Common.{◌≡◌, ◌∙◌, ℕ, List, Result, Ok, Err, Some, refl}
+use Rattle.laws_program.proofs.Common.{Status, DriveCounts, Board, calls_of, CallLine, Taken, World, IsText, Breaks, AtStop, AtPut, ServesCalls, ServesParsed, ServesLines, Through, Broken, Outside, world, RunsOver, IsEndStatus, not_put, AnswersCalls}
 use Rattle.flop_base.specs.declared.answers.Status.TheVariants as status
 use Rattle.text_commands.specs.CallCourses.{There, Missing, TooLong, Faulty, Starved, EndStopped}
 use Rattle.floppy_words.specs.declared.form.Form.TheVariants as form
+use Rattle.laws_program.proofs.OfForms.{asked_whole}
 use Rattle.laws_program.proofs.Plays.{put_end, no_stop_end, no_end}
 
 module _ (name : List ℕ) (old : World) (course : List Taken) (new : World) (ended : Status) (whole : IsEndStatus ended) where
@@ -42,13 +43,10 @@ module _ (name : List ℕ) (old : World) (course : List Taken) (new : World) (en
   calls_answered (Faulty nothing idle) = absurd (no_end status.FileFault ended whole idle.status (λ e. e))
   calls_answered (Starved nothing idle) = absurd (no_end status.NoMemory ended whole idle.status (λ e. e))
 
-does_answered : (name : List ℕ) (old : World) (course : List Taken) (new : World) (ended : Status) → IsEndStatus ended
-    → DoesOrStarves (form.Int13 name) old course new ended → AnswersCalls name old course new ended
-does_answered name old course new ended whole (AsAsked does) = calls_answered name old course new ended whole does
-does_answered name old course new ended whole (StarvesWords nothing idle) = absurd (subst IsEndStatus idle.status whole)
-
 pub int13_answers : (name : List ℕ) (spares : List DriveCounts) (old new : Board) (before after : Outside) (ended : Status)
     → (over : RunsOver (Some (form.Int13 name)) old spares before new after ended) → IsEndStatus ended
     → AnswersCalls name (world over.start before.files before.report) over.runs.course (world over.last after.files after.report) ended
 int13_answers name spares old new before after ended over whole =
-    does_answered name (world over.start before.files before.report) over.runs.course (world over.last after.files after.report) ended whole over.runs.does
+    let first = world over.start before.files before.report in
+    let last = world over.last after.files after.report in
+    calls_answered name first over.runs.course last ended whole (asked_whole (form.Int13 name) first last over.runs.course ended whole over.runs.does)

@@ -23,7 +23,7 @@ both_ways {X} R P Q A B one two same first second taken refused = go one first (
     go None a b next = next refl a b
     go (Some x) a b next = refused x a b
 
-both_tests : (R P Q A B : Type 0) (test : Bool) → MatchBool test P A → MatchBool test Q B → (P → Q → R) → (A → B → R) → R
+pub both_tests : (R P Q A B : Type 0) (test : Bool) → MatchBool test P A → MatchBool test Q B → (P → Q → R) → (A → B → R) → R
 both_tests R P Q A B true a b taken refused = taken a b
 both_tests R P Q A B false a b taken refused = refused a b
 

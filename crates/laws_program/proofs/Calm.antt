@@ -1,20 +1,16 @@
 -- Calls that nothing disturbed.
-use Rattle.std.proofs.Common.{arith, ◌+◌, ◌<◌, ℕ, Bool, true, false}
-use Rattle.std.specs.Prelude.{◌==◌, if◌then◌else◌}
+use Rattle.std.proofs.Common.{arith, ◌+◌, ◌<◌, ℕ}
 use Rattle.laws_program.proofs.Common.{last_count, RoseBy, Counters, GoesOn, IsUndisturbed, IsFaultless, DisturbedLess, FaultsRoseBy, FaultsRoseLess, spoilable}
 use Rattle.flop_base.proofs.Counted.{faults_go_on}
+use Rattle.laws_program.proofs.Bays.{each_bay}
 
 -- a call is undisturbed in any bay, if it is so in both
 pub calm_bay : (bay : ℕ) (old new : Counters) → IsUndisturbed 0 old new → IsUndisturbed 1 old new → IsUndisturbed bay old new
-calm_bay bay old new first second = record { faults = few (bay == 0); stalls = first.stalls; together = all (bay == 0) }
-  where
-    few : (b : Bool) → (if b then new.drives.first else new.drives.second).faults < last_count
-    few true = first.faults
-    few false = second.faults
-
-    all : (b : Bool) → (if b then new.drives.first else new.drives.second).faults + new.stalls < (if b then old.drives.first else old.drives.second).faults + old.stalls + 1
-    all true = first.together
-    all false = second.together
+calm_bay bay old new first second = record {
+  faults = each_bay new.drives new.drives (λ drive other. drive.faults < last_count) bay first.faults second.faults;
+  stalls = first.stalls;
+  together = each_bay new.drives old.drives (λ drive was. drive.faults + new.stalls < was.faults + old.stalls + 1) bay first.together second.together;
+}
 
 module _ (bay : ℕ) (old new : Counters) (calm : IsUndisturbed bay old new) (goes : GoesOn old new) where
   pub no_faults : IsFaultless bay old new

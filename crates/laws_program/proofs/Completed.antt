@@ -17,7 +17,7 @@ use Rattle.disk_commands.specs.Export as export
 use Rattle.disk_commands.specs.Exercise.{exercise_script, no_work, counted, reads_work, writes_work, works_drawn, works_behind, works}
 use Rattle.disk_commands.specs.Exercise as exercise
 use Rattle.disk_commands.specs.Workload.{number_after}
-use Rattle.laws_program.proofs.Telling.{EndsBy, Came, NeverInserts, end_by, IsFaithful, prints_by, script_tells, opens_tells, needs_tells, PartTells, PartEnds, carries_tells, acknowledges_tells, each_tells, tracks_tell}
+use Rattle.laws_program.proofs.Telling.{EndsBy, Came, NeverInserts, stop_as, Is, IsFaithful, prints_as, script_tells, opens_tells, needs_tells, PartTells, PartEnds, carries_tells, acknowledges_tells, each_tells, tracks_tell}
 
 pub blank_never : (bay : ℕ) (name : List ℕ) (count : ℕ) (rate : Rate) → NeverInserts (blank_request bay name count rate)
 blank_never bay name count R500 = λ other named e. absurd (cc e)
@@ -68,9 +68,7 @@ copy_by from to files disk old new course ended told image runs =
 tells_either : (key : Chrn) (answer : Reply) (refused : Bool) → PartTells (λ none. refused) refused (tells_failure key answer)
 unfolding tells_failure says
 tells_either key (reply.Refused cause) refused rest is = is tt
-tells_either key reply.Done refused rest is = is tt
-tells_either key reply.DoneDeleted refused rest is = is tt
-tells_either key (reply.Bytes address content) refused rest is = is tt
+tells_either key answer refused rest is = is tt
 
 verified_by : (c h r : ℕ) (tally : Tally) → PartTells (λ (tally : Tally). tally.refused) tally.refused (verifies_record c h r tally)
 unfolding verifies_record asks
@@ -122,7 +120,8 @@ import_found flat name bytes files at (Ok (row, rate)) old new course ended told
     carries_tells (request.Eject 0) (λ bay name e. absurd (cc e)) _ (λ none. refl))))) runs
 import_found flat name bytes files at (Err cause) old new course ended told is not runs =
     let only = taken_flat files flat bytes at cause is (subst (λ (f : Option Files). IsNotTaken f flat cause) told not) in
-    prints_by (has_refusal course) _ _ _ _ ended (last_run _ (stop_status cause) old course new ended runs).1.report (end_by (has_refusal course) cause only)
+    prints_as (Is (has_refusal course)) _ _ _ _ ended (last_run _ (stop_status cause) old course new ended runs).1.report
+    (λ well. stop_as (Is (has_refusal course)) cause only)
 
 pub import_by : (flat name bytes : List ℕ) (files : Files) (at : Rate) (old new : World) (course : List Taken) (ended : Status)
     → old.files ≡ Some files → IsFlatFile (Some files) flat bytes at → Imports flat name old course new ended → EndsBy (has_refusal course) ended

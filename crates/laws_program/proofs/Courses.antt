@@ -1,9 +1,101 @@
 -- The course of a subcommand (form) is a run of the sector model.
-use Rattle.std.proofs.Common.{◌≡◌, ◌∙◌, ℕ, List, [], ◌∷◌, ◌++◌, Option, Some, Result, Ok, Err, refl, ap, sym, subst, append-nil}
-use Rattle.laws_program.proofs.Common.{Files, Status, DriveCounts, Board, Request, CallLine, State, Taken, Run, World, Plays, There, Missing, TooLong, Faulty, Starved, PlaysParsed, PlaysRequests, Played, Stopped, BrokenOff, EndStopped, Script, RunsScript, HasRun, script_ran, run_both, Breaks, AtStop, AtPut, course_of, ServesCalls, ServesParsed, ServesLines, line_run, rounds_run, Outside, Form, world, DoesForm, DoesOrStarves, AsAsked, StarvesWords, RunsOver}
+use Rattle.std.proofs.Common.{[], ◌≡◌, ◌∙◌, ℕ, List, ◌∷◌, ◌++◌, Option, Some, Result, Ok, Err, refl, ap, sym, subst, append-nil}
+use Rattle.laws_program.proofs.Common.{Files, Status, DriveCounts, Board, Request, Stop, CallLine, State, StopsAt, Taken, Run, EndStopsAt, World, Plays, There, Missing, TooLong, Faulty, Starved, PlaysParsed, PlaysRequests, Played, Stopped, BrokenOff, EndStopped, Script, RunsScript, HasRun, script_ran, run_both, Breaks, AtStop, AtPut, course_of, ServesCalls, ServesParsed, ServesLines, line_run, rounds_run, Outside, Form, world, DoesForm, DoesOrStarves, AsAsked, StarvesWords, RunsOver}
+use Rattle.sector_model.specs.Runs.{Ends}
 use Rattle.commands.proofs.Running as has
 use Rattle.text_commands.specs.CallCourses as calls
 use Rattle.floppy_words.specs.declared.form.Form.TheVariants as form
+
+-- ---- jobs and calls: a run, and what came after its last step
+
+-- Nothing more came; or a request stopped the run; or its end stored the media that were left in; or that end stopped.
+pub data Rests (mid : State) (files : Option Files) (new : State) (after : Option Files) : Type 0 where
+  Still : new ≡ mid → after ≡ files → Rests mid files new after
+  AtRequest : (asked : Request) (cause : Stop) → StopsAt asked mid files cause new after → Rests mid files new after
+  AtEnd : Ends mid files new after → Rests mid files new after
+  AtStore : EndStopsAt mid files new after → Rests mid files new after
+
+-- the steps of the course were taken one after the other, and then one of these cases came
+pub record Went (old : World) (course : List Taken) (new : World) : Type 0 where
+  pub mid : State
+  pub files : Option Files
+  pub run : Run old.state old.files course mid files
+  pub rests : Rests mid files new.state new.files
+
+module _ (old : World) (course : List Taken) (new : World) where
+  went_by : (steps : List Taken) (mid : State) (files : Option Files) → course ≡ steps → Run old.state old.files steps mid files
+      → Rests mid files new.state new.files → Went old course new
+  went_by steps mid files is run rests = record {
+    mid = mid;
+    files = files;
+    run = subst (λ (row : List Taken). Run old.state old.files row mid files) (sym is) run;
+    rests = rests;
+  }
+
+  went_nowhere : course ≡ [] → new.state ≡ old.state → new.files ≡ old.files → Went old course new
+  went_nowhere nothing state files = went_by [] old.state old.files nothing (refl, refl) (Still state files)
+
+  went_idle : course ≡ [] → new ≡ old → Went old course new
+  went_idle nothing same = went_nowhere nothing (ap (λ (w : World). w.state) same) (ap (λ (w : World). w.files) same)
+
+  went_requests : (requests : List Request) (ended : Status) → PlaysRequests requests old course new ended → Went old course new
+  went_requests requests ended (Played is) = record { mid = is.mid; files = is.files; run = is.run; rests = AtEnd is.stored }
+  went_requests requests ended (Stopped is) = record { mid = is.mid; files = is.files; run = is.run; rests = AtRequest is.asked is.cause is.stops }
+  went_requests requests ended (BrokenOff is) =
+      went_by (is.before ++ is.last ∷ []) is.last.after new.files is.course_is
+      (run_both old.state is.mid is.last.after old.files is.files new.files is.before (is.last ∷ []) is.run (new.files, is.step, (refl, refl)))
+      (Still is.after refl)
+  went_requests requests ended (EndStopped is) = record { mid = is.mid; files = is.files; run = is.run; rests = AtStore is.stops }
+
+  went_parsed : (parsed : Result (List Request) ℕ) (ended : Status) → PlaysParsed parsed old course new ended → Went old course new
+  went_parsed (Ok requests) ended plays = went_requests requests ended plays
+  went_parsed (Err line) ended alone = went_nowhere alone.nothing alone.tells.state alone.tells.files
+
+  pub went_play : (job : List ℕ) (ended : Status) → Plays job old course new ended → Went old course new
+  went_play job ended (There is) = went_parsed _ ended is.plays
+  went_play job ended (Missing absent alone) = went_nowhere alone.nothing alone.tells.state alone.tells.files
+  went_play job ended (TooLong longer alone) = went_nowhere alone.nothing alone.tells.state alone.tells.files
+  went_play job ended (Faulty nothing idle) = went_idle nothing idle.same
+  went_play job ended (Starved nothing idle) = went_idle nothing idle.same
+
+  went_broken : (kept : ℕ) (line : CallLine) (mid : World) (before last : List Taken) (ended : Status)
+      → Run old.state old.files before mid.state mid.files → Breaks kept line mid last new ended → course ≡ before ++ last → Went old course new
+  went_broken kept line mid before last ended run (AtStop asked cause is nothing stops prints) whole =
+      went_by before mid.state mid.files (whole ∙ ap (λ (row : List Taken). before ++ row) nothing ∙ append-nil before) run (AtRequest asked cause stops)
+  went_broken kept line mid before last ended run (AtPut round does is after grows fault) whole =
+      went_by (before ++ round.course) round.after new.files (whole ∙ ap (λ (row : List Taken). before ++ row) is)
+      (run_both old.state mid.state round.after old.files mid.files new.files before round.course run
+      (line_run line kept mid.state mid.files round new.files does)) (Still (sym after) refl)
+
+  went_lines : (lines : List CallLine) (ended : Status) → ServesLines lines old course new ended → Went old course new
+  went_lines lines ended (calls.Through is) =
+      went_by (course_of is.rounds) is.mid.state is.mid.files is.course_is
+      (rounds_run 0 old.state old.files is.rounds is.kept is.mid.state is.mid.files is.served.served) (AtEnd is.stored)
+  went_lines lines ended (calls.Broken is) =
+      went_broken is.kept is.line is.mid (course_of is.rounds) is.last ended
+      (rounds_run 0 old.state old.files is.rounds is.kept is.mid.state is.mid.files is.served.served) is.breaks is.course_is
+  went_lines lines ended (calls.EndStopped is) =
+      went_by (course_of is.rounds) is.mid.state is.mid.files is.course_is
+      (rounds_run 0 old.state old.files is.rounds is.kept is.mid.state is.mid.files is.served.served) (AtStore is.stops)
+
+  went_served : (parsed : Result (List CallLine) ℕ) (ended : Status) → ServesParsed parsed old course new ended → Went old course new
+  went_served (Ok lines) ended serves = went_lines lines ended serves
+  went_served (Err line) ended alone = went_nowhere alone.nothing alone.tells.state alone.tells.files
+
+  pub went_calls : (name : List ℕ) (ended : Status) → ServesCalls name old course new ended → Went old course new
+  went_calls name ended (calls.There is) = went_served _ ended is.serves
+  went_calls name ended (calls.Missing absent alone) = went_nowhere alone.nothing alone.tells.state alone.tells.files
+  went_calls name ended (calls.TooLong longer alone) = went_nowhere alone.nothing alone.tells.state alone.tells.files
+  went_calls name ended (calls.Faulty nothing idle) = went_idle nothing idle.same
+  went_calls name ended (calls.Starved nothing idle) = went_idle nothing idle.same
+
+  -- the form went so, or memory for its arguments ran out
+  pub went_or_starved : (asked : Form) (ended : Status) → (DoesForm asked old course new ended → Went old course new)
+      → DoesOrStarves asked old course new ended → Went old course new
+  went_or_starved asked ended went (AsAsked does) = went does
+  went_or_starved asked ended went (StarvesWords nothing idle) = went_idle nothing idle.same
+
+-- ---- each subcommand
 
 -- the steps of a course were taken one after the other
 abbrev Ran : State → Option Files → List Taken → Type 0
@@ -20,72 +112,17 @@ ran_script : (script : Script) (old : World) (course : List Taken) (new : World)
     → Ran old.state old.files course
 ran_script script old course new ended runs = ran_has old course new (script_ran script old course new ended runs)
 
-ran_longer : (old mid : State) (told files after : Option Files) (one two course : List Taken) (new : State) → Run old told one mid files → Run mid files two new after
-    → course ≡ one ++ two → Ran old told course
-ran_longer old mid told files after one two course new first second is =
-    subst (λ (steps : List Taken). Ran old told steps) (sym is) (new, after, run_both old mid new told files after one two first second)
-
-ran_requests : (requests : List Request) (old : World) (course : List Taken) (new : World) (ended : Status) → PlaysRequests requests old course new ended
-    → Ran old.state old.files course
-ran_requests requests old course new ended (Played is) = (is.mid, is.files, is.run)
-ran_requests requests old course new ended (Stopped is) = (is.mid, is.files, is.run)
-ran_requests requests old course new ended (BrokenOff is) =
-    ran_longer old.state is.mid old.files is.files new.files is.before (is.last ∷ []) course is.last.after is.run (new.files, is.step, (refl, refl)) is.course_is
-ran_requests requests old course new ended (EndStopped is) = (is.mid, is.files, is.run)
-
-ran_parsed : (parsed : Result (List Request) ℕ) (old : World) (course : List Taken) (new : World) (ended : Status) → PlaysParsed parsed old course new ended
-    → Ran old.state old.files course
-ran_parsed (Ok requests) old course new ended plays = ran_requests requests old course new ended plays
-ran_parsed (Err line) old course new ended tells = ran_nothing old.state old.files course tells.nothing
-
-ran_play : (job : List ℕ) (old : World) (course : List Taken) (new : World) (ended : Status) → Plays job old course new ended → Ran old.state old.files course
-ran_play job old course new ended (There is) = ran_parsed _ old course new ended is.plays
-ran_play job old course new ended (Missing absent tells) = ran_nothing old.state old.files course tells.nothing
-ran_play job old course new ended (TooLong longer tells) = ran_nothing old.state old.files course tells.nothing
-ran_play job old course new ended (Faulty nothing idle) = ran_nothing old.state old.files course nothing
-ran_play job old course new ended (Starved nothing idle) = ran_nothing old.state old.files course nothing
-
-ran_breaks : (kept : ℕ) (line : CallLine) (old start : World) (before last course : List Taken) (new : World) (ended : Status)
-    → Run start.state start.files before old.state old.files → Breaks kept line old last new ended → course ≡ before ++ last → Ran start.state start.files course
-ran_breaks kept line old start before last course new ended run (AtStop asked cause is nothing stops prints) whole =
-    subst (λ (steps : List Taken). Ran start.state start.files steps)
-    (sym (whole ∙ ap (λ (row : List Taken). before ++ row) nothing ∙ append-nil before)) (old.state, old.files, run)
-ran_breaks kept line old start before last course new ended run (AtPut round does is after grows fault) whole =
-    ran_longer start.state old.state start.files old.files new.files before round.course course round.after run
-    (line_run line kept old.state old.files round new.files does) (whole ∙ ap (λ (row : List Taken). before ++ row) is)
-
-ran_lines : (lines : List CallLine) (old : World) (course : List Taken) (new : World) (ended : Status) → ServesLines lines old course new ended
-    → Ran old.state old.files course
-ran_lines lines old course new ended (calls.Through is) =
-    subst (λ (steps : List Taken). Ran old.state old.files steps) (sym is.course_is)
-    (is.mid.state, is.mid.files, rounds_run 0 old.state old.files is.rounds is.kept is.mid.state is.mid.files is.served.served)
-ran_lines lines old course new ended (calls.Broken is) =
-    ran_breaks is.kept is.line is.mid old (course_of is.rounds) is.last course new ended
-    (rounds_run 0 old.state old.files is.rounds is.kept is.mid.state is.mid.files is.served.served) is.breaks is.course_is
-ran_lines lines old course new ended (calls.EndStopped is) =
-    subst (λ (steps : List Taken). Ran old.state old.files steps) (sym is.course_is)
-    (is.mid.state, is.mid.files, rounds_run 0 old.state old.files is.rounds is.kept is.mid.state is.mid.files is.served.served)
-
-ran_called : (parsed : Result (List CallLine) ℕ) (old : World) (course : List Taken) (new : World) (ended : Status) → ServesParsed parsed old course new ended
-    → Ran old.state old.files course
-ran_called (Ok lines) old course new ended serves = ran_lines lines old course new ended serves
-ran_called (Err line) old course new ended tells = ran_nothing old.state old.files course tells.nothing
-
-ran_calls : (name : List ℕ) (old : World) (course : List Taken) (new : World) (ended : Status) → ServesCalls name old course new ended → Ran old.state old.files course
-ran_calls name old course new ended (calls.There is) = ran_called _ old course new ended is.serves
-ran_calls name old course new ended (calls.Missing absent tells) = ran_nothing old.state old.files course tells.nothing
-ran_calls name old course new ended (calls.TooLong longer tells) = ran_nothing old.state old.files course tells.nothing
-ran_calls name old course new ended (calls.Faulty nothing idle) = ran_nothing old.state old.files course nothing
-ran_calls name old course new ended (calls.Starved nothing idle) = ran_nothing old.state old.files course nothing
+ran_went : (old : World) (course : List Taken) (new : World) → Went old course new → Ran old.state old.files course
+ran_went old course new went = (went.mid, went.files, went.run)
 
 ran_form : (asked : Form) (old : World) (course : List Taken) (new : World) (ended : Status) → DoesForm asked old course new ended → Ran old.state old.files course
-ran_form (form.Play job) old course new ended does = ran_play job old course new ended does
+ran_form (form.Play job) old course new ended does = ran_went old course new (went_play old course new job ended does)
+ran_form (form.Int13 name) old course new ended does = ran_went old course new (went_calls old course new name ended does)
 ran_form (form.FromImd imd name) old course new ended does = ran_nothing old.state old.files course does.nothing
 ran_form (form.ToImd name imd) old course new ended does = ran_nothing old.state old.files course does.nothing
 ran_form (form.Survey name) old course new ended does = ran_nothing old.state old.files course does.nothing
 ran_form (form.Remaster from to) old course new ended does = ran_nothing old.state old.files course does.nothing
 ran_form (form.Import flat name) old course new ended does = ran_script _ old course new ended does.2
-ran_form (form.Int13 name) old course new ended does = ran_calls name old course new ended does
 ran_form (form.Rescue from to log) old course new ended does = ran_script _ old course new ended does.2
 ran_form _ old course new ended does = ran_script _ old course new ended does
 

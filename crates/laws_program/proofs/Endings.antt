@@ -1,105 +1,73 @@
 -- How the subcommands (forms) on whole disks end where nothing can go wrong.
-use Rattle.std.proofs.Common.{◌≡◌, ◌≢◌, ◌≤◌, ℕ, All, List, [], Some, None, subst, sym, inl, inr, refl}
-use Rattle.laws_program.proofs.Common.{Files, file_at, sectors_at, Rate, R250, R500, Status, Disk, DriveCounts, Blames, IsRegularDisk, IsImageOf, logged_keys, LogLine, IsLogFound, World, IsFlatFile, Runs, Form, world, DoesForm, RunsOver, Stand, RanOver, StoresFormatted, StoresDisk, StoresFlatOf, BeginsSound, EndsWellOrOutside, HasKey, IsReadable, StoresSameSectors, StoresSameAndLog, StoresRestAndLog, TakesKeys, format_complete, copy_complete, verify_complete, import_complete, export_complete, new_rescue_complete, IsSound, EndsWell, ListsFailing}
+use Rattle.std.proofs.Common.{◌≡◌, ◌≢◌, ◌≤◌, ℕ, All, List, [], Some, None, subst, sym, inl, inr}
+use Rattle.laws_program.proofs.Common.{Files, file_at, sectors_at, Rate, R250, R500, Status, Disk, DriveCounts, IsRegularDisk, IsImageOf, logged_keys, LogLine, IsLogFound, IsFlatFile, Runs, Form, DoesForm, Stand, RanOver, StoresFormatted, StoresDisk, StoresFlatOf, BeginsSound, EndsWellOrOutside, HasKey, IsReadable, StoresSameSectors, StoresSameAndLog, StoresRestAndLog, TakesKeys, format_complete, copy_complete, verify_complete, import_complete, export_complete, new_rescue_complete, IsSound, EndsWell, ListsFailing}
 use Rattle.flop_base.specs.declared.answers.Status.TheVariants as status
 use Rattle.floppy_words.specs.declared.form.Form.TheVariants as form
 use Rattle.laws_commands.specs.FlatComplete.{IsWholeDisk}
 use Rattle.laws_commands.proofs.RescueFurther.{further_rescue_complete}
 use Rattle.laws_program.proofs.OnBoards.{nothing_left}
-use Rattle.laws_program.proofs.OfForms.{form_done}
+use Rattle.laws_program.proofs.OfForms.{form_done, world_before, world_after}
+use Rattle.laws_program.proofs.Telling.{ByFlag, ends_so}
 
--- if the outside ended the program, the fault was counted
-counted : (Inner Holds : Type 0) (old new : Stand) (ended : Status) → (Inner → Holds) → Blames (ended ≡ status.FileFault) old.outside.shelf_faults new.outside.shelf_faults
-    → Blames (ended ≡ status.SinkFault) old.outside.sink_faults new.outside.sink_faults → EndsWellOrOutside Inner ended → EndsWell Holds old new ended
-counted Inner Holds old new status.AllOk means shelf sink ends = means ends
-counted Inner Holds old new status.NoMemory means shelf sink ends = tt
-counted Inner Holds old new status.FileFault means shelf sink ends = shelf.rose refl
-counted Inner Holds old new status.SinkFault means shelf sink ends = sink.rose refl
-counted Inner Holds old new _ means shelf sink ends = ends
-
-module _ (asked : Form) (spares : List DriveCounts) (old new : Stand) (ended : Status) (ran : RanOver (Some asked) spares old new ended) where
-  abbrev over : RunsOver (Some asked) old.board spares old.outside.outside new.board new.outside.outside ended
-  over = ran.runs
-
-  abbrev first : World
-  first = world over.start old.outside.outside.files old.outside.outside.report
-
-  abbrev last : World
-  last = world over.last new.outside.outside.files new.outside.outside.report
-
-  begins : IsSound old.board spares → BeginsSound first
+module _ {asked : Form} {spares : List DriveCounts} {old new : Stand} {ended : Status} (ran : RanOver (Some asked) spares old new ended) where
+  begins : IsSound old.board spares → BeginsSound (world_before ran)
   begins sound = record {
-    fresh = over.set_up.fresh;
-    sound = nothing_left old.board spares over.start.station over.set_up.fresh over.set_up.starts sound;
+    fresh = ran.runs.set_up.fresh;
+    sound = nothing_left old.board spares ran.runs.start.station ran.runs.set_up.fresh ran.runs.set_up.starts sound;
   }
 
-  ends_by : (Inner Holds : Type 0) → (Inner → Holds) → (Runs (DoesForm asked) first last ended → EndsWellOrOutside Inner ended) → EndsWell Holds old new ended
-  ends_by Inner Holds means complete = elim (form_done asked old.board spares old.outside.outside new.board new.outside.outside ended over) [
-    | inl runs ↦ counted Inner Holds old new ended means ran.shelf_faults ran.sink_faults (complete runs)
-    | inr starved ↦ subst (λ (s : Status). EndsWell Holds old new s) (sym starved) tt
-  ]
+  ends_by : {Inner Holds : Type 0} → (Inner → Holds) → (Runs (DoesForm asked) (world_before ran) (world_after ran) ended → EndsWellOrOutside Inner ended)
+      → EndsWell Holds old new ended
+  ends_by {Inner = Inner} {Holds = Holds} means complete =
+      elim (form_done asked old.board spares old.outside.outside new.board new.outside.outside ended ran.runs) [
+        | inl runs ↦ ends_so (ByFlag Inner ⊥) (EndsWell Holds old new) ended means (λ e. e) tt ran.shelf_faults.rose ran.sink_faults.rose (complete runs)
+        | inr starved ↦ subst (λ (s : Status). EndsWell Holds old new s) (sym starved) tt
+      ]
 
 pub format_ends : (name : List ℕ) (count : ℕ) (spares : List DriveCounts) (old new : Stand) (ended : Status) → 1 ≤ count → count ≤ 80
     → RanOver (Some (form.Format name count)) spares old new ended → IsSound old.board spares
     → EndsWell (StoresFormatted R500 name count old.outside.outside.files new.outside.outside.files) old new ended
 format_ends name count spares old new ended least most ran sound =
-    let asked = form.Format name count in
-    ends_by asked spares old new ended ran _ _ (λ is. is)
-    (format_complete R500 name count (first asked spares old new ended ran) (last asked spares old new ended ran) ended least most (begins asked spares old new ended ran sound))
+    ends_by ran (λ is. is) (format_complete R500 name count (world_before ran) (world_after ran) ended least most (begins ran sound))
 
 pub format_dd_ends : (name : List ℕ) (count : ℕ) (spares : List DriveCounts) (old new : Stand) (ended : Status) → 1 ≤ count → count ≤ 80
     → RanOver (Some (form.FormatDd name count)) spares old new ended → IsSound old.board spares
     → EndsWell (StoresFormatted R250 name count old.outside.outside.files new.outside.outside.files) old new ended
 format_dd_ends name count spares old new ended least most ran sound =
-    let asked = form.FormatDd name count in
-    ends_by asked spares old new ended ran _ _ (λ is. is)
-    (format_complete R250 name count (first asked spares old new ended ran) (last asked spares old new ended ran) ended least most (begins asked spares old new ended ran sound))
+    ends_by ran (λ is. is) (format_complete R250 name count (world_before ran) (world_after ran) ended least most (begins ran sound))
 
 pub copy_ends : (from to : List ℕ) (spares : List DriveCounts) (old new : Stand) (ended : Status) (files : Files) (disk : Disk)
     → RanOver (Some (form.Copy from to)) spares old new ended → IsSound old.board spares → old.outside.outside.files ≡ Some files
     → IsImageOf (Some files) from disk → IsReadable disk → EndsWell (StoresSameSectors disk to (Some files) new.outside.outside.files) old new ended
 copy_ends from to spares old new ended files disk ran sound told image readable =
-    let asked = form.Copy from to in
-    ends_by asked spares old new ended ran _ _ (λ is. is)
-    (copy_complete from to (first asked spares old new ended ran) (last asked spares old new ended ran) ended files disk
-    (begins asked spares old new ended ran sound) told image readable)
+    ends_by ran (λ is. is) (copy_complete from to (world_before ran) (world_after ran) ended files disk (begins ran sound) told image readable)
 
 pub verify_ends : (name : List ℕ) (spares : List DriveCounts) (old new : Stand) (ended : Status) (files : Files) (disk : Disk)
     → RanOver (Some (form.Verify name)) spares old new ended → IsSound old.board spares → old.outside.outside.files ≡ Some files
     → IsImageOf (Some files) name disk → IsReadable disk → EndsWell (ListsFailing disk [] old.outside.outside new.outside.outside status.AllOk) old new ended
 verify_ends name spares old new ended files disk ran sound told image readable =
-    let asked = form.Verify name in
-    ends_by asked spares old new ended ran _ _ (λ tells. record { report = tells.report; status = tells.status })
-    (verify_complete name (first asked spares old new ended ran) (last asked spares old new ended ran) ended files disk
-    (begins asked spares old new ended ran sound) told image readable)
+    ends_by ran (λ tells. record { report = tells.report; status = tells.status })
+    (verify_complete name (world_before ran) (world_after ran) ended files disk (begins ran sound) told image readable)
 
 pub import_ends : (flat name : List ℕ) (spares : List DriveCounts) (old new : Stand) (ended : Status) (files : Files) (bytes : List ℕ) (at : Rate)
     → RanOver (Some (form.Import flat name)) spares old new ended → IsSound old.board spares → old.outside.outside.files ≡ Some files
     → IsFlatFile (Some files) flat bytes at → EndsWell (StoresDisk bytes name at (Some files) new.outside.outside.files) old new ended
 import_ends flat name spares old new ended files bytes at ran sound told is =
-    let asked = form.Import flat name in
-    ends_by asked spares old new ended ran _ _ (λ same. same)
-    (import_complete flat name (first asked spares old new ended ran) (last asked spares old new ended ran) ended files bytes at
-    (begins asked spares old new ended ran sound) told is)
+    ends_by ran (λ same. same) (import_complete flat name (world_before ran) (world_after ran) ended files bytes at (begins ran sound) told is)
 
 pub export_ends : (name flat : List ℕ) (spares : List DriveCounts) (old new : Stand) (ended : Status) (files : Files) (disk : Disk)
     → RanOver (Some (form.Export name flat)) spares old new ended → IsSound old.board spares → old.outside.outside.files ≡ Some files
     → IsImageOf (Some files) name disk → IsWholeDisk disk → EndsWell (StoresFlatOf disk flat (Some files) new.outside.outside.files) old new ended
 export_ends name flat spares old new ended files disk ran sound told image whole =
-    let asked = form.Export name flat in
-    ends_by asked spares old new ended ran _ _ (λ is. is)
-    (export_complete name flat (first asked spares old new ended ran) (last asked spares old new ended ran) ended files disk
-    (begins asked spares old new ended ran sound) told image whole)
+    ends_by ran (λ is. is) (export_complete name flat (world_before ran) (world_after ran) ended files disk (begins ran sound) told image whole)
 
 pub new_rescue_ends : (from to log : List ℕ) (spares : List DriveCounts) (old new : Stand) (ended : Status) (files : Files) (disk : Disk)
     → RanOver (Some (form.Rescue from to log)) spares old new ended → IsSound old.board spares → old.outside.outside.files ≡ Some files
     → IsImageOf (Some files) from disk → IsReadable disk → file_at files log ≡ None → to ≢ log
     → EndsWell (StoresSameAndLog disk to log (Some files) new.outside.outside.files) old new ended
 new_rescue_ends from to log spares old new ended files disk ran sound told image readable absent differ =
-    let asked = form.Rescue from to log in
-    ends_by asked spares old new ended ran _ _ (λ is. is)
-    (new_rescue_complete from to log (first asked spares old new ended ran) (last asked spares old new ended ran) ended files disk
-    (begins asked spares old new ended ran sound) told image readable absent differ)
+    ends_by ran (λ is. is)
+    (new_rescue_complete from to log (world_before ran) (world_after ran) ended files disk (begins ran sound) told image readable absent differ)
 
 pub further_rescue_ends : (from to log : List ℕ) (spares : List DriveCounts) (old new : Stand) (ended : Status) (files : Files) (disk target : Disk)
     (lines : List LogLine)
@@ -108,7 +76,5 @@ pub further_rescue_ends : (from to log : List ℕ) (spares : List DriveCounts) (
     → IsRegularDisk disk → All (HasKey disk) (logged_keys lines) → TakesKeys disk.rate (logged_keys lines) target
     → EndsWell (StoresRestAndLog disk target (logged_keys lines) to log (Some files) new.outside.outside.files) old new ended
 further_rescue_ends from to log spares old new ended files disk target lines ran sound told image other there differ regular has takes =
-    let asked = form.Rescue from to log in
-    ends_by asked spares old new ended ran _ _ (λ is. is)
-    (further_rescue_complete from to log (first asked spares old new ended ran) (last asked spares old new ended ran) ended files disk target lines
-    (begins asked spares old new ended ran sound) told image other there differ regular has takes)
+    ends_by ran (λ is. is)
+    (further_rescue_complete from to log (world_before ran) (world_after ran) ended files disk target lines (begins ran sound) told image other there differ regular has takes)

@@ -1,13 +1,13 @@
 -- How long a subcommand (form) lasts at most, how many port accesses it makes, and how many data commands it sends.
-use Rattle.std.proofs.Common.{arith, ◌≡◌, ◌∙◌, ℕ, ◌+◌, ◌-◌, ◌≤◌, List, [], ◌∷◌, ◌++◌, length, Option, Some, None, Result, Ok, Err, ap, sym, subst, append-nil}
-use Rattle.laws_program.proofs.Common.{accesses_twice, accesses_within, costs_none, AccessesPortsUpTo, Counters, DriveCounts, IsPastDriver, LastsUpTo, RoseBy, Files, Status, CallLine, Request, Board, counters_of, job_of, State, IsSame, ChangesMedium, StationState, AfterStop, Taken, Run, EndsBay, Stored, Left, EndStopsAt, AtFirst, AtSecond, World, Plays, There, Missing, TooLong, Faulty, Starved, PlaysParsed, PlaysRequests, Played, Stopped, BrokenOff, EndStopped, course_port_accesses, course_time, run_costs, run_more, Script, RunsScript, HasRun, script_ran, run_both, Breaks, AtStop, AtPut, course_of, ServesCalls, ServesParsed, ServesLines, world, line_run, rounds_run, Outside, Form, DoesForm, DoesOrStarves, AsAsked, StarvesWords, Does, RunsOver, EachStep, SendsFew, course_commands, most_commands}
+use Rattle.std.proofs.Common.{[], arith, ◌≡◌, ℕ, ◌+◌, ◌-◌, ◌≤◌, List, ◌∷◌, length, Option, Some, None, ap, sym, subst}
+use Rattle.laws_program.proofs.Common.{accesses_twice, accesses_within, costs_none, AccessesPortsUpTo, Counters, DriveCounts, IsPastDriver, LastsUpTo, RoseBy, Files, Status, Request, Board, counters_of, State, IsSame, ChangesMedium, StationState, AfterStop, Taken, Run, EndsBay, Stored, Left, EndStopsAt, AtFirst, AtSecond, World, Stopped, course_port_accesses, course_time, run_costs, Script, RunsScript, HasRun, script_ran, world, Outside, Form, DoesForm, DoesOrStarves, AsAsked, StarvesWords, Does, RunsOver, EachStep, SendsFew, course_commands, most_commands}
 use Rattle.floppy_jobs.specs.declared.request.Request.TheVariants as request
 use Rattle.laws_machine.specs.OnSteps.Lasts.{clock_of}
 use Rattle.laws_machine.specs.OnSteps.Uses.{Uses}
 use Rattle.sector_model.specs.Runs.{Ends}
 use Rattle.commands.proofs.Running as has
-use Rattle.text_commands.specs.CallCourses as calls
 use Rattle.floppy_words.specs.declared.form.Form.TheVariants as form
+use Rattle.laws_program.proofs.Courses.{Rests, Still, AtRequest, AtEnd, AtStore, Went, went_play, went_calls}
 use Rattle.laws_program.proofs.StepCauses.{each_sends}
 
 -- A bound `R most old new` on what counters show of a call, which adds up from call to call. A run keeps within this sum,
@@ -77,92 +77,31 @@ module _ (R : ℕ → Counters → Counters → Type 0) (sum : StationState → 
       → Within old course new
   script_within script old course new ended runs = has_within old course new (script_ran script old course new ended runs)
 
-  -- ---- Jobs.
+  -- ---- Jobs, and calls of INT 13h.
 
-  requests_within : (requests : List Request) (old : World) (course : List Taken) (new : World) (ended : Status)
-      → PlaysRequests requests old course new ended → Within old course new
-  requests_within requests old course new ended (Played p) =
-      run_and old.state p.mid old.files p.files course new.state.station.counters p.run (ends_stay p.mid new.state p.files new.files p.stored)
-  requests_within requests old course new ended (Stopped p) =
-      run_and old.state p.mid old.files p.files course new.state.station.counters p.run (stopped_stays p.mid new.state p.asked p.stops.after)
-  requests_within requests old course new ended (BrokenOff p) =
-      let run = run_more old.state p.mid old.files p.files new.files p.before p.last p.run p.step in
-      let within = bound.run old.state p.last.after old.files new.files (p.before ++ p.last ∷ []) run in
-      subst (λ (steps : List Taken). Within old steps new) (sym p.course_is)
-      (subst (λ (s : State). R (sum old.state.station (p.before ++ p.last ∷ [])) old.state.station.counters s.station.counters) (sym p.after) within)
-  requests_within requests old course new ended (EndStopped p) =
-      run_and old.state p.mid old.files p.files course new.state.station.counters p.run (end_stop_stays p.mid new.state p.files new.files p.stops)
+  rests_stay : (mid new : State) (files after : Option Files) → Rests mid files new after → R 0 mid.station.counters new.station.counters
+  rests_stay mid new files after (Still state same) =
+      subst (λ (s : State). R 0 mid.station.counters s.station.counters) (sym state) (bound.none mid.station.counters)
+  rests_stay mid new files after (AtRequest asked cause stops) = stopped_stays mid new asked stops.after
+  rests_stay mid new files after (AtEnd ends) = ends_stay mid new files after ends
+  rests_stay mid new files after (AtStore stops) = end_stop_stays mid new files after stops
 
-  job_within : (parsed : Result (List Request) ℕ) (old : World) (course : List Taken) (new : World) (ended : Status)
-      → PlaysParsed parsed old course new ended → Within old course new
-  job_within (Ok requests) old course new ended plays = requests_within requests old course new ended plays
-  job_within (Err line) old course new ended alone = idle_within old new course alone.tells.state
-
-  play_within : (job : List ℕ) (old : World) (course : List Taken) (new : World) (ended : Status) → Plays job old course new ended
-      → Within old course new
-  play_within job old course new ended (There p) = job_within (job_of p.text) old course new ended p.plays
-  play_within job old course new ended (Missing absent alone) = idle_within old new course alone.tells.state
-  play_within job old course new ended (TooLong longer alone) = idle_within old new course alone.tells.state
-  play_within job old course new ended (Faulty nothing idle) = idle_within old new course (ap (λ (w : World). w.state) idle.same)
-  play_within job old course new ended (Starved nothing idle) = idle_within old new course (ap (λ (w : World). w.state) idle.same)
-
-  -- ---- Calls of INT 13h.
-
-  breaks_within : (kept : ℕ) (line : CallLine) (old mid : World) (before last course : List Taken) (new : World) (ended : Status)
-      → Run old.state old.files before mid.state mid.files → Breaks kept line mid last new ended → course ≡ before ++ last
-      → Within old course new
-  breaks_within kept line old mid before last course new ended run (AtStop asked cause is nothing stops prints) whole =
-      subst (λ (steps : List Taken). Within old steps new)
-      (sym (whole ∙ ap (λ (row : List Taken). before ++ row) nothing ∙ append-nil before))
-      (run_and old.state mid.state old.files mid.files before new.state.station.counters run
-      (stopped_stays mid.state new.state asked stops.after))
-  breaks_within kept line old mid before last course new ended run (AtPut round does is after grows fault) whole =
-      subst (λ (steps : List Taken). Within old steps new) (sym (whole ∙ ap (λ (row : List Taken). before ++ row) is))
-      (subst (λ (s : State). R (sum old.state.station (before ++ round.course)) old.state.station.counters s.station.counters) after
-      (bound.run old.state round.after old.files new.files (before ++ round.course)
-      (run_both old.state mid.state round.after old.files mid.files new.files before round.course run
-      (line_run line kept mid.state mid.files round new.files does))))
-
-  lines_within : (lines : List CallLine) (old : World) (course : List Taken) (new : World) (ended : Status) → ServesLines lines old course new ended
-      → Within old course new
-  lines_within lines old course new ended (calls.Through is) =
-      subst (λ (steps : List Taken). Within old steps new) (sym is.course_is)
-      (run_and old.state is.mid.state old.files is.mid.files (course_of is.rounds) new.state.station.counters
-      (rounds_run 0 old.state old.files is.rounds is.kept is.mid.state is.mid.files is.served.served)
-      (ends_stay is.mid.state new.state is.mid.files new.files is.stored))
-  lines_within lines old course new ended (calls.Broken is) =
-      breaks_within is.kept is.line old is.mid (course_of is.rounds) is.last course new ended
-      (rounds_run 0 old.state old.files is.rounds is.kept is.mid.state is.mid.files is.served.served) is.breaks is.course_is
-  lines_within lines old course new ended (calls.EndStopped is) =
-      subst (λ (steps : List Taken). Within old steps new) (sym is.course_is)
-      (run_and old.state is.mid.state old.files is.mid.files (course_of is.rounds) new.state.station.counters
-      (rounds_run 0 old.state old.files is.rounds is.kept is.mid.state is.mid.files is.served.served)
-      (end_stop_stays is.mid.state new.state is.mid.files new.files is.stops))
-
-  called_within : (parsed : Result (List CallLine) ℕ) (old : World) (course : List Taken) (new : World) (ended : Status)
-      → ServesParsed parsed old course new ended → Within old course new
-  called_within (Ok lines) old course new ended serves = lines_within lines old course new ended serves
-  called_within (Err line) old course new ended alone = idle_within old new course alone.tells.state
-
-  calls_within : (name : List ℕ) (old : World) (course : List Taken) (new : World) (ended : Status) → ServesCalls name old course new ended
-      → Within old course new
-  calls_within name old course new ended (calls.There is) = called_within _ old course new ended is.serves
-  calls_within name old course new ended (calls.Missing absent alone) = idle_within old new course alone.tells.state
-  calls_within name old course new ended (calls.TooLong longer alone) = idle_within old new course alone.tells.state
-  calls_within name old course new ended (calls.Faulty nothing idle) = idle_within old new course (ap (λ (w : World). w.state) idle.same)
-  calls_within name old course new ended (calls.Starved nothing idle) = idle_within old new course (ap (λ (w : World). w.state) idle.same)
+  went_within : (old : World) (course : List Taken) (new : World) → Went old course new → Within old course new
+  went_within old course new went =
+      run_and old.state went.mid old.files went.files course new.state.station.counters went.run
+      (rests_stay went.mid new.state went.files new.files went.rests)
 
   -- ---- Subcommands.
 
   form_within : (asked : Form) (old : World) (course : List Taken) (new : World) (ended : Status) → DoesForm asked old course new ended
       → Within old course new
-  form_within (form.Play job) old course new ended does = play_within job old course new ended does
+  form_within (form.Play job) old course new ended does = went_within old course new (went_play old course new job ended does)
   form_within (form.FromImd imd name) old course new ended does = idle_within old new course does.state
   form_within (form.ToImd name imd) old course new ended does = idle_within old new course does.state
   form_within (form.Survey name) old course new ended does = idle_within old new course does.state
   form_within (form.Remaster from to) old course new ended does = idle_within old new course does.state
   form_within (form.Import flat name) old course new ended does = script_within _ old course new ended does.2
-  form_within (form.Int13 name) old course new ended does = calls_within name old course new ended does
+  form_within (form.Int13 name) old course new ended does = went_within old course new (went_calls old course new name ended does)
   form_within (form.Rescue from to log) old course new ended does = script_within _ old course new ended does.2
   form_within _ old course new ended does = script_within _ old course new ended does
 

@@ -6,6 +6,7 @@ use Rattle.std.proofs.lemmas.Cmp.{eq_by_cmp_equiv}
 use Rattle.std.specs.FinMap as fin
 use Rattle.flop_base.specs.declared.answers.Code.TheVariants as code
 use Rattle.sector_model.specs.declared.reply.Reason.TheVariants as reason
+use Rattle.laws_program.proofs.Bays.{each_bay}
 
 -- ---- files
 
@@ -70,11 +71,7 @@ pub record AreHeld (names : Names) (bays : Two Bay) : Type 0 where
   pub second : IsHeld names.second bays.second.medium
 
 pub held_in : (names : Names) (bays : Two Bay) (at : ℕ) → AreHeld names bays → IsHeld (in_bay names at) (in_bay bays at).medium
-held_in names bays at held = go (at == 0)
-  where
-    go : (b : Bool) → IsHeld (if b then names.first else names.second) (if b then bays.first else bays.second).medium
-    go true = held.first
-    go false = held.second
+held_in names bays at held = each_bay names bays (λ name bay. IsHeld name bay.medium) at held.first held.second
 
 pub held_with : (names : Names) (bays : Two Bay) (at : ℕ) (name : Option (List ℕ)) (x : Bay) → AreHeld names bays → IsHeld name x.medium
     → AreHeld (with_bay names at name) (with_bay bays at x)

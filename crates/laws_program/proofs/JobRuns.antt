@@ -16,7 +16,7 @@ use Rattle.laws_program.proofs.Plays.{text_there}
 -- ---- The requests that a job asks for.
 
 -- the course asked the first of these requests
-abbrev AsksFirst : List Request → List Taken → Type 0
+abbrev pub AsksFirst : List Request → List Taken → Type 0
 AsksFirst requests course = (later : List Request) × (requests ≡ requests_of course ++ later)
 
 first_none : (requests : List Request) (course : List Taken) → course ≡ [] → AsksFirst requests course
@@ -52,7 +52,7 @@ first_play job requests old new course ended is (TooLong longer alone) = first_n
 first_play job requests old new course ended is (Faulty nothing idle) = first_none requests course nothing
 first_play job requests old new course ended is (Starved nothing idle) = first_none requests course nothing
 
-first_asked : (job : List ℕ) (requests : List Request) (old new : World) (course : List Taken) (ended : Status) → IsJob old.files job requests
+pub first_asked : (job : List ℕ) (requests : List Request) (old new : World) (course : List Taken) (ended : Status) → IsJob old.files job requests
     → DoesOrStarves (form.Play job) old course new ended → AsksFirst requests course
 first_asked job requests old new course ended is (AsAsked does) = first_play job requests old new course ended is does
 first_asked job requests old new course ended is (StarvesWords nothing idle) = first_none requests course nothing

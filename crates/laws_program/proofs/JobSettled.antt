@@ -1,11 +1,12 @@
 -- Two runs of one batch job over machines where nothing is left that could go wrong.
-use Rattle.std.proofs.Common.{◌≡◌, ◌∙◌, ℕ, List, [], ◌∷◌, length, Some, refl, ap, sym, subst, inl, inr}
+use Rattle.std.proofs.Common.{◌≡◌, ◌∙◌, ℕ, List, [], ◌∷◌, length, Some, ap, sym, subst, inl, inr}
 use Rattle.std.specs.Prelude.{◌⊎◌}
 use Rattle.laws_program.proofs.Common.{Files, DriveCounts, Status, Blames, State, Taken, World, AreBytes, BeginAlike, AreRegularBefore, AnswersAgree, IsFreeEnd, EndAlike, EndAlikeUnlessFree, world, DoesOrStarves, AsAsked, StarvesWords, Stand, RanOver, IsSound, EndsOutside}
 use Rattle.flop_base.specs.declared.answers.Status.TheVariants as status
 use Rattle.laws_program.proofs.PlaysAgree.{answers_determined}
 use Rattle.floppy_words.specs.declared.form.Form.TheVariants as form
 use Rattle.laws_program.proofs.OnBoards.{nothing_left}
+use Rattle.laws_program.proofs.Telling.{ends_so}
 
 -- any course agrees with an empty one
 none_agree : (state : State) (course : List Taken) → AnswersAgree state course []
@@ -30,10 +31,7 @@ both_settled job one one_after two two_after course other ended other_ended begi
 -- if the outside ended the program, the fault was counted
 free_counted : (old new : Stand) (ended : Status) → Blames (ended ≡ status.FileFault) old.outside.shelf_faults new.outside.shelf_faults
     → Blames (ended ≡ status.SinkFault) old.outside.sink_faults new.outside.sink_faults → IsFreeEnd ended → EndsOutside old new ended
-free_counted old new status.NoMemory shelf sink free = tt
-free_counted old new status.FileFault shelf sink free = shelf.rose refl
-free_counted old new status.SinkFault shelf sink free = sink.rose refl
-free_counted old new _ shelf sink free = free
+free_counted old new ended shelf sink free = ends_so (λ flag. ⊥) (EndsOutside old new) ended (λ e. e) (λ e. e) tt shelf.rose sink.rose free
 
 module _ (job : List ℕ) (spares other_spares : List DriveCounts) (old new other_old other_new : Stand) (ended other_ended : Status) (files others : Files)
     (one : RanOver (Some (form.Play job)) spares old new ended) (two : RanOver (Some (form.Play job)) other_spares other_old other_new other_ended) where

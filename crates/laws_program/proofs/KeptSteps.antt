@@ -1,21 +1,13 @@
 -- Each step of a run keeps what stands in the bays and under their names.
-use Rattle.std.proofs.Common.{◌≡◌, ◌∙◌, ℕ, Bool, true, false, true≢false, List, [], ◌∷◌, Option, Some, None, Result, Ok, Err, refl, ap, sym, subst, inl, inr}
-use Rattle.std.specs.Prelude.{is_some, MatchBool, if◌then◌else◌}
-use Rattle.laws_program.proofs.Common.{list_all, leb-true, Files, stored, Code, Rate, R500, R250, Chrn, Disk, IsDisk, file_of, Two, in_bay, with_bay, Request, Reply, StationState, Bay, Becomes, Stays, bay_of, set_bay, fresh_bay, State, IsSame, read_refusal, write_refusal, format_refusal, rate_refusal, is_bay, IsRefusedAtOnce, Acks, AcksDrive, ReadsDrive, WritesTo, FormatsTo, Step, IsImageOf, IsDriverCall, refusal_of, spare_refusal, is_loaded, is_blank_request, blank_of, Taken, Run, requests_of, and_both, IsDiskFile, Names, named_by, IsStoredBy, HoldsBy, InsertsDisk}
-use Rattle.flop_base.specs.declared.answers.Code.TheVariants as code
+use Rattle.std.proofs.Common.{◌≡◌, ◌∙◌, ℕ, Bool, true, false, List, [], ◌∷◌, Option, Some, None, refl, ap, sym, subst, inl, inr}
+use Rattle.std.specs.Prelude.{is_some, MatchOption, if◌then◌else◌}
+use Rattle.laws_program.proofs.Common.{list_all, leb-true, Files, stored, Rate, R500, R250, Disk, IsDisk, file_of, Two, in_bay, with_bay, Request, Reply, StationState, Bay, Becomes, Stays, bay_of, set_bay, fresh_bay, State, IsSame, is_bay, Step, IsImageOf, refusal_of, spare_refusal, is_loaded, is_blank_request, blank_of, Taken, Run, requests_of, and_both, IsDiskFile, Names, named_by, IsStoredBy, HoldsBy, InsertsDisk, unless_bad, IsRefused}
 use Rattle.floppy_jobs.specs.declared.request.Request.TheVariants as request
+use Rattle.sector_model.specs.declared.reply.Reason.TheVariants as reason
+use Rattle.laws_program.specs.Inserted.{put_in}
 use Rattle.laws_commands.proofs.Prepared.{blank_valid}
-use Rattle.laws_program.proofs.Stepping.{either, either_is}
+use Rattle.laws_program.proofs.Stepping.{either_is, keeps_media, Alters, Leaves, Turns, Overwrites, Formats, calm_step}
 use Rattle.laws_program.proofs.Inserting.{IsHeld, AreHeld, IsKept, held_in, held_with, held_still, held_none, held_is, named_loaded, reach_held, lays_held, stored_last, stored_still, inserted_disk, choose, choose_out, both_free, not_loaded}
-
--- the request neither puts a medium in nor takes one out, nor exchanges a drive
-abbrev pub keeps_media : Request → Bool
-keeps_media (request.Insert bay name) = false
-keeps_media (request.Blank bay name cylinders) = false
-keeps_media (request.BlankDd bay name cylinders) = false
-keeps_media (request.Eject bay) = false
-keeps_media (request.Unit bay) = false
-keeps_media _ = true
 
 module _ (Holds : List ℕ → Type 0) (names : Names) (old : State) (told : Option Files) (kept : IsKept Holds names old told) where
   -- the bays of the new state are these, which have the names
@@ -44,69 +36,20 @@ module _ (Holds : List ℕ → Type 0) (names : Names) (old : State) (told : Opt
   here : (at : ℕ) → IsHeld (in_bay names at) (bay_of old.station at).medium
   here at = held_in names old.station.bays at kept.held
 
-  write_kept : (new : State) (after : Option Files) (at address : ℕ) (key : Chrn) (deleted : Bool) (called : Result (Unit {0}) Code)
-      → IsDriverCall old told new after → WritesTo at key address deleted old.station called new.station → IsKept Holds names new after
-  write_kept new after at address key deleted called call writes =
-      either (write_refusal old.station at key address) writes
-      (λ does. bay_kept new after at _ (ap (λ (s : StationState). s.bays) does.becomes)
-      (reach_held (in_bay names at) _ (bay_of old.station at).medium does.changes (bay_of new.station at).medium (here at) does.reach) call.names call.files)
-      (λ code refused. stays_kept new after refused.stays call.names call.files)
-
-  format_kept : (new : State) (after : Option Files) (at c h gap3 fill : ℕ) (called : Result (Unit {0}) Code)
-      → IsDriverCall old told new after → FormatsTo at c h gap3 fill old.station called new.station → IsKept Holds names new after
-  format_kept new after at c h gap3 fill called call formats =
-      either (format_refusal old.station at c h gap3) formats
-      (λ does. bay_kept new after at _ (ap (λ (s : StationState). s.bays) does.becomes)
-      (lays_held (in_bay names at) _ (bay_of old.station at).medium does.layings (bay_of new.station at).medium (here at) does.lays) call.names call.files)
-      (λ code refused. stays_kept new after refused.stays call.names call.files)
-
-  ack_done : (new : State) (after : Option Files) (at : ℕ) (called : Result (Unit {0}) Code) → IsDriverCall old told new after
-      → AcksDrive at old.station called new.station → IsKept Holds names new after
-  ack_done new after at (Ok done) call acks =
-      let is = acks.done refl in
-      bay_kept new after at _ (ap (λ (s : StationState). s.bays) is.becomes) (subst (IsHeld (in_bay names at)) is.medium (here at)) call.names call.files
-  ack_done new after at (Err code) call acks = bay_kept new after at _ (ap (λ (s : StationState). s.bays) acks.refused.becomes) (here at) call.names call.files
-
-  ack_kept : (new : State) (after : Option Files) (at : ℕ) (called : Result (Unit {0}) Code) → IsDriverCall old told new after
-      → Acks at old.station called new.station → IsKept Holds names new after
-  ack_kept new after at called call acks = go (is_bay at) acks
-    where
-      go : (b : Bool) → MatchBool b (AcksDrive at old.station called new.station) (IsRefusedAtOnce code.BadRequest old.station called new.station)
-          → IsKept Holds names new after
-      go true does = ack_done new after at called call does
-      go false refused = stays_kept new after refused.stays call.names call.files
-
-  read_kept : (new : State) (after : Option Files) (at address : ℕ) (key : Chrn) (called : Result Bool Code) → IsDriverCall old told new after
-      → ReadsDrive at key address old.station called new.station → IsKept Holds names new after
-  read_kept new after at address key (Ok deleted) call reads =
-      on_bays new after old.station.bays (ap (λ (s : StationState). s.bays) reads.found.becomes) kept.held call.names call.files
-  read_kept new after at address key (Err code) call reads =
-      on_bays new after old.station.bays (ap (λ (s : StationState). s.bays) reads.refused.becomes) kept.held call.names call.files
+  altered_kept : (asked : Request) (new : State) (after : Option Files) → new.names ≡ old.names → after ≡ told → Alters asked old new → IsKept Holds names new after
+  altered_kept asked new after same still (Leaves is) = on_bays new after old.station.bays is kept.held same still
+  altered_kept asked new after same still (Turns at x is stays) = bay_kept new after at x is (subst (IsHeld (in_bay names at)) (sym stays) (here at)) same still
+  altered_kept asked new after same still (Overwrites at x is free writes written changes reach) =
+      bay_kept new after at x is (reach_held (in_bay names at) written (bay_of old.station at).medium changes x.medium (here at) reach) same still
+  altered_kept asked new after same still (Formats at x is free writes format layings lays) =
+      bay_kept new after at x is (lays_held (in_bay names at) format (bay_of old.station at).medium layings x.medium (here at) lays) same still
 
   -- a step that keeps the media
   pub media_kept : (asked : Request) (answer : Reply) (new : State) (after : Option Files) → keeps_media asked ≡ true → Step asked old told answer new after
       → IsKept Holds names new after
-  media_kept (request.Ack at) answer new after e step = ack_kept new after at step.1.0 step.0 step.1.2
-  media_kept (request.Read at key address) answer new after e step =
-      either (read_refusal old.station at key address) step.1.2 (λ does. read_kept new after at address key step.1.0 step.0 does)
-      (λ code refused. stays_kept new after refused.stays step.0.names step.0.files)
-  media_kept (request.Write at key address) answer new after e step = write_kept new after at address key false step.1.0 step.0 step.1.2
-  media_kept (request.WriteDeleted at key address) answer new after e step = write_kept new after at address key true step.1.0 step.0 step.1.2
-  media_kept (request.Format at c h) answer new after e step = format_kept new after at c h _ _ step.1.0 step.0 step.1.2
-  media_kept (request.Fill address count byte) answer new after e step =
-      either (refusal_of old (request.Fill address count byte)) step
-      (λ does. on_bays new after old.station.bays (ap (λ (s : StationState). s.bays) does.2.becomes) kept.held does.2.names does.1)
-      (λ cause refused. same_kept new after refused.same refused.files)
-  media_kept (request.Dump address count) answer new after e step =
-      either (refusal_of old (request.Dump address count)) step
-      (λ does. same_kept new after does.2 does.1) (λ cause refused. same_kept new after refused.same refused.files)
-  media_kept (request.SetRate at rate) answer new after e step =
-      either (rate_refusal old.station at) step.1.2
-      (λ does. bay_kept new after at _ (ap (λ (s : StationState). s.bays) does.becomes) (here at) step.0.names step.0.files)
-      (λ code refused. stays_kept new after refused.stays step.0.names step.0.files)
-  media_kept (request.Tries tries) answer new after e step =
-      on_bays new after old.station.bays (ap (λ (s : StationState). s.bays) step.2.becomes) kept.held step.0.names step.0.files
-  media_kept _ answer new after e step = absurd (true≢false (sym e))
+  media_kept asked answer new after e step =
+      let calm = calm_step asked old told answer new after e step in
+      altered_kept asked new after calm.0 calm.1 calm.2
 
   -- ---- media that go in and out
 
@@ -143,11 +86,16 @@ module _ (Holds : List ℕ → Type 0) (names : Names) (old : State) (told : Opt
     ];
   }
 
-  by_load : (asked : Request) (new : State) (after : Option Files) (at : ℕ) (good : Bool) (put : Names)
-      → Behind asked new after (if good then (if is_loaded old at then names else put) else names)
-      → Behind asked new after (if good then (if is_some (in_bay names at) then names else put) else names)
-  by_load asked new after at good put is =
-      subst (λ (b : Bool). Behind asked new after (if good then (if b then names else put) else names)) (loaded_is at) is
+  -- a request that puts a medium in, by the order of its refusals
+  put_kept : {P : Type 0} (asked : Request) (answer : Reply) (new : State) (after : Option Files) (at : ℕ) (good : Bool) (name : List ℕ)
+      → ((other : List ℕ) → IsStoredBy names asked other → ⊥)
+      → MatchOption (unless_bad good (if is_loaded old at then Some reason.Busy else None)) P (λ cause. IsRefused cause old told answer new after)
+      → (good ≡ true → is_loaded old at ≡ false → P → Behind asked new after (with_bay names at (Some name)))
+      → Behind asked new after (put_in names good at name)
+  put_kept asked answer new after at good name none step done =
+      subst (λ (b : Bool). Behind asked new after (if good then (if b then names else with_bay names at (Some name)) else names)) (loaded_is at)
+      (choose (Behind asked new after) names (with_bay names at (Some name)) good (is_loaded old at) step done
+      (λ cause refused. behind asked new after none (same_kept new after refused.same refused.files)))
 
   blank_kept : (asked : Request) (new : State) (after : Option Files) (at count : ℕ) (rate : Rate) (name : List ℕ)
       → ((other : List ℕ) → IsStoredBy names asked other → ⊥) → is_blank_request at count ≡ true → new.names ≡ with_bay old.names at (Some name)
@@ -162,15 +110,12 @@ module _ (Holds : List ℕ → Type 0) (names : Names) (old : State) (told : Opt
       → Step (request.Insert at name) old told answer new after → Behind (request.Insert at name) new after (named_by names (request.Insert at name))
   insert_kept at name answer new after known step =
       let asked = request.Insert at name in
-      by_load asked new after at (is_bay at) (with_bay names at (Some name))
-      (choose (Behind asked new after) names (with_bay names at (Some name)) (is_bay at) (is_loaded old at) step
-      (λ good empty does.
+      put_kept asked answer new after at (is_bay at) name (λ other none. none) step (λ good empty does.
       let put = does.2 in
       let holds = known (both_free (is_bay at) (is_some (in_bay names at)) good (sym (loaded_is at) ∙ empty)) in
       let is = subst (λ (f : Option Files). IsDiskFile f name) kept.told_is (kept.holds name holds) in
       let valid = inserted_disk kept.files name put.0 is (subst (λ (f : Option Files). IsImageOf f name put.0) kept.told_is put.1) in
       went_in asked new after at name put.0 (λ other none. none) valid put.2.names put.2.exchanged.becomes does.1)
-      (λ cause refused. behind asked new after (λ other none. none) (same_kept new after refused.same refused.files)))
 
   -- a disk comes out, and is stored
   ejected_kept : (at : ℕ) (new : State) (after : Option Files) (disk : Disk) (name : List ℕ) → (bay_of old.station at).medium ≡ Some disk
@@ -221,36 +166,15 @@ module _ (Holds : List ℕ → Type 0) (names : Names) (old : State) (told : Opt
   step_kept (request.Insert at name) answer new after known step = insert_kept at name answer new after known step
   step_kept (request.Blank at name count) answer new after known step =
       let asked = request.Blank at name count in
-      by_load asked new after at (is_blank_request at count) (with_bay names at (Some name))
-      (choose (Behind asked new after) names (with_bay names at (Some name)) (is_blank_request at count) (is_loaded old at) step
+      put_kept asked answer new after at (is_blank_request at count) name (λ other none. none) step
       (λ good empty does. blank_kept asked new after at count R500 name (λ other none. none) good does.2.names does.2.exchanged.becomes does.1)
-      (λ cause refused. behind asked new after (λ other none. none) (same_kept new after refused.same refused.files)))
   step_kept (request.BlankDd at name count) answer new after known step =
       let asked = request.BlankDd at name count in
-      by_load asked new after at (is_blank_request at count) (with_bay names at (Some name))
-      (choose (Behind asked new after) names (with_bay names at (Some name)) (is_blank_request at count) (is_loaded old at) step
+      put_kept asked answer new after at (is_blank_request at count) name (λ other none. none) step
       (λ good empty does. blank_kept asked new after at count R250 name (λ other none. none) good does.2.names does.2.exchanged.becomes does.1)
-      (λ cause refused. behind asked new after (λ other none. none) (same_kept new after refused.same refused.files)))
   step_kept (request.Eject at) answer new after known step = eject_kept at answer new after step
   step_kept (request.Unit at) answer new after known step = unit_kept at answer new after step
-  step_kept (request.Ack at) answer new after known step =
-      behind (request.Ack at) new after (λ other none. none) (media_kept (request.Ack at) answer new after refl step)
-  step_kept (request.Read at key address) answer new after known step =
-      behind (request.Read at key address) new after (λ other none. none) (media_kept (request.Read at key address) answer new after refl step)
-  step_kept (request.Write at key address) answer new after known step =
-      behind (request.Write at key address) new after (λ other none. none) (media_kept (request.Write at key address) answer new after refl step)
-  step_kept (request.WriteDeleted at key address) answer new after known step =
-      behind (request.WriteDeleted at key address) new after (λ other none. none) (media_kept (request.WriteDeleted at key address) answer new after refl step)
-  step_kept (request.Format at c h) answer new after known step =
-      behind (request.Format at c h) new after (λ other none. none) (media_kept (request.Format at c h) answer new after refl step)
-  step_kept (request.Fill address count byte) answer new after known step =
-      behind (request.Fill address count byte) new after (λ other none. none) (media_kept (request.Fill address count byte) answer new after refl step)
-  step_kept (request.Dump address count) answer new after known step =
-      behind (request.Dump address count) new after (λ other none. none) (media_kept (request.Dump address count) answer new after refl step)
-  step_kept (request.SetRate at rate) answer new after known step =
-      behind (request.SetRate at rate) new after (λ other none. none) (media_kept (request.SetRate at rate) answer new after refl step)
-  step_kept (request.Tries tries) answer new after known step =
-      behind (request.Tries tries) new after (λ other none. none) (media_kept (request.Tries tries) answer new after refl step)
+  step_kept asked answer new after known step = behind asked new after (λ other none. none) (media_kept asked answer new after refl step)
 
 -- ---- a run
 

@@ -1,4 +1,5 @@
 mod Common
+mod Bays
 pub mod OnBoards
 mod OnCounts
 pub mod OfForms
@@ -23,7 +24,6 @@ mod StepCauses
 mod Inserting
 mod KeptSteps
 mod Protected
-mod ProtectedCalls
 mod ProtectedJobs
 mod PlayStatus
 mod PortStatus

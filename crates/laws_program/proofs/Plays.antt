@@ -1,9 +1,10 @@
 -- What a batch job prints.
-use Rattle.std.proofs.Common.{◌≡◌, ◌∙◌, ℕ, Bool, List, [], ◌∷◌, ◌++◌, length, Option, Result, Ok, Err, Some, None, refl, ap, sym, subst}
-use Rattle.std.specs.Prelude.{◌||◌, IsSomeAnd, ◌≤◌}
-use Rattle.laws_program.proofs.Common.{list_any, length-map, Files, file_at, grown, Status, DriveCounts, Board, job_of, Request, Stop, reply_lines, is_refusal, stop_status, Taken, requests_of, course_lines, has_refusal, World, Plays, There, Missing, TooLong, Faulty, Starved, PlaysParsed, PlaysRequests, Played, Stopped, BrokenOff, EndStopped, Prints, Whole, Part, IsText, most_job_bytes, whole_status, Outside, DoesOrStarves, AsAsked, StarvesWords, world, RunsOver, IsEndStatus, not_put, not_stop, AnswersJob, replies_lines, answers_of}
+use Rattle.std.proofs.Common.{arith, ◌≡◌, ◌∙◌, ℕ, Bool, List, [], ◌∷◌, ◌++◌, length, Option, Result, Ok, Err, Some, None, refl, ap, sym, subst}
+use Rattle.std.specs.Prelude.{◌||◌, IsSomeAnd, ◌≤◌, ◌<◌}
+use Rattle.laws_program.proofs.Common.{list_any, length-map, Files, file_at, grown, Status, DriveCounts, Board, job_of, Request, Stop, reply_lines, is_refusal, stop_status, Taken, requests_of, course_lines, has_refusal, World, Plays, There, Missing, TooLong, Faulty, Starved, PlaysParsed, PlaysRequests, Played, Stopped, BrokenOff, EndStopped, Prints, Whole, Part, IsText, most_job_bytes, of_one, whole_status, Outside, world, RunsOver, IsEndStatus, not_put, not_stop, AnswersJob, replies_lines, answers_of}
 use Rattle.flop_base.specs.declared.answers.Status.TheVariants as status
 use Rattle.floppy_words.specs.declared.form.Form.TheVariants as form
+use Rattle.laws_program.proofs.OfForms.{asked_whole}
 
 told_replies : (course : List Taken) → course_lines course ≡ replies_lines (requests_of course) (answers_of course)
 told_replies [] = refl
@@ -23,12 +24,26 @@ no_stop_end cause ended whole is = not_stop cause (subst IsEndStatus is whole)
 pub no_end : (wanted ended : Status) → IsEndStatus ended → ended ≡ wanted → (IsEndStatus wanted → ⊥) → ⊥
 no_end wanted ended whole is bad = bad (subst IsEndStatus is whole)
 
+-- ---- the file of a text
+
+-- the file that was found has this text
+abbrev pub IsThere : Option (List ℕ) → List ℕ → Type 0
+IsThere found text = IsSomeAnd found (λ bytes. (bytes ≡ text) × (length bytes ≤ most_job_bytes))
+
+abbrev pub IsTooLong : Option (List ℕ) → Type 0
+IsTooLong found = IsSomeAnd found (λ bytes. most_job_bytes < length bytes)
+
+pub one_text : (found : Option (List ℕ)) (x y : List ℕ) → IsThere found x → IsThere found y → y ≡ x
+one_text found x y a b = let both = of_one found a b in sym both.3.0 ∙ both.2.0
+
+pub there_missing : (found : Option (List ℕ)) (x : List ℕ) → IsThere found x → found ≡ None → ⊥
+there_missing found x a none = let one = (of_one found a a).1 in cc (one, none)
+
+pub there_long : (found : Option (List ℕ)) (x : List ℕ) → IsThere found x → IsTooLong found → ⊥
+there_long found x a long = let both = of_one found a long in omega (arith, both.2.1, both.3)
+
 pub text_there : (files : Files) (job text : List ℕ) → IsText (Some files) job text → file_at files job ≡ Some text
-text_there files job text told = go (file_at files job) told
-  where
-    go : (found : Option (List ℕ)) → IsSomeAnd found (λ bytes. (bytes ≡ text) × (length bytes ≤ most_job_bytes)) → found ≡ Some text
-    go (Some bytes) is = ap (λ (b : List ℕ). Some b) is.0
-    go None is = absurd is
+text_there files job text told = let one = of_one (file_at files job) told told in one.1 ∙ ap (λ (b : List ℕ). Some b) one.2.0
 
 module _ (job : List ℕ) (files : Files) (old : World) (course : List Taken) (new : World) (ended : Status) (whole : IsEndStatus ended)
     (told : old.files ≡ Some files) where
@@ -65,14 +80,11 @@ module _ (job : List ℕ) (files : Files) (old : World) (course : List Taken) (n
   job_answered (Faulty nothing idle) = absurd (no_end status.FileFault ended whole idle.status (λ e. e))
   job_answered (Starved nothing idle) = absurd (no_end status.NoMemory ended whole idle.status (λ e. e))
 
-does_answered : (job : List ℕ) (files : Files) (old : World) (course : List Taken) (new : World) (ended : Status) → IsEndStatus ended
-    → old.files ≡ Some files → DoesOrStarves (form.Play job) old course new ended → AnswersJob job old course new ended
-does_answered job files old course new ended whole told (AsAsked does) = job_answered job files old course new ended whole told does
-does_answered job files old course new ended whole told (StarvesWords nothing idle) = absurd (subst IsEndStatus idle.status whole)
-
 pub play_answers : (job : List ℕ) (spares : List DriveCounts) (old new : Board) (before after : Outside) (ended : Status) (files : Files)
     → (over : RunsOver (Some (form.Play job)) old spares before new after ended) → IsEndStatus ended → before.files ≡ Some files
     → AnswersJob job (world over.start before.files before.report) over.runs.course (world over.last after.files after.report) ended
 play_answers job spares old new before after ended files over whole told =
-    does_answered job files (world over.start before.files before.report) over.runs.course (world over.last after.files after.report) ended whole told
-    over.runs.does
+    let first = world over.start before.files before.report in
+    let last = world over.last after.files after.report in
+    job_answered job files first over.runs.course last ended whole told
+    (asked_whole (form.Play job) first last over.runs.course ended whole over.runs.does)

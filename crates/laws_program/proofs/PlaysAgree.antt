@@ -1,13 +1,15 @@
 -- Two plays of one batch job that begin alike: they answer alike, and end alike.
-use Rattle.std.proofs.Common.{◌≡◌, ◌∙◌, ◌<◌, ◌≤◌, ℕ, suc, Bool, List, [], ◌∷◌, ◌++◌, length, refl, sym, ap, subst, append-nil, append_assoc, Option, Some, None, Result, Ok, Err, inl, inr, arith}
-use Rattle.std.specs.Prelude.{◌⊎◌, ◌||◌, IsSomeAnd}
-use Rattle.laws_program.proofs.Common.{length-replicate, Files, file_at, grown, Status, Two, both, user_bytes, job_of, Request, Reply, Stop, Bay, fresh_bay, State, StopsAt, StopCause, IsAbsent, IsLonger, is_refusal, stop_lines, stop_status, bad_line_text, absent_text, Taken, Run, requests_of, course_lines, has_refusal, IsEndStop, World, IsPutFault, Prints, whole_status, PlaysRequests, TellsAlone, PlaysParsed, PlaysText, IsText, most_job_bytes, Plays, run_more, requests_more, AreUndisturbed, BeginAlike, AreRegularBefore, AnswerAlike, AnswersAgree, IsFreeEnd, EndAlikeUnlessFree}
+use Rattle.std.proofs.Common.{◌≡◌, ◌∙◌, ℕ, suc, Bool, List, [], ◌∷◌, ◌++◌, length, refl, sym, ap, subst, append-nil, append_assoc, Option, Some, None, Result, Ok, Err, inl, inr, arith}
+use Rattle.std.specs.Prelude.{◌⊎◌, ◌||◌, MatchBool, nat_lt}
+use Rattle.laws_program.proofs.Common.{lt-ltb, le-ltb, length-replicate, Files, file_at, grown, Status, Two, both, user_bytes, job_of, Request, Reply, Stop, Bay, fresh_bay, State, StopsAt, StopCause, IsAbsent, IsLonger, is_refusal, stop_lines, stop_status, bad_line_text, absent_text, Taken, Run, requests_of, course_lines, has_refusal, IsEndStop, World, IsPutFault, Prints, whole_status, PlaysRequests, TellsAlone, PlaysParsed, IsText, most_job_bytes, Plays, run_more, requests_more, AreUndisturbed, BeginAlike, AreRegularBefore, AnswerAlike, AnswersAgree, IsFreeEnd, EndAlikeUnlessFree}
 use Rattle.flop_base.specs.declared.answers.Status.TheVariants as status
 use Rattle.flop_base.specs.Memory.{zeroes}
 use Rattle.floppy_jobs.specs.declared.request.Request.TheVariants as request
 use Rattle.sector_model.specs.declared.reply.Reply.TheVariants as reply
-use Rattle.sector_model.specs.declared.reply.Stop.TheVariants as stop
 use Rattle.sector_model.specs.Plays as plays
+use Rattle.laws_program.proofs.Plays.{IsThere, IsTooLong}
+use Rattle.laws_program.proofs.CallsAgree.{both_tests}
+use Rattle.laws_program.proofs.Telling.{put_as, stop_as}
 use Rattle.sector_model.proofs.PlayTies.{play_ties}
 use Rattle.laws_program.proofs.AlikeDisks.{AlikeBays}
 use Rattle.laws_program.proofs.AlikeFiles.{AlikeTold, held_at, held_alike, stop_by, stop_cases, same_stop}
@@ -49,18 +51,43 @@ begin_stages one two begin =
 
 -- ---- ends by the outside
 
-stop_free : (cause : Stop) → IsEndStop cause → IsFreeEnd (stop_status cause)
-stop_free stop.FileFault is = tt
-stop_free stop.NoMemory is = tt
-stop_free _ is = absurd is
-
 stop_ended : (cause : Stop) (ended : Status) → ended ≡ stop_status cause → IsEndStop cause → IsFreeEnd ended
-stop_ended cause ended is free = subst IsFreeEnd (sym is) (stop_free cause free)
+stop_ended cause ended is free = subst IsFreeEnd (sym is) (stop_as (λ flag. ⊥) cause free)
 
 put_free : (ended : Status) → IsPutFault ended → IsFreeEnd ended
-put_free status.NoMemory is = tt
-put_free status.SinkFault is = tt
-put_free _ is = absurd is
+put_free ended is = put_as (λ flag. ⊥) ended is
+
+-- ---- how a play begins, by what is found under the job's name
+
+module _ (job : List ℕ) (old : World) (course : List Taken) (new : World) (ended : Status) where
+  abbrev Tried : Bool → List ℕ → Type 0
+  Tried long bytes =
+      MatchBool long (TellsAlone (bad_line_text 0) status.BadJob old course new ended) (PlaysParsed (job_of bytes) old course new ended)
+
+  -- no file, one that is too long, or one that is played as it is parsed
+  abbrev Opened : Option (List ℕ) → Type 0
+  Opened None = TellsAlone (absent_text job) status.Absent old course new ended
+  Opened (Some bytes) = Tried (nat_lt most_job_bytes (length bytes)) bytes
+
+  there_opened : (found : Option (List ℕ)) (text : List ℕ) → IsThere found text → PlaysParsed (job_of text) old course new ended → Opened found
+  there_opened None text there plays = absurd there
+  there_opened (Some bytes) text there plays =
+      subst (λ (b : Bool). Tried b bytes) (sym (le-ltb most_job_bytes (length bytes) there.1))
+      (subst (λ (t : List ℕ). PlaysParsed (job_of t) old course new ended) (sym there.0) plays)
+
+  long_opened : (found : Option (List ℕ)) → IsTooLong found → TellsAlone (bad_line_text 0) status.BadJob old course new ended → Opened found
+  long_opened None long alone = absurd long
+  long_opened (Some bytes) long alone = subst (λ (b : Bool). Tried b bytes) (sym (lt-ltb most_job_bytes (length bytes) long)) alone
+
+  -- the play begins so, or the outside ended it before its first request
+  opened : (files : Files) → old.files ≡ Some files → Plays job old course new ended → Opened (file_at files job) ⊎ ((course ≡ []) × IsFreeEnd ended)
+  opened files told (plays.There is) =
+      inl (there_opened (file_at files job) is.text (subst (λ (o : Option Files). IsText o job is.text) told is.told) is.plays)
+  opened files told (plays.Missing absent alone) = inl (subst Opened (sym (subst (λ (o : Option Files). IsAbsent o job) told absent)) alone)
+  opened files told (plays.TooLong longer alone) =
+      inl (long_opened (file_at files job) (subst (λ (o : Option Files). IsLonger o job most_job_bytes) told longer) alone)
+  opened files told (plays.Faulty nothing idle) = inr (nothing, subst IsFreeEnd (sym idle.status) tt)
+  opened files told (plays.Starved nothing idle) = inr (nothing, subst IsFreeEnd (sym idle.status) tt)
 
 -- ---- how a play of requests came to its end
 
@@ -278,92 +305,22 @@ module _ (one two one_after two_after : World) (course course_too : List Taken) 
     parsed_alike (Ok requests) first second = requests_alike requests first second
     parsed_alike (Err line) first second = alone_alike (bad_line_text line) status.BadJob first second
 
-    -- the told file of the batch job's name is this text
-    abbrev IsThere : Option (List ℕ) → List ℕ → Type 0
-    IsThere o text = IsSomeAnd o (λ bytes. (bytes ≡ text) × (length bytes ≤ most_job_bytes))
+    -- two plays of one file
+    both_opened : (job : List ℕ) (found : Option (List ℕ)) → Opened job one course one_after ended found → Opened job two course_too two_after ended_too found
+        → Alike
+    both_opened job None a b = alone_alike (absent_text job) status.Absent a b
+    both_opened job (Some bytes) a b =
+        both_tests Alike _ _ _ _ (nat_lt most_job_bytes (length bytes)) a b (alone_alike (bad_line_text 0) status.BadJob) (parsed_alike (job_of bytes))
 
-    abbrev IsTooLong : Option (List ℕ) → Type 0
-    IsTooLong o = IsSomeAnd o (λ bytes. most_job_bytes < length bytes)
-
-    one_text : (o : Option (List ℕ)) (x y : List ℕ) → IsThere o x → IsThere o y → y ≡ x
-    one_text None x y a b = absurd a
-    one_text (Some bytes) x y a b = sym b.0 ∙ a.0
-
-    there_missing : (o : Option (List ℕ)) (x : List ℕ) → IsThere o x → o ≡ None → ⊥
-    there_missing None x a none = a
-    there_missing (Some bytes) x a none = cc none
-
-    there_long : (o : Option (List ℕ)) (x : List ℕ) → IsThere o x → IsTooLong o → ⊥
-    there_long None x a long = a
-    there_long (Some bytes) x a long = omega (arith, a.1, long)
-
-    missing_long : (o : Option (List ℕ)) → o ≡ None → IsTooLong o → ⊥
-    missing_long None none long = long
-    missing_long (Some bytes) none long = cc none
-
-    abbrev file : List ℕ → Option (List ℕ)
-    file job = file_at begin.files job
-
-    module _ (job : List ℕ) where
-      text_of : (text : List ℕ) → IsText one.files job text → IsThere (file job) text
-      text_of text is = subst (λ (o : Option Files). IsText o job text) begin.told is
-
-      text_too : (text : List ℕ) → IsText two.files job text → IsThere (file job) text
-      text_too text is =
-          subst (λ (o : Option (List ℕ)). IsThere o text) (held_at begin.files begin.others job begin.same)
-          (subst (λ (o : Option Files). IsText o job text) begin.told_too is)
-
-      absent_of : IsAbsent one.files job → file job ≡ None
-      absent_of is = subst (λ (o : Option Files). IsAbsent o job) begin.told is
-
-      absent_too : IsAbsent two.files job → file job ≡ None
-      absent_too is =
-          subst (λ (o : Option (List ℕ)). o ≡ None) (held_at begin.files begin.others job begin.same)
-          (subst (λ (o : Option Files). IsAbsent o job) begin.told_too is)
-
-      long_of : IsLonger one.files job most_job_bytes → IsTooLong (file job)
-      long_of is = subst (λ (o : Option Files). IsLonger o job most_job_bytes) begin.told is
-
-      long_too : IsLonger two.files job most_job_bytes → IsTooLong (file job)
-      long_too is =
-          subst IsTooLong (held_at begin.files begin.others job begin.same)
-          (subst (λ (o : Option Files). IsLonger o job most_job_bytes) begin.told_too is)
-
-      fault_first : course ≡ [] → IsFreeEnd ended → Alike
-      fault_first none free = (none_first none, λ regular. inl free)
-
-      fault_second : course_too ≡ [] → IsFreeEnd ended_too → Alike
-      fault_second none free = (none_second none, λ regular. inr (inl free))
-
-      there_alike : PlaysText job one course one_after ended → Plays job two course_too two_after ended_too → Alike
-      there_alike a (plays.There b) =
-          let same : b.text ≡ a.text = one_text (file job) a.text b.text (text_of a.text a.told) (text_too b.text b.told) in
-          parsed_alike (job_of a.text) a.plays (subst (λ (t : List ℕ). PlaysParsed (job_of t) two course_too two_after ended_too) same b.plays)
-      there_alike a (plays.Missing absent alone) = absurd (there_missing (file job) a.text (text_of a.text a.told) (absent_too absent))
-      there_alike a (plays.TooLong longer alone) = absurd (there_long (file job) a.text (text_of a.text a.told) (long_too longer))
-      there_alike a (plays.Faulty nothing idle) = fault_second nothing (subst IsFreeEnd (sym idle.status) tt)
-      there_alike a (plays.Starved nothing idle) = fault_second nothing (subst IsFreeEnd (sym idle.status) tt)
-
-      missing_alike : IsAbsent one.files job → TellsAlone (absent_text job) status.Absent one course one_after ended → Plays job two course_too two_after ended_too → Alike
-      missing_alike absent a (plays.There b) = absurd (there_missing (file job) b.text (text_too b.text b.told) (absent_of absent))
-      missing_alike absent a (plays.Missing absent_here b) = alone_alike (absent_text job) status.Absent a b
-      missing_alike absent a (plays.TooLong longer b) = absurd (missing_long (file job) (absent_of absent) (long_too longer))
-      missing_alike absent a (plays.Faulty nothing idle) = fault_second nothing (subst IsFreeEnd (sym idle.status) tt)
-      missing_alike absent a (plays.Starved nothing idle) = fault_second nothing (subst IsFreeEnd (sym idle.status) tt)
-
-      long_alike : IsLonger one.files job most_job_bytes → TellsAlone (bad_line_text 0) status.BadJob one course one_after ended → Plays job two course_too two_after ended_too → Alike
-      long_alike longer a (plays.There b) = absurd (there_long (file job) b.text (text_too b.text b.told) (long_of longer))
-      long_alike longer a (plays.Missing absent b) = absurd (missing_long (file job) (absent_too absent) (long_of longer))
-      long_alike longer a (plays.TooLong longer_here b) = alone_alike (bad_line_text 0) status.BadJob a b
-      long_alike longer a (plays.Faulty nothing idle) = fault_second nothing (subst IsFreeEnd (sym idle.status) tt)
-      long_alike longer a (plays.Starved nothing idle) = fault_second nothing (subst IsFreeEnd (sym idle.status) tt)
-
-      plays_alike : Plays job one course one_after ended → Plays job two course_too two_after ended_too → Alike
-      plays_alike (plays.There a) second = there_alike a second
-      plays_alike (plays.Missing absent a) second = missing_alike absent a second
-      plays_alike (plays.TooLong longer a) second = long_alike longer a second
-      plays_alike (plays.Faulty nothing idle) second = fault_first nothing (subst IsFreeEnd (sym idle.status) tt)
-      plays_alike (plays.Starved nothing idle) second = fault_first nothing (subst IsFreeEnd (sym idle.status) tt)
+    plays_alike : (job : List ℕ) → Plays job one course one_after ended → Plays job two course_too two_after ended_too → Alike
+    plays_alike job first second = elim (opened job one course one_after ended begin.files begin.told first) [
+      | inr (none, free) ↦ (none_first none, λ regular. inl free)
+      | inl a ↦ elim (opened job two course_too two_after ended_too begin.others begin.told_too second) [
+        | inr (none, free) ↦ (none_second none, λ regular. inr (inl free))
+        | inl b ↦ both_opened job (file_at begin.files job) a
+            (subst (Opened job two course_too two_after ended_too) (held_at begin.files begin.others job begin.same) b)
+      ]
+    ]
 
 -- two plays of one job with nothing left to go wrong
 pub answers_determined : (job : List ℕ) (one one_after two two_after : World) (course other : List Taken) (ended other_ended : Status) → BeginAlike one two → Plays job one course one_after ended → Plays job two other two_after other_ended → AnswersAgree one.state course other × (AreRegularBefore one.state course → EndAlikeUnlessFree one two course other one_after two_after ended other_ended)

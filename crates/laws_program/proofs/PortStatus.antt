@@ -1,18 +1,17 @@
 -- The status of a run of port accesses, where each file that is put in is the file of a disk.
 use Rattle.std.proofs.Common.{◌≡◌, ◌∙◌, ℕ, Bool, true, false, List, [], ◌∷◌, ◌++◌, Option, Some, None, Result, Ok, refl, ap, sym, subst, inl, inr}
 use Rattle.std.specs.Prelude.{◌==◌, is_some, IfSome, MatchOption, if◌then◌else◌}
-use Rattle.laws_program.proofs.Common.{Files, stored, both, in_bay, with_bay, DriveCounts, Status, Disk, IsDisk, file_of, Request, ports_of, PortLine, Board, IsInRange, drive_in, Reason, Stop, is_bay, StopCause, IsAbsent, IsLonger, IsEndStop, IsText, most_job_bytes, ports_file_of, Stand, Performed, ports_world, LineAnswer, Bench, no_names, PortRun, DoesLine, KeepsMedia, LoadsMedium, StoresMedium, insert_refusal, eject_refusal, PlaysLines, EndsByReplies, IsDiskFile, Names, named_by, is_free, IsStoredBy, HoldsBy, InsertsDisks, media_among}
+use Rattle.laws_program.proofs.Common.{Files, stored, both, in_bay, with_bay, DriveCounts, Status, Disk, IsDisk, file_of, Request, ports_of, PortLine, Board, IsInRange, drive_in, Reason, Stop, is_bay, StopCause, IsEndStop, IsText, ports_file_of, Stand, Performed, ports_world, LineAnswer, Bench, no_names, PortRun, DoesLine, KeepsMedia, LoadsMedium, StoresMedium, insert_refusal, eject_refusal, PlaysLines, EndsByReplies, IsDiskFile, Names, named_by, is_free, IsStoredBy, HoldsBy, InsertsDisks, media_among}
 use Rattle.floppy_jobs.specs.declared.request.Request.TheVariants as request
 use Rattle.floppy_jobs.specs.declared.ports.PortLine.TheVariants as port
 use Rattle.text_commands.specs.declared.ports.answer.LineAnswer.TheVariants as answer
 use Rattle.text_commands.specs.PortCourses.{Taken, lines_of, has_refusal}
 use Rattle.text_commands.specs.PortLines.{StopsAt, IsRefused}
 use Rattle.text_commands.specs.PortPlays.{World, Played, Stopped, BrokenOff, EndStopped, PlaysParsed, Plays, There, Missing, TooLong, Faulty, Starved}
-use Rattle.laws_program.proofs.Telling.{EndsBy, whole_by, put_by, prints_by, end_by}
-use Rattle.laws_program.proofs.Inserting.{stored_last, stored_still, file_image, choose, choose_out, goes_in}
-use Rattle.laws_program.proofs.PlayStatus.{same_text, text_there, text_short}
-use Rattle.laws_program.proofs.RescueAgain.{stop_here}
-use Rattle.laws_program.proofs.Replies.{counted_by}
+use Rattle.laws_program.proofs.Telling.{EndsBy, Is, whole_as, put_as, prints_as, stop_as, ends_so}
+use Rattle.laws_program.proofs.Inserting.{stored_last, stored_still, choose, choose_out, goes_in}
+use Rattle.laws_program.proofs.Protected.{not_named}
+use Rattle.laws_program.proofs.PlayStatus.{disks_stop, same_text, not_absent, not_long}
 
 -- ---- what stands in the bays and under their names
 
@@ -137,8 +136,8 @@ line_stop Holds names old kept (port.Insert bay name) later cause new inserts st
     let goes = goes_in (is_bay bay) (is_some (in_bay old.names bay)) stops.0 in
     let free = subst (λ (n : Names). is_free n bay ≡ true) kept.named goes in
     let file = subst (λ (f : Option Files). IsDiskFile f name) kept.told_is (kept.holds name (inserts.0 free)) in
-    stop_here kept.files name file.0 bay cause (file_image kept.files name file)
-    (subst (λ (f : Option Files). StopCause f (request.Insert bay name) cause) kept.told_is stops.1)
+    disks_stop kept.files (request.Insert bay name) cause (subst (λ (f : Option Files). StopCause f (request.Insert bay name) cause) kept.told_is stops.1)
+    (λ at other is. subst (λ (n : List ℕ). IsDiskFile (Some kept.files) n) (cc is) file)
 line_stop Holds names old kept (port.Eject bay) later cause new inserts stops = stops.1
 line_stop Holds names old kept _ later cause new inserts stops = absurd stops
 
@@ -158,28 +157,26 @@ module _ (Holds : List ℕ → Type 0) (names : Names) where
   lines_by : (lines : List PortLine) (old : World) (course : List Taken) (new : World) (ended : Status) → InsertsDisks Holds names (media_among lines)
       → IsKept Holds names old.bench → PlaysLines lines old course new ended → EndsBy (has_refusal course) ended
   lines_by lines old course new ended inserts kept (Played is) =
-      subst (λ (s : Status). EndsBy (has_refusal course) s) (sym is.status) (whole_by (has_refusal course))
+      subst (λ (s : Status). EndsBy (has_refusal course) s) (sym is.status) (whole_as (Is (has_refusal course)) (has_refusal course) refl)
   lines_by lines old course new ended inserts kept (Stopped is) =
-      prints_by (has_refusal course) _ _ _ _ ended is.prints
-      (end_by (has_refusal course) is.cause
+      prints_as (Is (has_refusal course)) _ _ _ _ ended is.prints
+      (λ well. stop_as (Is (has_refusal course)) is.cause
       (lines_stop is.asked is.later is.cause is.mid new.bench is.stops course Holds names old.bench is.run
       (subst (λ (l : List PortLine). InsertsDisks Holds names (media_among l)) is.all inserts) kept))
-  lines_by lines old course new ended inserts kept (BrokenOff is) = put_by (has_refusal course) ended is.fault
+  lines_by lines old course new ended inserts kept (BrokenOff is) = put_as (Is (has_refusal course)) ended is.fault
   lines_by lines old course new ended inserts kept (EndStopped is) =
-      subst (λ (s : Status). EndsBy (has_refusal course) s) (sym is.status) (end_by (has_refusal course) is.cause is.only)
+      subst (λ (s : Status). EndsBy (has_refusal course) s) (sym is.status) (stop_as (Is (has_refusal course)) is.cause is.only)
 
 ports_by : (file : List ℕ) (files : Files) (text : List ℕ) (lines : List PortLine) (old : World) (course : List Taken) (new : World) (ended : Status)
     → old.bench.files ≡ Some files → IsText (Some files) file text → ports_of text ≡ Ok lines
     → InsertsDisks (IsDiskFile (Some files)) (both None) (media_among lines) → IsKept (IsDiskFile (Some files)) (both None) old.bench
     → Plays file old course new ended → EndsBy (has_refusal course) ended
 ports_by file files text lines old course new ended told is spells inserts kept (There there) =
-    let same = same_text files file there.text text (subst (λ (f : Option Files). IsText f file there.text) told there.told) is in
     lines_by (IsDiskFile (Some files)) (both None) lines old course new ended inserts kept
-    (subst (λ (parsed : Result (List PortLine) ℕ). PlaysParsed parsed old course new ended) (ap ports_of same ∙ spells) there.plays)
-ports_by file files text lines old course new ended told is spells inserts kept (Missing absent tells) =
-    absurd (text_there files file text is (subst (λ (f : Option Files). IsAbsent f file) told absent))
-ports_by file files text lines old course new ended told is spells inserts kept (TooLong longer tells) =
-    absurd (text_short files file text is (subst (λ (f : Option Files). IsLonger f file most_job_bytes) told longer))
+    (subst (λ (parsed : Result (List PortLine) ℕ). PlaysParsed parsed old course new ended)
+    (ap ports_of (same_text files file text old.bench.files told is there.text there.told) ∙ spells) there.plays)
+ports_by file files text lines old course new ended told is spells inserts kept (Missing absent tells) = absurd (not_absent files file text old.bench.files told is absent)
+ports_by file files text lines old course new ended told is spells inserts kept (TooLong longer tells) = absurd (not_long files file text old.bench.files told is longer)
 ports_by file files text lines old course new ended told is spells inserts kept (Faulty idle) =
     subst (λ (s : Status). EndsBy (has_refusal course) s) (sym idle.status) tt
 ports_by file files text lines old course new ended told is spells inserts kept (Starved idle) =
@@ -191,16 +188,9 @@ begins_kept files bench is named = record {
   files = files;
   told_is = is;
   named = named;
-  valid = λ bay name disk under medium. absurd (none (bay == 0) name under);
+  valid = λ bay name disk under medium. absurd (not_named name bay under);
   holds = λ name known. subst (λ (f : Option Files). IsDiskFile f name) (sym is) known;
 }
-  where
-    gone : (o : Option (List ℕ)) (name : List ℕ) → o ≡ None → o ≡ Some name → ⊥
-    gone o name e f = cc (e, f)
-
-    none : (b : Bool) (name : List ℕ) → (if b then None else None) ≡ Some name → ⊥
-    none true name e = gone None name refl e
-    none false name e = gone None name refl e
 
 pub ports_end : (file : List ℕ) (words : List (List ℕ)) (spares : List DriveCounts) (old new : Stand) (ended : Status) (files : Files) (text : List ℕ)
     (lines : List PortLine) (named : ports_file_of words ≡ Some file) → old.outside.outside.files ≡ Some files → IsText (Some files) file text
@@ -209,6 +199,7 @@ pub ports_end : (file : List ℕ) (words : List (List ℕ)) (spares : List Drive
 ports_end file words spares old new ended files text lines named told is spells inserts done =
     let ran = done.does.ports file named in
     let first = ports_world old.board no_names old.outside.outside in
-    counted_by (has_refusal ran.1.course) old new ended done.shelf_faults done.sink_faults
+    ends_so (Is (has_refusal ran.1.course)) (EndsByReplies (has_refusal ran.1.course) old new) ended (λ e. e) (λ e. e) tt
+    done.shelf_faults.rose done.sink_faults.rose
     (ports_by file files text lines first ran.1.course (ports_world new.board ran.0 new.outside.outside) ended told is spells inserts
     (begins_kept files first.bench told refl) ran.1.plays)

@@ -1,14 +1,16 @@
 -- A protected disk that stands under a name before a run stands there after it.
-use Rattle.std.proofs.Common.{◌≡◌, ◌∙◌, ℕ, Bool, true, false, true≢false, cond, List, [], ◌∷◌, length, Option, Some, None, Result, Ok, Err, refl, ap, sym, subst, inr}
-use Rattle.std.specs.Prelude.{◌≤◌, ◌==◌, ◌-◌, not, is_some, IsSomeAnd, if◌then◌else◌}
-use Rattle.laws_program.proofs.Common.{option_map_or, nat_cmp, eq_by_cmp, slice_cmp, Files, file_at, after_store, stored, Status, Disk, IsDisk, image_of, file_of, image_again, Two, both, in_bay, with_bay, DriveCounts, Board, Request, Reply, Bay, bay_of, set_bay, fresh_bay, State, IsSame, ChangesMedium, is_bay, Step, IsImageOf, refusal_of, spare_refusal, is_loaded, most_image_bytes, Taken, Run, requests_of, EndsBay, Stored, Left, EndStopsAt, AtFirst, AtSecond, World, Plays, There, Missing, TooLong, Faulty, Starved, PlaysParsed, PlaysRequests, Played, Stopped, BrokenOff, EndStopped, run_both, Outside, world, DoesOrStarves, AsAsked, StarvesWords, RunsOver, one_image, Names, is_same_bay, exchanges, IsGuarded, BlanksUnder, BlanksNone}
+use Rattle.std.proofs.Common.{[], ◌≡◌, ◌∙◌, ℕ, Bool, true, false, true≢false, cond, List, ◌∷◌, length, Option, Some, None, Ok, refl, ap, sym, subst, inr}
+use Rattle.std.specs.Prelude.{◌≤◌, ◌-◌, is_some, IsSomeAnd}
+use Rattle.laws_program.proofs.Common.{option_map_or, nat_cmp, eq_by_cmp, slice_cmp, Files, file_at, after_store, stored, Status, Disk, IsDisk, image_of, file_of, image_again, both, in_bay, DriveCounts, Board, Request, Reply, Bay, bay_of, set_bay, fresh_bay, State, IsSame, ChangesMedium, is_bay, Step, IsImageOf, refusal_of, spare_refusal, is_loaded, most_image_bytes, Taken, Run, requests_of, EndsBay, Stored, Left, EndStopsAt, AtFirst, AtSecond, World, Outside, world, Form, DoesForm, RunsOver, one_image, Names, is_same_bay, exchanges, IsGuarded, BlanksUnder, BlanksNone}
 use Rattle.std.specs.FinMap as fin
 use Rattle.std.proofs.lemmas.Map.Views.{tells_apart}
 use Rattle.floppy_jobs.specs.declared.request.Request.TheVariants as request
 use Rattle.sector_model.specs.Steps.{StoresMedium}
 use Rattle.sector_model.specs.Runs.{Ends}
 use Rattle.floppy_words.specs.declared.form.Form.TheVariants as form
-use Rattle.laws_program.proofs.Stepping.{either, either_is, sorted, other_bay, same_bay, becomes_medium, step_keeps}
+use Rattle.laws_program.proofs.Courses.{Rests, Still, AtRequest, AtEnd, AtStore, Went, went_play, went_calls, went_or_starved}
+use Rattle.laws_program.proofs.Stepping.{either, either_is, becomes_medium, calm_step, step_keeps}
+use Rattle.laws_program.proofs.Bays.{sorted, each_bay, same_bay, other_bay, in_same}
 use Rattle.laws_program.proofs.Inserting.{file_text, file_stored, not_loaded}
 
 -- ---- files
@@ -32,17 +34,6 @@ image_stored files name other disk put valid same image =
     go false is = image
 
 -- ---- bays
-
-pub in_same : {T : Type 0} (two : Two T) (at bay : ℕ) (x : T) → is_same_bay at bay ≡ true → in_bay (with_bay two at x) bay ≡ x
-in_same two at bay x same = go (at == 0) (bay == 0) same
-  where
-    go : (s t : Bool) → (if s then t else not t) ≡ true
-        → (if t then (if s then record two { first = x } else record two { second = x }).first
-        else (if s then record two { first = x } else record two { second = x }).second) ≡ x
-    go true true e = refl
-    go true false e = absurd (true≢false (sym e))
-    go false true e = absurd (true≢false (sym e))
-    go false false e = refl
 
 -- the name has the image of the disk, and each medium of this name is that disk
 pub record IsStored (name : List ℕ) (disk : Disk) (state : State) (told : Option Files) : Type 0 where
@@ -159,27 +150,9 @@ module _ (name : List ℕ) (disk : Disk) (valid : IsDisk disk) (guarded : disk.p
       either (refusal_of old (request.Eject at)) step (λ does. taken_kept at new after does.1)
       (λ cause refused. refused_kept new after refused.same refused.files)
   step_kept (request.Unit at) answer new after none step = unit_kept at answer new after step
-  step_kept (request.Ack at) answer new after none step =
-      calm_kept (request.Ack at) answer new after step (λ bay. refl) step.0.names step.0.files
-  step_kept (request.Read at key address) answer new after none step =
-      calm_kept (request.Read at key address) answer new after step (λ bay. refl) step.0.names step.0.files
-  step_kept (request.Write at key address) answer new after none step =
-      calm_kept (request.Write at key address) answer new after step (λ bay. refl) step.0.names step.0.files
-  step_kept (request.WriteDeleted at key address) answer new after none step =
-      calm_kept (request.WriteDeleted at key address) answer new after step (λ bay. refl) step.0.names step.0.files
-  step_kept (request.Format at c h) answer new after none step =
-      calm_kept (request.Format at c h) answer new after step (λ bay. refl) step.0.names step.0.files
-  step_kept (request.Fill address count byte) answer new after none step =
-      either (refusal_of old (request.Fill address count byte)) step
-      (λ does. calm_kept (request.Fill address count byte) answer new after step (λ bay. refl) does.2.names does.1)
-      (λ cause refused. refused_kept new after refused.same refused.files)
-  step_kept (request.Dump address count) answer new after none step =
-      either (refusal_of old (request.Dump address count)) step (λ does. refused_kept new after does.2 does.1)
-      (λ cause refused. refused_kept new after refused.same refused.files)
-  step_kept (request.SetRate at rate) answer new after none step =
-      calm_kept (request.SetRate at rate) answer new after step (λ bay. refl) step.0.names step.0.files
-  step_kept (request.Tries tries) answer new after none step =
-      calm_kept (request.Tries tries) answer new after step (λ bay. refl) step.0.names step.0.files
+  step_kept asked answer new after none step =
+      let calm = calm_step asked old told answer new after refl step in
+      calm_kept asked answer new after step (λ bay. refl) calm.0 calm.1
 
   -- the end of a bay
   end_kept : (at : ℕ) (new : State) (after : Option Files) → EndsBay at old told new after → Keeps new after
@@ -220,50 +193,22 @@ module _ (name : List ℕ) (disk : Disk) (valid : IsDisk disk) (guarded : disk.p
   end_stopped old new told after (AtSecond mid first drops) kept =
       image_in name disk mid after (end_kept name disk valid guarded old told kept 0 mid after first)
 
-  requests_keep : (requests : List Request) (old : World) (course : List Taken) (new : World) (ended : Status) → BlanksNone name (requests_of course)
-      → Has old.state old.files → PlaysRequests requests old course new ended → HasImage name disk new.files
-  requests_keep requests old course new ended none kept (Played is) =
-      ends_kept is.mid new.state is.files new.files is.stored (course_kept old.state is.mid old.files is.files course none is.run kept)
-  requests_keep requests old course new ended none kept (Stopped is) =
-      still name disk is.files new.files is.stops.files
-      (image_in name disk is.mid is.files (course_kept old.state is.mid old.files is.files course none is.run kept))
-  requests_keep requests old course new ended none kept (BrokenOff is) =
-      let whole = run_both old.state is.mid is.last.after old.files is.files new.files is.before (is.last ∷ []) is.run (new.files, is.step, (refl, refl)) in
-      let run = subst (λ (steps : List Taken). Run old.state old.files steps is.last.after new.files) (sym is.course_is) whole in
-      image_in name disk is.last.after new.files (course_kept old.state is.last.after old.files new.files course none run kept)
-  requests_keep requests old course new ended none kept (EndStopped is) =
-      end_stopped is.mid new.state is.files new.files is.stops (course_kept old.state is.mid old.files is.files course none is.run kept)
+  rests_keep : (mid new : State) (files after : Option Files) → Rests mid files new after → Has mid files → HasImage name disk after
+  rests_keep mid new files after (Still state same) kept = still name disk files after same (image_in name disk mid files kept)
+  rests_keep mid new files after (AtRequest asked cause stops) kept = still name disk files after stops.files (image_in name disk mid files kept)
+  rests_keep mid new files after (AtEnd ends) kept = ends_kept mid new files after ends kept
+  rests_keep mid new files after (AtStore stops) kept = end_stopped mid new files after stops kept
 
-  parsed_keep : (parsed : Result (List Request) ℕ) (old : World) (course : List Taken) (new : World) (ended : Status) → BlanksNone name (requests_of course)
-      → Has old.state old.files → PlaysParsed parsed old course new ended → HasImage name disk new.files
-  parsed_keep (Ok requests) old course new ended none kept plays = requests_keep requests old course new ended none kept plays
-  parsed_keep (Err line) old course new ended none kept plays = still name disk old.files new.files plays.tells.files (image_in name disk old.state old.files kept)
-
-  job_keeps : (job : List ℕ) (old : World) (course : List Taken) (new : World) (ended : Status) → BlanksNone name (requests_of course)
-      → Has old.state old.files → Plays job old course new ended → HasImage name disk new.files
-  job_keeps job old course new ended none kept (There is) = parsed_keep _ old course new ended none kept is.plays
-  job_keeps job old course new ended none kept (Missing absent tells) =
-      still name disk old.files new.files tells.tells.files (image_in name disk old.state old.files kept)
-  job_keeps job old course new ended none kept (TooLong longer tells) =
-      still name disk old.files new.files tells.tells.files (image_in name disk old.state old.files kept)
-  job_keeps job old course new ended none kept (Faulty nothing idle) =
-      still name disk old.files new.files (ap (λ (w : World). w.files) idle.same) (image_in name disk old.state old.files kept)
-  job_keeps job old course new ended none kept (Starved nothing idle) =
-      still name disk old.files new.files (ap (λ (w : World). w.files) idle.same) (image_in name disk old.state old.files kept)
-
-  form_keeps : (job : List ℕ) (old : World) (course : List Taken) (new : World) (ended : Status) → BlanksNone name (requests_of course)
-      → Has old.state old.files → DoesOrStarves (form.Play job) old course new ended → HasImage name disk new.files
-  form_keeps job old course new ended none kept (AsAsked does) = job_keeps job old course new ended none kept does
-  form_keeps job old course new ended none kept (StarvesWords nothing idle) =
-      still name disk old.files new.files (ap (λ (w : World). w.files) idle.same) (image_in name disk old.state old.files kept)
+  went_keeps : (old : World) (course : List Taken) (new : World) → BlanksNone name (requests_of course) → Has old.state old.files → Went old course new
+      → HasImage name disk new.files
+  went_keeps old course new none kept went =
+      rests_keep went.mid new.state went.files new.files went.rests (course_kept old.state went.mid old.files went.files course none went.run kept)
 
 -- a session begins with no medium
-not_named : (name : List ℕ) (bay : ℕ) → in_bay (both None) bay ≡ Some name → ⊥
-not_named name bay named = go (bay == 0) named
-  where
-    go : (b : Bool) → (if b then None else None) ≡ Some name → ⊥
-    go true e = absurd (cc e)
-    go false e = absurd (cc e)
+pub not_named : (name : List ℕ) (bay : ℕ) → in_bay (both None) bay ≡ Some name → ⊥
+not_named name bay =
+    let none : Names = both None in
+    each_bay none none (λ x y. x ≡ Some name → ⊥) bay (λ e. cc e) (λ e. cc e)
 
 pub begun : (name : List ℕ) (disk : Disk) (start : State) (told : Option Files) (files : Files) → told ≡ Some files → IsImageOf (Some files) name disk
     → start.names ≡ both None → IsStored name disk start told
@@ -274,10 +219,22 @@ begun name disk start told files is image names = record {
   held = λ bay named. absurd (not_named name bay (ap (λ (n : Names). in_bay n bay) (sym names) ∙ named));
 }
 
-pub play_stays : (name job : List ℕ) (spares : List DriveCounts) (old new : Board) (before after : Outside) (ended : Status) (files : Files) (disk : Disk)
-    (over : RunsOver (Some (form.Play job)) old spares before new after ended) → before.files ≡ Some files → IsImageOf (Some files) name disk
-    → IsDisk disk → disk.protected ≡ true → BlanksNone name (requests_of over.runs.course) → HasImage name disk after.files
-play_stays name job spares old new before after ended files disk over told image valid guarded none =
-    form_keeps name disk valid guarded job (world over.start before.files before.report) over.runs.course
-    (world over.last after.files after.report) ended none
-    (begun name disk over.start before.files files told image over.set_up.names) over.runs.does
+module _ (name file : List ℕ) (spares : List DriveCounts) (old new : Board) (before after : Outside) (ended : Status) (files : Files) (disk : Disk) where
+  abbrev KeepsDisk : (asked : Form) → RunsOver (Some asked) old spares before new after ended → Type 0
+  KeepsDisk asked over =
+      before.files ≡ Some files → IsImageOf (Some files) name disk → IsDisk disk → disk.protected ≡ true
+      → BlanksNone name (requests_of over.runs.course) → HasImage name disk after.files
+
+  form_stays : (asked : Form) (over : RunsOver (Some asked) old spares before new after ended)
+      → ((one two : World) (course : List Taken) → DoesForm asked one course two ended → Went one course two) → KeepsDisk asked over
+  form_stays asked over went told image valid guarded none =
+      let first = world over.start before.files before.report in
+      let last = world over.last after.files after.report in
+      went_keeps name disk valid guarded first over.runs.course last none (begun name disk over.start before.files files told image over.set_up.names)
+      (went_or_starved first over.runs.course last asked ended (went first last over.runs.course) over.runs.does)
+
+  pub play_stays : (over : RunsOver (Some (form.Play file)) old spares before new after ended) → KeepsDisk (form.Play file) over
+  play_stays over = form_stays (form.Play file) over (λ one two course does. went_play one course two file ended does)
+
+  pub calls_stay : (over : RunsOver (Some (form.Int13 file)) old spares before new after ended) → KeepsDisk (form.Int13 file) over
+  calls_stay over = form_stays (form.Int13 file) over (λ one two course does. went_calls one course two file ended does)

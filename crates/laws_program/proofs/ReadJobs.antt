@@ -1,15 +1,14 @@
 -- A batch job that only reads stores what its files have already.
-use Rattle.std.proofs.Common.{◌≡◌, ◌∙◌, ℕ, Bool, true, false, true≢false, List, [], ◌∷◌, ◌++◌, Option, Some, None, Result, Ok, Err, refl, sym, ap, subst}
-use Rattle.std.specs.Prelude.{◌==◌, MatchBool, ◌-◌, if◌then◌else◌}
-use Rattle.laws_program.proofs.Common.{Two, both, in_bay, with_bay, Files, Store, DriveCounts, Code, Status, Chrn, Disk, job_of, Request, Board, Reply, StationState, Bay, bay_of, set_bay, fresh_bay, Becomes, Stays, State, ChangesMedium, is_bay, rate_refusal, read_refusal, IsRefusedAtOnce, Acks, AcksDrive, ReadsDrive, Step, refusal_of, Taken, Run, requests_of, World, Plays, There, Missing, TooLong, Faulty, Starved, PlaysParsed, PlaysRequests, Played, Stopped, BrokenOff, EndStopped, IsText, IsJob, world, Outside, DoesOrStarves, AsAsked, StarvesWords, RunsOver, IsSetUp, StoresFirst, medium_store, bay_store, stores_of, stores_by, end_stores, state_after, all_stored, step_stores, is_same_bay}
-use Rattle.flop_base.specs.declared.answers.Code.TheVariants as code
+use Rattle.std.proofs.Common.{◌≡◌, ◌∙◌, ℕ, true, false, true≢false, List, [], ◌∷◌, ◌++◌, Option, Some, None, refl, sym, ap, subst}
+use Rattle.std.specs.Prelude.{◌-◌}
+use Rattle.laws_program.proofs.Common.{Two, both, in_bay, with_bay, Files, Store, DriveCounts, Status, Disk, Request, Board, Reply, StationState, Bay, bay_of, set_bay, fresh_bay, Becomes, Stays, State, ChangesMedium, Step, refusal_of, Taken, Run, requests_of, IsJob, world, Outside, RunsOver, IsSetUp, StoresFirst, medium_store, bay_store, stores_of, stores_by, end_stores, state_after, all_stored, step_stores, is_same_bay}
 use Rattle.floppy_jobs.specs.declared.request.Request.TheVariants as request
 use Rattle.floppy_words.specs.declared.form.Form.TheVariants as form
 use Rattle.laws_program.specs.StoredAgain.{only_reads, AllRead, AreStoredAgain, StoresAgainAtEnd}
 use Rattle.laws_program.proofs.Courses.{form_runs}
-use Rattle.laws_program.proofs.Plays.{text_there}
-use Rattle.laws_program.proofs.Protected.{in_same}
-use Rattle.laws_program.proofs.Stepping.{either, sorted, other_bay, becomes_medium, kept_medium}
+use Rattle.laws_program.proofs.JobRuns.{first_asked}
+use Rattle.laws_program.proofs.Bays.{sorted, each_bay, other_bay, in_same, kept_medium}
+use Rattle.laws_program.proofs.Stepping.{either, becomes_medium, Alters, Leaves, Turns, Overwrites, Formats, calm_step}
 use Rattle.laws_program.proofs.StoresMade.{each_form_stores}
 
 -- ---- what stands in the bays
@@ -33,12 +32,6 @@ module _ (told : Option Files) (old new : State) where
   stays_held : new.names ≡ old.names → Stays old.station new.station → Held told old → Held told new
   stays_held names stays held =
       still_held names (λ bay. becomes_medium (record old.station { counters = new.station.counters }) new.station bay stays) held
-
-  -- a bay was changed, and still has its medium
-  changed_held : new.names ≡ old.names → (at : ℕ) (x : Bay) → Becomes (set_bay old.station at x) new.station → x.medium ≡ (bay_of old.station at).medium
-      → Held told old → Held told new
-  changed_held names at x becomes still held =
-      still_held names (λ bay. becomes_medium (set_bay old.station at x) new.station bay becomes ∙ kept_medium old.station.bays at bay x still) held
 
   -- a bay has this medium and this name from now on
   put_held : (at : ℕ) (medium : Option Disk) (name : Option (List ℕ)) → ChangesMedium at name medium old new → AreStoredAgain told (medium_store medium name)
@@ -85,23 +78,12 @@ module _ (told : Option Files) (old new : State) where
 
   -- ---- a step
 
-  acked_held : new.names ≡ old.names → (at : ℕ) (called : Result (Unit {0}) Code) → AcksDrive at old.station called new.station → Held told old → Held told new
-  acked_held names at (Ok done) acks held = let is = acks.done refl in changed_held names at _ is.becomes (sym is.medium) held
-  acked_held names at (Err cause) acks held = changed_held names at _ acks.refused.becomes refl held
-
-  ack_held : new.names ≡ old.names → (at : ℕ) (called : Result (Unit {0}) Code) → Acks at old.station called new.station → Held told old → Held told new
-  ack_held names at called acks held = go (is_bay at) acks
-    where
-      go : (b : Bool) → MatchBool b (AcksDrive at old.station called new.station) (IsRefusedAtOnce code.BadRequest old.station called new.station) → Held told new
-      go true does = acked_held names at called does held
-      go false refused = stays_held names refused.stays held
-
-  read_held : new.names ≡ old.names → (at address : ℕ) (key : Chrn) (called : Result Bool Code) → ReadsDrive at key address old.station called new.station
-      → Held told old → Held told new
-  read_held names at address key (Ok deleted) reads held =
-      still_held names (λ bay. ap (λ (s : StationState). (bay_of s bay).medium) reads.found.becomes) held
-  read_held names at address key (Err cause) reads held =
-      still_held names (λ bay. ap (λ (s : StationState). (bay_of s bay).medium) reads.refused.becomes) held
+  altered_held : (asked : Request) → only_reads asked ≡ true → new.names ≡ old.names → Alters asked old new → Held told old → Held told new
+  altered_held asked reads names (Leaves is) held = still_held names (λ bay. ap (λ (b : Two Bay). (in_bay b bay).medium) is) held
+  altered_held asked reads names (Turns at x is still) held =
+      still_held names (λ bay. ap (λ (b : Two Bay). (in_bay b bay).medium) is ∙ kept_medium old.station.bays at bay x still) held
+  altered_held asked reads names (Overwrites at x is free writes written changes reach) held = absurd (true≢false (sym reads ∙ writes))
+  altered_held asked reads names (Formats at x is free writes format layings lays) held = absurd (true≢false (sym reads ∙ writes))
 
   step_held : (asked : Request) (answer : Reply) (after : Option Files) → only_reads asked ≡ true → Step asked old told answer new after
       → Held told old → Held told new
@@ -109,27 +91,16 @@ module _ (told : Option Files) (old new : State) where
       either (refusal_of old (request.Insert at name)) step
       (λ does. put_held at (Some does.2.0) (Some name) does.2.2 ((does.2.0, does.2.1, refl), tt) held)
       (λ cause refused. stays_held refused.same.names refused.same.stays held)
-  step_held (request.Ack at) answer after reads step held = ack_held step.0.names at step.1.0 step.1.2 held
-  step_held (request.Read at key address) answer after reads step held =
-      either (read_refusal old.station at key address) step.1.2 (λ does. read_held step.0.names at address key step.1.0 does held)
-      (λ cause refused. stays_held step.0.names refused.stays held)
-  step_held (request.Fill address count byte) answer after reads step held =
-      either (refusal_of old (request.Fill address count byte)) step
-      (λ does. still_held does.2.names (λ bay. ap (λ (s : StationState). (bay_of s bay).medium) does.2.becomes) held)
-      (λ cause refused. stays_held refused.same.names refused.same.stays held)
-  step_held (request.Dump address count) answer after reads step held =
-      either (refusal_of old (request.Dump address count)) step (λ does. stays_held does.2.names does.2.stays held)
-      (λ cause refused. stays_held refused.same.names refused.same.stays held)
   step_held (request.Unit at) answer after reads step held =
       either (refusal_of old (request.Unit at)) step
       (λ does. gone_held does.2 at (record (set_bay old.station at (fresh_bay None)) { spares = old.station.spares - 1 }) does.3.becomes (λ bay. refl) held)
       (λ cause refused. stays_held refused.same.names refused.same.stays held)
-  step_held (request.SetRate at rate) answer after reads step held =
-      either (rate_refusal old.station at) step.1.2 (λ does. changed_held step.0.names at _ does.becomes refl held)
-      (λ cause refused. stays_held step.0.names refused.stays held)
-  step_held (request.Tries tries) answer after reads step held =
-      still_held step.0.names (λ bay. ap (λ (s : StationState). (bay_of s bay).medium) step.2.becomes) held
-  step_held _ answer after reads step held = absurd (true≢false (sym reads))
+  step_held (request.Blank at name count) answer after reads step held = absurd (true≢false (sym reads))
+  step_held (request.BlankDd at name count) answer after reads step held = absurd (true≢false (sym reads))
+  step_held (request.Eject at) answer after reads step held = absurd (true≢false (sym reads))
+  step_held asked answer after reads step held =
+      let calm = calm_step asked old told answer new after refl step in
+      altered_held asked reads calm.0 calm.2 held
 
 -- ---- a run
 
@@ -166,11 +137,9 @@ end_again told state held = append_again told (bay_store state 0) (bay_store sta
 
 -- a session begins with nothing in its bays
 empty_bay : (bay : ℕ) → in_bay (both (fresh_bay None)) bay ≡ fresh_bay None
-empty_bay bay = go (bay == 0)
-  where
-    go : (t : Bool) → (if t then fresh_bay None else fresh_bay None) ≡ fresh_bay None
-    go true = refl
-    go false = refl
+empty_bay bay =
+    let empty = both (fresh_bay None) in
+    each_bay empty empty (λ x y. x ≡ fresh_bay None) bay refl refl
 
 begun_held : (board : Board) (spares : List DriveCounts) (start : State) (told : Option Files) → IsSetUp board spares start → Held told start
 begun_held board spares start told set_up bay =
@@ -179,44 +148,9 @@ begun_held board spares start told set_up bay =
 
 -- ---- the requests of a job
 
-up_to : (before : List Taken) (last : Taken) (later : List Request) → requests_of before ++ last.asked ∷ later ≡ requests_of (before ++ last ∷ []) ++ later
-up_to [] last later = refl
-up_to (taken ∷ before) last later = ap (λ (l : List Request). taken.asked ∷ l) (up_to before last later)
-
 front : (one two : List Request) → AllRead (one ++ two) → AllRead one
 front [] two reads = tt
 front (asked ∷ one) two reads = (reads.0, front one two reads.1)
-
-nothing_run : (course : List Taken) → course ≡ [] → AllRead (requests_of course)
-nothing_run course nothing = subst (λ (row : List Taken). AllRead (requests_of row)) (sym nothing) tt
-
-requests_run : (requests : List Request) (old : World) (course : List Taken) (new : World) (ended : Status) → AllRead requests
-    → PlaysRequests requests old course new ended → AllRead (requests_of course)
-requests_run requests old course new ended reads (Played is) = subst AllRead is.all reads
-requests_run requests old course new ended reads (Stopped is) = front (requests_of course) (is.asked ∷ is.later) (subst AllRead is.all reads)
-requests_run requests old course new ended reads (BrokenOff is) =
-    subst (λ (row : List Taken). AllRead (requests_of row)) (sym is.course_is)
-    (front (requests_of (is.before ++ is.last ∷ [])) is.later (subst AllRead (is.all ∙ up_to is.before is.last is.later) reads))
-requests_run requests old course new ended reads (EndStopped is) = subst AllRead is.all reads
-
-job_run : (job : List ℕ) (requests : List Request) (old : World) (course : List Taken) (new : World) (ended : Status) → IsJob old.files job requests
-    → AllRead requests → Plays job old course new ended → AllRead (requests_of course)
-job_run job requests old course new ended spelled reads (There is) =
-    let there = text_there spelled.files job is.text (subst (λ (f : Option Files). IsText f job is.text) spelled.tells is.told) in
-    let known = spelled.there in
-    let same : is.text ≡ spelled.text = cc (there, known) in
-    let spells : job_of is.text ≡ Ok requests = subst (λ (t : List ℕ). job_of t ≡ Ok requests) (sym same) spelled.spells in
-    requests_run requests old course new ended reads
-    (subst (λ (parsed : Result (List Request) ℕ). PlaysParsed parsed old course new ended) spells is.plays)
-job_run job requests old course new ended spelled reads (Missing absent tells) = nothing_run course tells.nothing
-job_run job requests old course new ended spelled reads (TooLong longer tells) = nothing_run course tells.nothing
-job_run job requests old course new ended spelled reads (Faulty nothing idle) = nothing_run course nothing
-job_run job requests old course new ended spelled reads (Starved nothing idle) = nothing_run course nothing
-
-form_run : (job : List ℕ) (requests : List Request) (old : World) (course : List Taken) (new : World) (ended : Status) → IsJob old.files job requests
-    → AllRead requests → DoesOrStarves (form.Play job) old course new ended → AllRead (requests_of course)
-form_run job requests old course new ended spelled reads (AsAsked does) = job_run job requests old course new ended spelled reads does
-form_run job requests old course new ended spelled reads (StarvesWords nothing idle) = nothing_run course nothing
 
 pub reading_stores : (job : List ℕ) (spares : List DriveCounts) (old new : Board) (before after : Outside) (ended : Status) (requests : List Request)
     (over : RunsOver (Some (form.Play job)) old spares before new after ended) → IsJob before.files job requests → AllRead requests
@@ -224,7 +158,8 @@ pub reading_stores : (job : List ℕ) (spares : List DriveCounts) (old new : Boa
 reading_stores job spares old new before after ended requests over spelled reads =
     let first = world over.start before.files before.report in
     let last = world over.last after.files after.report in
-    let read = form_run job requests first over.runs.course last ended spelled reads over.runs.does in
+    let asked = first_asked job requests first last over.runs.course ended spelled over.runs.does in
+    let read = front (requests_of over.runs.course) asked.0 (subst AllRead asked.1 reads) in
     let none = no_stores over.start over.runs.course read in
     let ran = form_runs (form.Play job) spares old new before after ended over in
     record {

@@ -1,44 +1,26 @@
 -- The status of a rescue that goes on by a log, by whether some reply was a refusal.
 use Rattle.std.proofs.Common.{◌≡◌, ℕ, true, false, List, [], ◌∷◌, length, Option, Some, refl, sym, ap, subst, inl, inr, unwrap_or}
 use Rattle.std.specs.Prelude.{◌||◌}
-use Rattle.laws_program.proofs.Common.{Files, sectors_at, Status, Disk, Reply, Stop, State, Step, StopCause, IsImageOf, IsBadImage, IsLonger, IsAbsent, is_refusal, Taken, has_refusal, IsEndStop, World, Shape, shape_of, Script, Fails, RunsScript, unless_refused, no_tracks, shape_at, through, with_report, logged_keys, LogLine, IsLogFound, IsFound, by_log, rescues, rescue_rest, Rescues, done_does}
+use Rattle.laws_program.proofs.Common.{Files, sectors_at, Status, Disk, Reply, State, Step, StopsAt, IsImageOf, is_refusal, Taken, has_refusal, World, Shape, shape_of, Script, Fails, RunsScript, unless_refused, no_tracks, shape_at, through, with_report, logged_keys, LogLine, IsLogFound, IsFound, by_log, rescues, rescue_rest, Rescues, done_does, insert_stops}
 use Rattle.flop_base.specs.declared.answers.Status.TheVariants as status
 use Rattle.floppy_jobs.specs.declared.request.Request.TheVariants as request
 use Rattle.sector_model.specs.declared.reply.Reply.TheVariants as reply
-use Rattle.sector_model.specs.declared.reply.Stop.TheVariants as stop
 use Rattle.commands.specs.Parts.{needs, carries, may_starve, opens}
 use Rattle.disk_commands.specs.Rescue.{acknowledges_both, prepares_old, prepares, rescues_all, rescue_found}
 use Rattle.laws_commands.proofs.PutIn.{put_shape}
-use Rattle.laws_program.proofs.Telling.{EndsBy, IsFaithful, acknowledges_tells, prints_by, end_by, script_tells, unrefused}
-use Rattle.laws_program.proofs.PlayStatus.{never_bad, never_long, never_absent}
+use Rattle.laws_program.proofs.Telling.{EndsBy, IsFaithful, acknowledges_tells, Is, prints_as, stop_as, script_tells, unrefused}
 use Rattle.laws_program.proofs.RescueStatus.{records_by, behind}
 
 -- ---- a file that is there is put in
-
-pub stop_here : (files : Files) (name : List ℕ) (disk : Disk) (bay : ℕ) (cause : Stop) → IsImageOf (Some files) name disk
-    → StopCause (Some files) (request.Insert bay name) cause → IsEndStop cause
-stop_here files name disk bay (stop.BadImage other error) image is =
-    let e = is.0.1 in
-    let same : other ≡ name = cc e in
-    absurd (never_bad files name disk error image (subst (λ (n : List ℕ). IsBadImage (Some files) n error) same is.1))
-stop_here files name disk bay (stop.TooLong other most) image is =
-    let e = is.0.1 in
-    let same : other ≡ name = cc e in
-    absurd (never_long files name disk most is.1 image (subst (λ (n : List ℕ). IsLonger (Some files) n most) same is.2))
-stop_here files name disk bay (stop.Absent other) image is =
-    let e = is.0.1 in
-    let same : other ≡ name = cc e in
-    absurd (never_absent files name disk image (subst (λ (n : List ℕ). IsAbsent (Some files) n) same is.1))
-stop_here files name disk bay _ image is = tt
 
 inserts_tells : (bay : ℕ) (name : List ℕ) (rest : Unit {0} → Script) (files : Files) (disk : Disk) (old new : World) (course : List Taken) (ended : Status)
     → old.files ≡ Some files → IsImageOf (Some files) name disk → IsFaithful false (rest tt)
     → RunsScript (carries (request.Insert bay name) rest) old course new ended → EndsBy (has_refusal course) ended
 unfolding carries needs
 inserts_tells bay name rest files disk old new [] ended told image is runs =
-    prints_by false _ _ _ _ ended runs.2
-    (end_by false runs.0
-    (stop_here files name disk bay runs.0 image (subst (λ (f : Option Files). StopCause f (request.Insert bay name) runs.0) told runs.1.cause)))
+    prints_as (Is false) _ _ _ _ ended runs.2
+    (λ well. stop_as (Is false) runs.0 (insert_stops bay name files disk old.state new.state new.files runs.0 image
+    (subst (λ (f : Option Files). StopsAt (request.Insert bay name) old.state f runs.0 new.state new.files) told runs.1)))
 inserts_tells bay name rest files disk old new (taken ∷ later) ended told image is runs =
     script_tells (false || is_refusal taken.answer) (unless_refused (request.Insert bay name) taken.answer (rest tt)) (with_report taken.after runs.1 old.report)
     new later ended (unrefused (request.Insert bay name) taken.answer (rest tt) is) runs.3
@@ -62,20 +44,15 @@ module _ (name : List ℕ) (rest : Shape → Script) (files : Files) (disk : Dis
   by_answer old mid after report later (reply.Refused cause) step runs =
       script_tells true (unless_refused (request.Insert 0 name) (reply.Refused cause) (rest (shape_at mid 0)))
       (with_report mid after report) new later ended refl runs
-  by_answer old mid after report later reply.Done step runs =
-      by_shape old mid after report later reply.Done refl step runs
-  by_answer old mid after report later reply.DoneDeleted step runs =
-      by_shape old mid after report later reply.DoneDeleted refl step runs
-  by_answer old mid after report later (reply.Bytes address content) step runs =
-      by_shape old mid after report later (reply.Bytes address content) refl step runs
+  by_answer old mid after report later answer step runs = by_shape old mid after report later answer refl step runs
 
   opens_then : (old : World) (course : List Taken) → old.files ≡ Some files → RunsScript (opens name rest) old course new ended
       → EndsBy (has_refusal course) ended
   unfolding opens needs
   opens_then old [] told runs =
-      prints_by false _ _ _ _ ended runs.2
-      (end_by false runs.0
-      (stop_here files name disk 0 runs.0 image (subst (λ (f : Option Files). StopCause f (request.Insert 0 name) runs.0) told runs.1.cause)))
+      prints_as (Is false) _ _ _ _ ended runs.2
+      (λ well. stop_as (Is false) runs.0 (insert_stops 0 name files disk old.state new.state new.files runs.0 image
+      (subst (λ (f : Option Files). StopsAt (request.Insert 0 name) old.state f runs.0 new.state new.files) told runs.1)))
   opens_then old (taken ∷ later) told runs =
       by_answer old.state taken.after runs.1 old.report later taken.answer
       (subst (λ (f : Option Files). Step (request.Insert 0 name) old.state f taken.answer taken.after runs.1) told runs.2) runs.3

@@ -1,11 +1,11 @@
 -- Each step of a run: what a format did, why a request was refused, and how many data commands were sent.
-use Rattle.std.proofs.Common.{arith, ◌≡◌, ◌+◌, ◌*◌, ◌≤◌, ◌∙◌, ℕ, Bool, true, false, true≢false, List, [], ◌∷◌, Option, Some, None, Result, Ok, Err, refl, ap, sym, subst}
+use Rattle.std.proofs.Common.{arith, ◌≡◌, ◌+◌, ◌*◌, ◌≤◌, ◌∙◌, ℕ, Bool, true, false, true≢false, List, [], Option, Some, None, Result, Ok, Err, refl, ap, sym, subst}
 use Rattle.std.specs.Prelude.{option_map, MatchOption, MatchBool, IfErr, if◌then◌else◌}
-use Rattle.laws_program.proofs.Common.{All-nil, Files, gap_at, standard_fill, sectors_at, Counters, IsDriven, Code, BadRequest, Chrn, Disk, Request, Format, Laying, Reply, Reason, StationState, bay_of, State, IsSame, is_bay, read_refusal, write_refusal, format_refusal, rate_refusal, IsRefusedAtOnce, Acks, AcksDrive, WritesTo, WritesDrive, written_from, Lays, FormatsTo, Step, IsDriverCall, IsRefused, refusal_of, read_reply, reply_of, is_refusal, Taken, Run, same_within, ok_taken, EachStep, format_in, IsFormat, FormatsTrack, by_driver, refusal_at_once, IsWriteRefused, IsDriveCause, TellsCause, most_commands, Sends, SendsFew}
+use Rattle.laws_program.proofs.Common.{All-nil, Files, gap_at, standard_fill, sectors_at, Counters, IsDriven, Code, BadRequest, Chrn, Disk, Request, Format, Laying, Reply, Reason, StationState, bay_of, State, IsSame, is_bay, read_refusal, write_refusal, format_refusal, rate_refusal, IsRefusedAtOnce, ChangesMedium, Disk, Acks, AcksDrive, WritesTo, WritesDrive, written_from, Lays, FormatsTo, Step, IsDriverCall, IsRefused, refusal_of, read_reply, reply_of, is_refusal, same_within, ok_taken, format_in, IsFormat, FormatsTrack, by_driver, refusal_at_once, IsWriteRefused, IsDriveCause, TellsCause, most_commands, Sends, SendsFew}
 use Rattle.floppy_jobs.specs.declared.request.Request.TheVariants as request
 use Rattle.sector_model.specs.declared.reply.Reply.TheVariants as reply
 use Rattle.sector_model.specs.declared.reply.Reason.TheVariants as reason
-use Rattle.laws_program.proofs.Stepping.{becomes_medium, either, driven_less, fine_call, ok_not}
+use Rattle.laws_program.proofs.Stepping.{AlongRuns, each_step, becomes_medium, either, driven_less, fine_call, ok_not}
 
 -- ---- formats
 
@@ -37,14 +37,10 @@ format_step bay c h old new answer called is formats =
       done = λ fine. absurd (ok_not called code refused.refused (fine_call answer called is fine));
     })
 
-pub each_formats : (old new : State) (told after : Option Files) (course : List Taken) → Run old told course new after → EachStep FormatsTrack old course
-each_formats old new told after [] run = tt
-each_formats old new told after (taken ∷ later) run = (
-  λ bay c h is.
-      let step = subst (λ (q : Request). Step q old told taken.answer taken.after run.0) is run.1 in
-      format_step bay c h old taken.after taken.answer step.1.0 step.1.1 step.1.2,
-  each_formats taken.after new run.0 after later run.2,
-)
+pub each_formats : AlongRuns FormatsTrack
+each_formats = each_step FormatsTrack (λ old told files taken step bay c h is.
+    let here = subst (λ (q : Request). Step q old told taken.answer taken.after files) is step in
+    format_step bay c h old taken.after taken.answer here.1.0 here.1.1 here.1.2)
 
 -- ---- refusals
 
@@ -120,20 +116,6 @@ write_causes bay address key deleted old new (Err code) does = (does.changes, do
 
 tells_step : (asked : Request) (old new : State) (told after : Option Files) (answer : Reply) → Step asked old told answer new after
     → ByOrder (refusal_at_once old asked) asked old new answer
-tells_step (request.Insert bay name) old new told after answer step =
-    let asked = request.Insert bay name in own_tells asked old new answer told after (refusal_of old asked) step (λ does. ap is_refusal does.0)
-tells_step (request.Blank bay name count) old new told after answer step =
-    let asked = request.Blank bay name count in own_tells asked old new answer told after (refusal_of old asked) step (λ does. ap is_refusal does.0)
-tells_step (request.BlankDd bay name count) old new told after answer step =
-    let asked = request.BlankDd bay name count in own_tells asked old new answer told after (refusal_of old asked) step (λ does. ap is_refusal does.0)
-tells_step (request.Eject bay) old new told after answer step =
-    let asked = request.Eject bay in own_tells asked old new answer told after (refusal_of old asked) step (λ does. ap is_refusal does.0)
-tells_step (request.Unit bay) old new told after answer step =
-    let asked = request.Unit bay in own_tells asked old new answer told after (refusal_of old asked) step (λ does. ap is_refusal does.0)
-tells_step (request.Fill address count byte) old new told after answer step =
-    let asked = request.Fill address count byte in own_tells asked old new answer told after (refusal_of old asked) step (λ does. ap is_refusal does.0)
-tells_step (request.Dump address count) old new told after answer step =
-    let asked = request.Dump address count in own_tells asked old new answer told after (refusal_of old asked) step (λ does. ap is_refusal does.0)
 tells_step (request.Ack bay) old new told after answer step =
     let asked = request.Ack bay in
     ack_tells asked old new answer (is_bay bay) told after step.1.0 step.0 step.1.1 step.1.2
@@ -159,13 +141,10 @@ tells_step (request.SetRate bay rate) old new told after answer step =
     call_tells asked old new answer (rate_refusal old.station bay) told after step.1.0 step.0 (λ code e. step.1.1 ∙ ap reply_of e) step.1.2
     (λ does. not_refused asked old new answer (ok_taken step.1.0 answer step.1.1 does.done))
 tells_step (request.Tries tries) old new told after answer step = not_refused (request.Tries tries) old new answer (ap is_refusal step.1)
+tells_step asked old new told after answer step = own_tells asked old new answer told after (refusal_of old asked) step (λ does. ap is_refusal does.0)
 
-pub each_tells : (old new : State) (told after : Option Files) (course : List Taken) → Run old told course new after → EachStep TellsCause old course
-each_tells old new told after [] run = tt
-each_tells old new told after (taken ∷ later) run = (
-  tells_step taken.asked old taken.after told run.0 taken.answer run.1,
-  each_tells taken.after new run.0 after later run.2,
-)
+pub each_tells : AlongRuns TellsCause
+each_tells = each_step TellsCause (λ old told files taken step. tells_step taken.asked old taken.after told files taken.answer step)
 
 -- ---- data commands
 
@@ -204,36 +183,37 @@ ack_sends bay old new called acks = go (is_bay bay) acks
     go true does = sent 6 old.counters new.counters does.driven
     go false refused = idle_sends 6 BadRequest old new called refused
 
+-- media were exchanged, past the driver
+changed_sends : (bay : ℕ) (name : Option (List ℕ)) (medium : Option Disk) (old new : State) → ChangesMedium bay name medium old new
+    → Sends 0 old.station.counters new.station.counters
+changed_sends bay name medium old new changes =
+    sent_none old.station.counters new.station.counters changes.exchanged.access.no_commands changes.counts.taken
+
+-- a request that the session refuses by itself
+own_sends : {P : Type 0} (old new : State) (told after : Option Files) (answer : Reply) (refusal : Option Reason)
+    → MatchOption refusal P (λ cause. IsRefused cause old told answer new after) → (P → Sends 0 old.station.counters new.station.counters)
+    → Sends 0 old.station.counters new.station.counters
+own_sends old new told after answer refusal step done = either refusal step done (λ cause refused. same_sends old new refused.same)
+
 sends_step : (asked : Request) (old new : State) (told after : Option Files) (answer : Reply) → Step asked old told answer new after
     → Sends (most_commands old.station asked) old.station.counters new.station.counters
 sends_step (request.Insert bay name) old new told after answer step =
-    either (refusal_of old (request.Insert bay name)) step
-    (λ does. sent_none old.station.counters new.station.counters does.2.2.exchanged.access.no_commands does.2.2.counts.taken)
-    (λ cause refused. same_sends old new refused.same)
+    own_sends old new told after answer (refusal_of old (request.Insert bay name)) step (λ does. changed_sends bay _ _ old new does.2.2)
 sends_step (request.Blank bay name count) old new told after answer step =
-    either (refusal_of old (request.Blank bay name count)) step
-    (λ does. sent_none old.station.counters new.station.counters does.2.exchanged.access.no_commands does.2.counts.taken)
-    (λ cause refused. same_sends old new refused.same)
+    own_sends old new told after answer (refusal_of old (request.Blank bay name count)) step (λ does. changed_sends bay _ _ old new does.2)
 sends_step (request.BlankDd bay name count) old new told after answer step =
-    either (refusal_of old (request.BlankDd bay name count)) step
-    (λ does. sent_none old.station.counters new.station.counters does.2.exchanged.access.no_commands does.2.counts.taken)
-    (λ cause refused. same_sends old new refused.same)
+    own_sends old new told after answer (refusal_of old (request.BlankDd bay name count)) step (λ does. changed_sends bay _ _ old new does.2)
 sends_step (request.Eject bay) old new told after answer step =
-    either (refusal_of old (request.Eject bay)) step
-    (λ does. sent_none old.station.counters new.station.counters does.1.4.exchanged.access.no_commands does.1.4.counts.taken)
-    (λ cause refused. same_sends old new refused.same)
+    own_sends old new told after answer (refusal_of old (request.Eject bay)) step (λ does. changed_sends bay _ _ old new does.1.4)
 sends_step (request.Unit bay) old new told after answer step =
-    either (refusal_of old (request.Unit bay)) step
-    (λ does.
+    own_sends old new told after answer (refusal_of old (request.Unit bay)) step (λ does.
     let same = does.3.counts.taken in
     sent_none old.station.counters new.station.counters does.3.access.no_commands (omega (arith, same)))
-    (λ cause refused. same_sends old new refused.same)
 sends_step (request.Fill address count byte) old new told after answer step =
-    either (refusal_of old (request.Fill address count byte)) step
+    own_sends old new told after answer (refusal_of old (request.Fill address count byte)) step
     (λ does. sent_none old.station.counters new.station.counters does.2.access.no_commands does.2.counts.taken)
-    (λ cause refused. same_sends old new refused.same)
 sends_step (request.Dump address count) old new told after answer step =
-    either (refusal_of old (request.Dump address count)) step (λ does. same_sends old new does.2) (λ cause refused. same_sends old new refused.same)
+    own_sends old new told after answer (refusal_of old (request.Dump address count)) step (λ does. same_sends old new does.2)
 sends_step (request.Ack bay) old new told after answer step = ack_sends bay old.station new.station step.1.0 step.1.2
 sends_step (request.Read bay key address) old new told after answer step =
     let most = old.station.tries in
@@ -249,9 +229,5 @@ sends_step (request.SetRate bay rate) old new told after answer step =
     (λ code refused. idle_sends 0 code old.station new.station step.1.0 refused)
 sends_step (request.Tries tries) old new told after answer step = sent 0 old.station.counters new.station.counters step.2.idle
 
-pub each_sends : (old new : State) (told after : Option Files) (course : List Taken) → Run old told course new after → EachStep SendsFew old course
-each_sends old new told after [] run = tt
-each_sends old new told after (taken ∷ later) run = (
-  sends_step taken.asked old taken.after told run.0 taken.answer run.1,
-  each_sends taken.after new run.0 after later run.2,
-)
+pub each_sends : AlongRuns SendsFew
+each_sends = each_step SendsFew (λ old told files taken step. sends_step taken.asked old taken.after told files taken.answer step)

@@ -1,43 +1,12 @@
 -- What each step of a run may do to the media in the bays.
 use Rattle.std.proofs.Common.{arith, ◌≡◌, ◌≤◌, ◌∙◌, ℕ, Bool, true, false, true≢false, List, [], ◌∷◌, length, Option, Some, None, Result, Ok, Err, refl, ap, sym, subst, inl, inr, ◌⊎◌}
-use Rattle.std.specs.Prelude.{◌==◌, ◌&&◌, not, if◌then◌else◌, MatchOption, MatchBool, IsOk, is_some, ◌-◌}
-use Rattle.laws_program.proofs.Common.{option_map_or, Files, Code, Chrn, Disk, Request, Two, in_bay, with_bay, Counters, IsDriven, Change, Written, Reply, StationState, Bay, bay_of, set_bay, fresh_bay, Becomes, Stays, State, is_acknowledged, is_protected, write_refusal, format_refusal, rate_refusal, is_bay, is_sector_request, is_format_request, crosses_page, read_refusal, IsRefusedAtOnce, Acks, AcksDrive, Reads, ReadsDrive, IsRead, WritesTo, Reaches, IsWritten, written_from, FormatsTo, Step, refusal_of, read_reply, reply_of, is_refusal, Taken, Run, content_size, EachStep, is_same_bay, exchanges, has_exchanged, IsGuarded, KeepsGuarded, ReadsField, IsWrite, WritesField, WritesAlone, KeepsOtherFields, IsRegularDisk}
+use Rattle.std.specs.Prelude.{◌&&◌, not, if◌then◌else◌, MatchOption, MatchBool, IsOk, is_some, ◌-◌}
+use Rattle.laws_program.proofs.Common.{Two, in_bay, with_bay, option_map_or, Files, Code, Chrn, Disk, Request, Counters, IsDriven, Change, Written, Reply, StationState, Bay, bay_of, set_bay, fresh_bay, Becomes, Stays, State, is_acknowledged, is_protected, write_refusal, format_refusal, rate_refusal, is_bay, is_sector_request, is_format_request, crosses_page, read_refusal, IsRefusedAtOnce, Acks, AcksDrive, Reads, ReadsDrive, IsRead, WritesTo, Reaches, IsWritten, written_from, FormatsTo, Step, refusal_of, read_reply, reply_of, is_refusal, Taken, Run, content_size, EachStep, is_same_bay, exchanges, has_exchanged, IsGuarded, KeepsGuarded, ReadsField, IsWrite, WritesField, WritesAlone, KeepsOtherFields, IsRegularDisk, Format, Laying, Lays}
 use Rattle.flop_base.specs.declared.answers.Code.TheVariants as code
 use Rattle.floppy_jobs.specs.declared.request.Request.TheVariants as request
 use Rattle.sector_model.specs.declared.reply.Reply.TheVariants as reply
-
--- ---- bays
-
-pub other_bay : {T : Type 0} (bays : Two T) (at bay : ℕ) (x : T) → is_same_bay at bay ≡ false → in_bay (with_bay bays at x) bay ≡ in_bay bays bay
-other_bay bays at bay x apart = go (at == 0) (bay == 0) apart
-  where
-    go : (s t : Bool) → (if s then t else not t) ≡ false
-        → (if t then (if s then record bays { first = x } else record bays { second = x }).first
-        else (if s then record bays { first = x } else record bays { second = x }).second) ≡ (if t then bays.first else bays.second)
-    go true true e = absurd (true≢false e)
-    go true false e = refl
-    go false true e = refl
-    go false false e = absurd (true≢false e)
-
-pub same_bay : (bays : Two Bay) (at bay : ℕ) → is_same_bay at bay ≡ true → in_bay bays at ≡ in_bay bays bay
-same_bay bays at bay same = go (at == 0) (bay == 0) same
-  where
-    go : (s t : Bool) → (if s then t else not t) ≡ true → (if s then bays.first else bays.second) ≡ (if t then bays.first else bays.second)
-    go true true e = refl
-    go true false e = absurd (true≢false (sym e))
-    go false true e = absurd (true≢false (sym e))
-    go false false e = refl
-
-pub kept_medium : (bays : Two Bay) (at bay : ℕ) (x : Bay) → x.medium ≡ (in_bay bays at).medium → (in_bay (with_bay bays at x) bay).medium ≡ (in_bay bays bay).medium
-kept_medium bays at bay x is = go (at == 0) (bay == 0) is
-  where
-    go : (s t : Bool) → x.medium ≡ (if s then bays.first else bays.second).medium
-        → (if t then (if s then record bays { first = x } else record bays { second = x }).first
-        else (if s then record bays { first = x } else record bays { second = x }).second).medium ≡ (if t then bays.first else bays.second).medium
-    go true true e = e
-    go true false e = refl
-    go false true e = refl
-    go false false e = e
+use Rattle.laws_program.specs.StoredAgain.{only_reads}
+use Rattle.laws_program.proofs.Bays.{sorted, same_bay, other_bay, kept_medium}
 
 -- ---- steps
 
@@ -46,10 +15,6 @@ medium_in bay station = (bay_of station bay).medium
 
 pub becomes_medium : (target new : StationState) (bay : ℕ) → Becomes target new → (bay_of new bay).medium ≡ (bay_of target bay).medium
 becomes_medium target new bay becomes = ap (λ (s : StationState). (bay_of s bay).medium) becomes
-
-pub sorted : {P : Type 0} (b : Bool) → (b ≡ true → P) → (b ≡ false → P) → P
-sorted true yes_ no_ = yes_ refl
-sorted false yes_ no_ = no_ refl
 
 -- one of two cases holds; in the first the value is known to be none
 pub either_is : {A : Type 0} {P R : Type 0} {Q : A → Type 0} (value : Option A) → MatchOption value P Q → (value ≡ None → P → R) → ((x : A) → Q x → R) → R
@@ -91,6 +56,85 @@ guard_at station at bay same guarded =
     let is = same_bay station.bays at bay same in
     subst (λ (b : Bay). (is_some b.acknowledged ≡ false) ⊎ (option_map_or (λ (disk : Disk). disk.protected) b.medium false ≡ true)) (sym is) guarded
 
+-- the request neither puts a medium in nor takes one out, nor exchanges a drive
+abbrev pub keeps_media : Request → Bool
+keeps_media (request.Insert bay name) = false
+keeps_media (request.Blank bay name cylinders) = false
+keeps_media (request.BlankDd bay name cylinders) = false
+keeps_media (request.Eject bay) = false
+keeps_media (request.Unit bay) = false
+keeps_media _ = true
+
+-- How such a request alters the bays: it leaves them as they are; it changes one bay, but not its medium; or it writes
+-- over or formats the medium of a bay where writing is allowed.
+pub data Alters (asked : Request) (old new : State) : Type 0 where
+  Leaves : new.station.bays ≡ old.station.bays → Alters asked old new
+  Turns : (at : ℕ) (x : Bay) → new.station.bays ≡ with_bay old.station.bays at x → x.medium ≡ (bay_of old.station at).medium → Alters asked old new
+  Overwrites : (at : ℕ) (x : Bay) → new.station.bays ≡ with_bay old.station.bays at x → (IsGuarded old.station at → ⊥) → only_reads asked ≡ false
+      → (written : Written) (changes : List Change) → Reaches written (bay_of old.station at).medium changes x.medium → Alters asked old new
+  Formats : (at : ℕ) (x : Bay) → new.station.bays ≡ with_bay old.station.bays at x → (IsGuarded old.station at → ⊥) → only_reads asked ≡ false
+      → (format : Format) (layings : List Laying) → Lays format (bay_of old.station at).medium layings x.medium → Alters asked old new
+
+module _ (asked : Request) (old new : State) where
+  write_alters : (at address : ℕ) (key : Chrn) (deleted : Bool) (called : Result (Unit {0}) Code) → only_reads asked ≡ false
+      → WritesTo at key address deleted old.station called new.station → Alters asked old new
+  write_alters at address key deleted called reads writes =
+      either_is (write_refusal old.station at key address) writes
+      (λ none does. Overwrites at _ (ap (λ (s : StationState). s.bays) does.becomes) (unguarded old.station at (write_open (is_sector_request at key address)
+      (crosses_page address (content_size key.n)) (is_acknowledged old.station at) (is_protected old.station at) none)) reads _ does.changes does.reach)
+      (λ code refused. Leaves (ap (λ (s : StationState). s.bays) refused.stays))
+
+  format_alters : (at c h gap3 fill : ℕ) (called : Result (Unit {0}) Code) → only_reads asked ≡ false
+      → FormatsTo at c h gap3 fill old.station called new.station → Alters asked old new
+  format_alters at c h gap3 fill called reads formats =
+      either_is (format_refusal old.station at c h gap3) formats
+      (λ none does. Formats at _ (ap (λ (s : StationState). s.bays) does.becomes) (unguarded old.station at (format_open (is_format_request old.station at c h gap3)
+      (is_acknowledged old.station at) (is_protected old.station at) none)) reads _ does.layings does.lays)
+      (λ code refused. Leaves (ap (λ (s : StationState). s.bays) refused.stays))
+
+  ack_alters : (at : ℕ) (called : Result (Unit {0}) Code) → Acks at old.station called new.station → Alters asked old new
+  ack_alters at called acks = go (is_bay at) called acks
+    where
+      go : (b : Bool) (called : Result (Unit {0}) Code)
+          → MatchBool b (AcksDrive at old.station called new.station) (IsRefusedAtOnce code.BadRequest old.station called new.station) → Alters asked old new
+      go true (Ok done) does = let is = does.done refl in Turns at _ (ap (λ (s : StationState). s.bays) is.becomes) (sym is.medium)
+      go true (Err code) does = Turns at _ (ap (λ (s : StationState). s.bays) does.refused.becomes) refl
+      go false called refused = Leaves (ap (λ (s : StationState). s.bays) refused.stays)
+
+  read_alters : (at address : ℕ) (key : Chrn) (called : Result Bool Code) → ReadsDrive at key address old.station called new.station → Alters asked old new
+  read_alters at address key (Ok deleted) reads = Leaves (ap (λ (s : StationState). s.bays) reads.found.becomes)
+  read_alters at address key (Err code) reads = Leaves (ap (λ (s : StationState). s.bays) reads.refused.becomes)
+
+-- such a request keeps names and files
+pub calm_step : (asked : Request) (old : State) (told : Option Files) (answer : Reply) (new : State) (after : Option Files) → keeps_media asked ≡ true
+    → Step asked old told answer new after → (new.names ≡ old.names) × (after ≡ told) × Alters asked old new
+calm_step (request.Ack at) old told answer new after e step = (step.0.names, step.0.files, ack_alters (request.Ack at) old new at step.1.0 step.1.2)
+calm_step (request.Read at key address) old told answer new after e step = (
+  step.0.names,
+  step.0.files,
+  either (read_refusal old.station at key address) step.1.2 (read_alters (request.Read at key address) old new at address key step.1.0)
+      (λ code refused. Leaves (ap (λ (s : StationState). s.bays) refused.stays)),
+)
+calm_step (request.Write at key address) old told answer new after e step =
+    (step.0.names, step.0.files, write_alters (request.Write at key address) old new at address key false step.1.0 refl step.1.2)
+calm_step (request.WriteDeleted at key address) old told answer new after e step =
+    (step.0.names, step.0.files, write_alters (request.WriteDeleted at key address) old new at address key true step.1.0 refl step.1.2)
+calm_step (request.Format at c h) old told answer new after e step =
+    (step.0.names, step.0.files, format_alters (request.Format at c h) old new at c h _ _ step.1.0 refl step.1.2)
+calm_step (request.Fill address count byte) old told answer new after e step =
+    either (refusal_of old (request.Fill address count byte)) step (λ does. (does.2.names, does.1, Leaves (ap (λ (s : StationState). s.bays) does.2.becomes)))
+    (λ cause refused. (refused.same.names, refused.files, Leaves (ap (λ (s : StationState). s.bays) refused.same.stays)))
+calm_step (request.Dump address count) old told answer new after e step =
+    either (refusal_of old (request.Dump address count)) step (λ does. (does.2.names, does.1, Leaves (ap (λ (s : StationState). s.bays) does.2.stays)))
+    (λ cause refused. (refused.same.names, refused.files, Leaves (ap (λ (s : StationState). s.bays) refused.same.stays)))
+calm_step (request.SetRate at rate) old told answer new after e step = (
+  step.0.names,
+  step.0.files,
+  either (rate_refusal old.station at) step.1.2 (λ does. Turns at _ (ap (λ (s : StationState). s.bays) does.becomes) refl) (λ code refused. Leaves (ap (λ (s : StationState). s.bays) refused.stays)),
+)
+calm_step (request.Tries tries) old told answer new after e step = (step.0.names, step.0.files, Leaves (ap (λ (s : StationState). s.bays) step.2.becomes))
+calm_step _ old told answer new after e step = absurd (true≢false (sym e))
+
 -- how a guarded bay keeps its medium in a step
 module _ (old : State) (bay : ℕ) (guarded : IsGuarded old.station bay) where
   abbrev Keeps : State → Type 0
@@ -103,44 +147,18 @@ module _ (old : State) (bay : ℕ) (guarded : IsGuarded old.station bay) where
   other_keeps new at x becomes apart =
       becomes_medium (set_bay old.station at x) new.station bay becomes ∙ ap (λ (b : Bay). b.medium) (other_bay old.station.bays at bay x apart)
 
-  still_keeps : (new : State) (at : ℕ) (x : Bay) → Becomes (set_bay old.station at x) new.station → x.medium ≡ (bay_of old.station at).medium → Keeps new
-  still_keeps new at x becomes still =
-      becomes_medium (set_bay old.station at x) new.station bay becomes ∙ kept_medium old.station.bays at bay x still
+  unguarded_keeps : (new : State) (at : ℕ) (x : Bay) → new.station.bays ≡ with_bay old.station.bays at x → (IsGuarded old.station at → ⊥) → Keeps new
+  unguarded_keeps new at x is free =
+      sorted (is_same_bay at bay)
+      (λ same. absurd (free (guard_at old.station at bay same guarded)))
+      (λ apart. ap (λ (b : Two Bay). (in_bay b bay).medium) is ∙ ap (λ (b : Bay). b.medium) (other_bay old.station.bays at bay x apart))
 
-  write_keeps : (new : State) (at address : ℕ) (key : Chrn) (deleted : Bool) (called : Result (Unit {0}) Code)
-      → WritesTo at key address deleted old.station called new.station → Keeps new
-  write_keeps new at address key deleted called writes =
-      either_is (write_refusal old.station at key address) writes
-      (λ none does. sorted (is_same_bay at bay)
-      (λ same. absurd (unguarded old.station at (write_open (is_sector_request at key address) (crosses_page address (content_size key.n))
-      (is_acknowledged old.station at) (is_protected old.station at) none) (guard_at old.station at bay same guarded)))
-      (λ apart. other_keeps new at _ does.becomes apart))
-      (λ code refused. stays_keeps new refused.stays)
-
-  format_keeps : (new : State) (at c h gap3 fill : ℕ) (called : Result (Unit {0}) Code)
-      → FormatsTo at c h gap3 fill old.station called new.station → Keeps new
-  format_keeps new at c h gap3 fill called formats =
-      either_is (format_refusal old.station at c h gap3) formats
-      (λ none does. sorted (is_same_bay at bay)
-      (λ same. absurd (unguarded old.station at (format_open (is_format_request old.station at c h gap3)
-      (is_acknowledged old.station at) (is_protected old.station at) none) (guard_at old.station at bay same guarded)))
-      (λ apart. other_keeps new at _ does.becomes apart))
-      (λ code refused. stays_keeps new refused.stays)
-
-  ack_done : (new : State) (at : ℕ) (called : Result (Unit {0}) Code) → AcksDrive at old.station called new.station → Keeps new
-  ack_done new at (Ok done) acks = let is = acks.done refl in still_keeps new at _ is.becomes (sym is.medium)
-  ack_done new at (Err code) acks = still_keeps new at _ acks.refused.becomes refl
-
-  ack_keeps : (new : State) (at : ℕ) (called : Result (Unit {0}) Code) → Acks at old.station called new.station → Keeps new
-  ack_keeps new at called acks = go (is_bay at) acks
-    where
-      go : (b : Bool) → MatchBool b (AcksDrive at old.station called new.station) (IsRefusedAtOnce code.BadRequest old.station called new.station) → Keeps new
-      go true does = ack_done new at called does
-      go false refused = stays_keeps new refused.stays
-
-  read_done : (new : State) (at address : ℕ) (key : Chrn) (called : Result Bool Code) → ReadsDrive at key address old.station called new.station → Keeps new
-  read_done new at address key (Ok deleted) reads = ap (λ (s : StationState). (bay_of s bay).medium) reads.found.becomes
-  read_done new at address key (Err code) reads = ap (λ (s : StationState). (bay_of s bay).medium) reads.refused.becomes
+  altered_keeps : (asked : Request) (new : State) → Alters asked old new → Keeps new
+  altered_keeps asked new (Leaves is) = ap (λ (b : Two Bay). (in_bay b bay).medium) is
+  altered_keeps asked new (Turns at x is still) =
+      ap (λ (b : Two Bay). (in_bay b bay).medium) is ∙ kept_medium old.station.bays at bay x still
+  altered_keeps asked new (Overwrites at x is free writes written changes reach) = unguarded_keeps new at x is free
+  altered_keeps asked new (Formats at x is free writes format layings lays) = unguarded_keeps new at x is free
 
   pub step_keeps : (asked : Request) (told : Option Files) (answer : Reply) (new : State) (after : Option Files) → Step asked old told answer new after
       → exchanges bay asked ≡ false → Keeps new
@@ -157,19 +175,7 @@ module _ (old : State) (bay : ℕ) (guarded : IsGuarded old.station bay) where
       (λ does. becomes_medium (record (set_bay old.station at (fresh_bay None)) { spares = old.station.spares - 1 }) new.station bay does.3.becomes
       ∙ ap (λ (b : Bay). b.medium) (other_bay old.station.bays at bay (fresh_bay None) apart))
       (λ cause refused. stays_keeps new refused.same.stays)
-  step_keeps (request.Ack at) told answer new after step apart = ack_keeps new at step.1.0 step.1.2
-  step_keeps (request.Read at key address) told answer new after step apart =
-      either (read_refusal old.station at key address) step.1.2 (read_done new at address key step.1.0) (λ code refused. stays_keeps new refused.stays)
-  step_keeps (request.Write at key address) told answer new after step apart = write_keeps new at address key false step.1.0 step.1.2
-  step_keeps (request.WriteDeleted at key address) told answer new after step apart = write_keeps new at address key true step.1.0 step.1.2
-  step_keeps (request.Format at c h) told answer new after step apart = format_keeps new at c h _ _ step.1.0 step.1.2
-  step_keeps (request.Fill address count byte) told answer new after step apart =
-      either (refusal_of old (request.Fill address count byte)) step (λ does. ap (λ (s : StationState). (bay_of s bay).medium) does.2.becomes) (λ cause refused. stays_keeps new refused.same.stays)
-  step_keeps (request.Dump address count) told answer new after step apart =
-      either (refusal_of old (request.Dump address count)) step (λ does. stays_keeps new does.2.stays) (λ cause refused. stays_keeps new refused.same.stays)
-  step_keeps (request.SetRate at rate) told answer new after step apart =
-      either (rate_refusal old.station at) step.1.2 (λ does. still_keeps new at _ does.becomes refl) (λ code refused. stays_keeps new refused.stays)
-  step_keeps (request.Tries tries) told answer new after step apart = ap (λ (s : StationState). (bay_of s bay).medium) step.2.becomes
+  step_keeps asked told answer new after step apart = altered_keeps asked new (calm_step asked old told answer new after refl step).2
 
   -- a refused request puts nothing in, and takes nothing out
   refused_keeps : (asked : Request) (told : Option Files) (answer : Reply) (new : State) (after : Option Files) → Step asked old told answer new after
@@ -195,12 +201,18 @@ module _ (old : State) (bay : ℕ) (guarded : IsGuarded old.station bay) where
       go true true e f apart = refused_keeps taken.asked told taken.answer taken.after after step e f
       go false true e f apart = absurd (true≢false apart)
 
-pub each_keeps : (old new : State) (told after : Option Files) (course : List Taken) → Run old told course new after → EachStep KeepsGuarded old course
-each_keeps old new told after [] run = tt
-each_keeps old new told after (taken ∷ later) run = (
-  λ bay none guarded. taken_keeps old bay guarded taken told run.0 run.1 none,
-  each_keeps taken.after new run.0 after later run.2,
-)
+-- what holds of each step by itself holds along a run
+abbrev pub AlongRuns : (State → Taken → Type 0) → Type 0
+AlongRuns Holds = (old new : State) (told after : Option Files) (course : List Taken) → Run old told course new after → EachStep Holds old course
+
+pub each_step : (Holds : State → Taken → Type 0) → ((old : State) (told files : Option Files) (taken : Taken)
+    → Step taken.asked old told taken.answer taken.after files → Holds old taken) → AlongRuns Holds
+each_step Holds here old new told after [] run = tt
+each_step Holds here old new told after (taken ∷ later) run =
+    (here old told run.0 taken run.1, each_step Holds here taken.after new run.0 after later run.2)
+
+pub each_keeps : AlongRuns KeepsGuarded
+each_keeps = each_step KeepsGuarded (λ old told files taken step bay none guarded. taken_keeps old bay guarded taken told files step none)
 
 -- ---- reads and writes
 
@@ -259,14 +271,10 @@ write_step bay address key deleted old new answer called is writes =
       λ fine. absurd (ok_not called code refused.refused (fine_call answer called is fine)),
     ))
 
-pub each_reads : (old new : State) (told after : Option Files) (course : List Taken) → Run old told course new after → EachStep ReadsField old course
-each_reads old new told after [] run = tt
-each_reads old new told after (taken ∷ later) run = (
-  λ bay address key is.
-      let step = subst (λ (q : Request). Step q old told taken.answer taken.after run.0) is run.1 in
-      read_step bay address key old taken.after taken.answer step.1.0 step.1.1 step.1.2,
-  each_reads taken.after new run.0 after later run.2,
-)
+pub each_reads : AlongRuns ReadsField
+each_reads = each_step ReadsField (λ old told files taken step bay address key is.
+    let here = subst (λ (q : Request). Step q old told taken.answer taken.after files) is step in
+    read_step bay address key old taken.after taken.answer here.1.0 here.1.1 here.1.2)
 
 writes_at : (old : State) (told files : Option Files) (taken : Taken) → Step taken.asked old told taken.answer taken.after files
     → (bay address : ℕ) (key : Chrn) (deleted : Bool) → IsWrite taken.asked bay key address deleted
@@ -278,12 +286,8 @@ writes_at old told files taken step bay address key true is =
     let here = subst (λ (q : Request). Step q old told taken.answer taken.after files) is step in
     write_step bay address key true old taken.after taken.answer here.1.0 here.1.1 here.1.2
 
-pub each_writes : (old new : State) (told after : Option Files) (course : List Taken) → Run old told course new after → EachStep WritesField old course
-each_writes old new told after [] run = tt
-each_writes old new told after (taken ∷ later) run = (
-  writes_at old told run.0 taken run.1,
-  each_writes taken.after new run.0 after later run.2,
-)
+pub each_writes : AlongRuns WritesField
+each_writes = each_step WritesField writes_at
 
 -- ---- writes to regular disks
 
@@ -303,6 +307,5 @@ alone_at old told files taken step bay address key true is =
     let here = subst (λ (q : Request). Step q old told taken.answer taken.after files) is step in
     alone_step bay address key true old taken here.1.0 here.1.1 here.1.2
 
-pub each_alone : (old new : State) (told after : Option Files) (course : List Taken) → Run old told course new after → EachStep KeepsOtherFields old course
-each_alone old new told after [] run = tt
-each_alone old new told after (taken ∷ later) run = (alone_at old told run.0 taken run.1, each_alone taken.after new run.0 after later run.2)
+pub each_alone : AlongRuns KeepsOtherFields
+each_alone = each_step KeepsOtherFields alone_at

@@ -1,11 +1,12 @@
 -- Two steps of one request from alike states that nothing disturbed: they are answered alike, and lead to alike states.
-use Rattle.std.proofs.Common.{arith, ◌≡◌, ◌∙◌, ◌+◌, ◌-◌, ◌*◌, ◌<◌, ◌≤◌, ◌^◌, ℕ, nat_le, Bool, true, false, List, length, get_or, replicate, refl, sym, ap, subst, inl, inr, Option, Some, None, lit≤}
+use Rattle.std.proofs.Common.{arith, ◌≡◌, ◌∙◌, ◌+◌, ◌-◌, ◌≤◌, ℕ, nat_le, Bool, true, false, List, length, replicate, refl, sym, ap, subst, Option, Some, None}
 use Rattle.std.specs.Prelude.{◌==◌, if◌then◌else◌}
-use Rattle.laws_program.proofs.Common.{leb-true, and_parts, cases_lt, length-replicate, get_or-replicate, get_or_past, Files, stored, words_at, Rate, R500, R250, Disk, IsDisk, file_of, Two, in_bay, with_bay, Counters, IsUndisturbed, with_items, user_bytes, bytes_from, Request, Reply, Reason, bay_of, set_bay, fresh_bay, dump_port_accesses, is_bay, State, IsSame, ChangesMedium, Step, Fills, IsDriverCall, IsRefused, refusal_of, is_loaded, unless_bad, is_blank_request, spare_refusal, blank_of, reply_of, read_reply, entered_by, HasRegularDisks, AnswerAlike, length-with_items}
+use Rattle.laws_program.proofs.Common.{leb-true, and_parts, length-replicate, Files, stored, Rate, R500, R250, Disk, file_of, Two, in_bay, with_bay, Counters, IsUndisturbed, with_items, user_bytes, bytes_from, Request, Reply, Reason, bay_of, set_bay, fresh_bay, dump_port_accesses, is_bay, State, IsSame, ChangesMedium, Step, Fills, IsDriverCall, IsRefused, refusal_of, is_loaded, unless_bad, is_blank_request, spare_refusal, blank_of, reply_of, read_reply, entered_by, HasRegularDisks, AnswerAlike, length-with_items}
 use Rattle.floppy_jobs.specs.declared.request.Request.TheVariants as request
 use Rattle.sector_model.specs.declared.reply.Reply.TheVariants as reply
 use Rattle.sector_model.specs.declared.reply.Reason.TheVariants as reason
 use Rattle.sector_model.specs.Steps.{Does}
+use Rattle.laws_commands.proofs.Prepared.{blank_valid}
 use Rattle.laws_program.proofs.AlikeDisks.{AlikeDisks, AlikeMedia, AlikeBays, AlikeStations, disk_itself, loaded_same, bays_in, set_same, memory_same, becomes_same, regular_bay}
 use Rattle.laws_program.proofs.AfterDisks.{in_both}
 use Rattle.laws_program.proofs.AlikeFiles.{AlikeTold, images_alike, disk_files, stored_same}
@@ -29,33 +30,6 @@ same_answers _ b e = e
 
 -- ---- blank media
 
-abbrev row : ℕ → List ℕ
-row n = replicate n 0
-
-abbrev word : List ℕ → ℕ → ℕ
-word words k = get_or words k 0
-
-zero_words : (n k : ℕ) → word (row n) k < 2 ^ 16
-zero_words n k =
-    let long : length (row n) ≡ n = length-replicate n 0 in
-    elim (cases_lt k n) [
-      | inl inside ↦ let is : word (row n) k ≡ 0 = get_or-replicate n k 0 0 inside in omega arith
-      | inr past ↦ let is : word (row n) k ≡ 0 = get_or_past (row n) k 0 (omega arith) in omega arith
-    ]
-
-some_words : (rate : Rate) → (64 ≤ words_at rate) × (words_at rate ≤ 16384)
-some_words R500 = (lit≤ tt, lit≤ tt)
-some_words R250 = (lit≤ tt, lit≤ tt)
-
-blank_valid : (cylinders : ℕ) (rate : Rate) → 1 ≤ cylinders → cylinders ≤ 80 → IsDisk (blank_of cylinders rate)
-blank_valid cylinders rate least most = record {
-  cylinders = (least, most);
-  heads = (lit≤ tt, lit≤ tt);
-  words_per_track = some_words rate;
-  count = length-replicate (cylinders * 2 * words_at rate) 0;
-  each = zero_words (cylinders * 2 * words_at rate);
-}
-
 -- a request that isn't refused is a good one
 taken_good : (good : Bool) (next : Option Reason) → unless_bad good next ≡ None → good ≡ true
 taken_good true next e = refl
@@ -69,6 +43,11 @@ blank_alike bay cylinders rate next free =
 
 same_some : {X : Type 0} (o p : Option X) (x y : X) → p ≡ o → o ≡ Some x → p ≡ Some y → y ≡ x
 same_some o p x y same e f = cc (same, e, f)
+
+-- nothing disturbed a step
+pub record IsCalmStep (asked : Request) (answer : Reply) (old new : Counters) : Type 0 where
+  pub first : IsUndisturbed 0 (entered_by old asked answer) new
+  pub second : IsUndisturbed 1 (entered_by old asked answer) new
 
 module _ (one two one_new two_new : State) (told other told_after other_after : Option Files) (same : AlikeStages one told two other) (answer answer_too : Reply) where
   abbrev Agrees : Type 0
@@ -194,85 +173,73 @@ module _ (one two one_new two_new : State) (told other told_after other_after : 
       (λ cause. IsRefused cause one told answer one_new told_after) (λ cause. IsRefused cause two other answer_too two_new other_after)
       (refusal_of one asked) (refusal_of two asked) order first second taken refused
 
--- nothing disturbed a step
-pub record IsCalmStep (asked : Request) (answer : Reply) (old new : Counters) : Type 0 where
-  pub first : IsUndisturbed 0 (entered_by old asked answer) new
-  pub second : IsUndisturbed 1 (entered_by old asked answer) new
+  -- ---- each request, where nothing disturbed the steps
 
-module _ (one two one_new two_new : State) (told other told_after other_after : Option Files) (same : AlikeStages one told two other) (answer answer_too : Reply) (regular : HasRegularDisks one) where
-  abbrev Goal : Type 0
-  Goal = StepsAgree answer answer_too one_new told_after two_new other_after
+  module _ (regular : HasRegularDisks one) where
+    abbrev Calm : Request → Type 0
+    Calm asked = IsCalmStep asked answer one.station.counters one_new.station.counters
 
-  calls : (a b : Reply) → answer ≡ a → answer_too ≡ b → IsDriverCall one told one_new told_after → IsDriverCall two other two_new other_after → CallsAgree a b one_new.station two_new.station → Goal
-  calls = called one two one_new two_new told other told_after other_after same answer answer_too
+    abbrev CalmToo : Request → Type 0
+    CalmToo asked = IsCalmStep asked answer_too two.station.counters two_new.station.counters
 
-  ordered : (asked : Request) → refusal_of two asked ≡ refusal_of one asked → Step asked one told answer one_new told_after → Step asked two other answer_too two_new other_after → (refusal_of one asked ≡ None → Does asked one told answer one_new told_after → Does asked two other answer_too two_new other_after → Goal) → Goal
-  ordered = by_order one two one_new two_new told other told_after other_after same answer answer_too
+    quiet : (bay : ℕ) → IsUndisturbed 0 one.station.counters one_new.station.counters → IsUndisturbed 1 one.station.counters one_new.station.counters → IsUndisturbed bay one.station.counters one_new.station.counters
+    quiet bay a b = calm_bay bay one.station.counters one_new.station.counters a b
 
-  abbrev Calm : Request → Type 0
-  Calm asked = IsCalmStep asked answer one.station.counters one_new.station.counters
+    quiet_too : (bay : ℕ) → IsUndisturbed 0 two.station.counters two_new.station.counters → IsUndisturbed 1 two.station.counters two_new.station.counters → IsUndisturbed bay two.station.counters two_new.station.counters
+    quiet_too bay a b = calm_bay bay two.station.counters two_new.station.counters a b
 
-  abbrev CalmToo : Request → Type 0
-  CalmToo asked = IsCalmStep asked answer_too two.station.counters two_new.station.counters
-
-  quiet : (bay : ℕ) → IsUndisturbed 0 one.station.counters one_new.station.counters → IsUndisturbed 1 one.station.counters one_new.station.counters → IsUndisturbed bay one.station.counters one_new.station.counters
-  quiet bay a b = calm_bay bay one.station.counters one_new.station.counters a b
-
-  quiet_too : (bay : ℕ) → IsUndisturbed 0 two.station.counters two_new.station.counters → IsUndisturbed 1 two.station.counters two_new.station.counters → IsUndisturbed bay two.station.counters two_new.station.counters
-  quiet_too bay a b = calm_bay bay two.station.counters two_new.station.counters a b
-
-  pub steps_agree : (asked : Request) → Calm asked → CalmToo asked → Step asked one told answer one_new told_after → Step asked two other answer_too two_new other_after → Goal
-  steps_agree (request.Insert bay name) calm calm_too first second =
-      ordered (request.Insert bay name) (empty_order one two one_new two_new told other told_after other_after same answer answer_too bay (is_bay bay)) first second
-      (λ free a b.
-      let d = a.2 in
-      let e = b.2 in
-      put_in one two one_new two_new told other told_after other_after same answer answer_too bay (Some name) d.0 e.0 (images_alike told other name d.0 e.0 same.files d.1 e.1) a.0 b.0 a.1 b.1 d.2 e.2)
-  steps_agree (request.Blank bay name cylinders) calm calm_too first second =
-      ordered (request.Blank bay name cylinders) (empty_order one two one_new two_new told other told_after other_after same answer answer_too bay (is_blank_request bay cylinders)) first second
-      (λ free a b.
-      let disks = blank_alike bay cylinders R500 (if is_loaded one bay then Some reason.Busy else None) free in
-      put_in one two one_new two_new told other told_after other_after same answer answer_too bay (Some name) (blank_of cylinders R500) (blank_of cylinders R500) disks a.0 b.0 a.1 b.1 a.2 b.2)
-  steps_agree (request.BlankDd bay name cylinders) calm calm_too first second =
-      ordered (request.BlankDd bay name cylinders) (empty_order one two one_new two_new told other told_after other_after same answer answer_too bay (is_blank_request bay cylinders)) first second
-      (λ free a b.
-      let disks = blank_alike bay cylinders R250 (if is_loaded one bay then Some reason.Busy else None) free in
-      put_in one two one_new two_new told other told_after other_after same answer answer_too bay (Some name) (blank_of cylinders R250) (blank_of cylinders R250) disks a.0 b.0 a.1 b.1 a.2 b.2)
-  steps_agree (request.Eject bay) calm calm_too first second =
-      ordered (request.Eject bay) (full_order one two one_new two_new told other told_after other_after same answer answer_too bay) first second
-      (λ free a b. ejected one two one_new two_new told other told_after other_after same answer answer_too bay a b)
-  steps_agree (request.Unit bay) calm calm_too first second =
-      ordered (request.Unit bay) (unit_order one two one_new two_new told other told_after other_after same answer answer_too bay) first second
-      (λ free a b. unit_taken one two one_new two_new told other told_after other_after same answer answer_too bay a b)
-  steps_agree (request.Fill address count byte) calm calm_too first second =
-      ordered (request.Fill address count byte) refl first second
-      (λ free a b.
-      let within = leb-true (address + count) user_bytes (taken_good (nat_le (address + count) user_bytes) None free) in
-      filled one two one_new two_new told other told_after other_after same answer answer_too address count byte within a.0 b.0 a.1 b.1 a.2 b.2)
-  steps_agree (request.Dump address count) calm calm_too first second =
-      ordered (request.Dump address count) refl first second
-      (λ free a b.
-      let within = leb-true (address + count) user_bytes (taken_good (nat_le (address + count) user_bytes) None free) in
-      dumped one two one_new two_new told other told_after other_after same answer answer_too address count within a.0 b.0 a.1 b.1 a.2 b.2)
-  steps_agree (request.Ack bay) calm calm_too first second =
-      calls (reply_of first.1.0) (reply_of second.1.0) first.1.1 second.1.1 first.0 second.0
-      (ack_call bay one.station two.station one_new.station two_new.station same.stations (regular_bay one bay regular) (quiet bay calm.first calm.second) first.0.counts (quiet_too bay calm_too.first calm_too.second) second.0.counts first.1.0 second.1.0 first.1.2 second.1.2)
-  steps_agree (request.Read bay key address) calm calm_too first second =
-      calls (read_reply first.1.0) (read_reply second.1.0) first.1.1 second.1.1 first.0 second.0
-      (read_call bay one.station two.station one_new.station two_new.station same.stations (regular_bay one bay regular) (quiet bay calm.first calm.second) first.0.counts (quiet_too bay calm_too.first calm_too.second) second.0.counts key address first.1.0 second.1.0 first.1.2 second.1.2)
-  steps_agree (request.Write bay key address) calm calm_too first second =
-      calls (reply_of first.1.0) (reply_of second.1.0) first.1.1 second.1.1 first.0 second.0
-      (write_call bay one.station two.station one_new.station two_new.station same.stations (regular_bay one bay regular) (quiet bay calm.first calm.second) first.0.counts (quiet_too bay calm_too.first calm_too.second) second.0.counts first.1.0 second.1.0 key address false first.1.2 second.1.2)
-  steps_agree (request.WriteDeleted bay key address) calm calm_too first second =
-      calls (reply_of first.1.0) (reply_of second.1.0) first.1.1 second.1.1 first.0 second.0
-      (write_call bay one.station two.station one_new.station two_new.station same.stations (regular_bay one bay regular) (quiet bay calm.first calm.second) first.0.counts (quiet_too bay calm_too.first calm_too.second) second.0.counts first.1.0 second.1.0 key address true first.1.2 second.1.2)
-  steps_agree (request.Format bay c h) calm calm_too first second =
-      calls (reply_of first.1.0) (reply_of second.1.0) first.1.1 second.1.1 first.0 second.0
-      (format_call bay one.station two.station one_new.station two_new.station same.stations (regular_bay one bay regular) (quiet bay calm.first calm.second) first.0.counts (quiet_too bay calm_too.first calm_too.second) second.0.counts first.1.0 second.1.0 c h first.1.2 second.1.2)
-  steps_agree (request.SetRate bay rate) calm calm_too first second =
-      calls (reply_of first.1.0) (reply_of second.1.0) first.1.1 second.1.1 first.0 second.0
-      (rate_call bay one.station two.station one_new.station two_new.station same.stations (regular_bay one bay regular) (quiet bay calm.first calm.second) first.0.counts (quiet_too bay calm_too.first calm_too.second) second.0.counts first.1.0 second.1.0 rate first.1.2 second.1.2)
-  steps_agree (request.Tries tries) calm calm_too first second =
-      agree one two one_new two_new told other told_after other_after same answer answer_too reply.Done first.1 second.1 (second.0.names ∙ same.names ∙ sym first.0.names)
-      (becomes_same (record one.station { tries = tries }) (record two.station { tries = tries }) one_new.station two_new.station same.stations first.2.becomes second.2.becomes)
-      (files_stay one two one_new two_new told other told_after other_after same answer answer_too first.0.files second.0.files)
+    pub steps_agree : (asked : Request) → Calm asked → CalmToo asked → Step asked one told answer one_new told_after → Step asked two other answer_too two_new other_after → Agrees
+    steps_agree (request.Insert bay name) calm calm_too first second =
+        by_order (request.Insert bay name) (empty_order bay (is_bay bay)) first second
+        (λ free a b.
+        let d = a.2 in
+        let e = b.2 in
+        put_in bay (Some name) d.0 e.0 (images_alike told other name d.0 e.0 same.files d.1 e.1) a.0 b.0 a.1 b.1 d.2 e.2)
+    steps_agree (request.Blank bay name cylinders) calm calm_too first second =
+        by_order (request.Blank bay name cylinders) (empty_order bay (is_blank_request bay cylinders)) first second
+        (λ free a b.
+        let disks = blank_alike bay cylinders R500 (if is_loaded one bay then Some reason.Busy else None) free in
+        put_in bay (Some name) (blank_of cylinders R500) (blank_of cylinders R500) disks a.0 b.0 a.1 b.1 a.2 b.2)
+    steps_agree (request.BlankDd bay name cylinders) calm calm_too first second =
+        by_order (request.BlankDd bay name cylinders) (empty_order bay (is_blank_request bay cylinders)) first second
+        (λ free a b.
+        let disks = blank_alike bay cylinders R250 (if is_loaded one bay then Some reason.Busy else None) free in
+        put_in bay (Some name) (blank_of cylinders R250) (blank_of cylinders R250) disks a.0 b.0 a.1 b.1 a.2 b.2)
+    steps_agree (request.Eject bay) calm calm_too first second =
+        by_order (request.Eject bay) (full_order bay) first second
+        (λ free a b. ejected bay a b)
+    steps_agree (request.Unit bay) calm calm_too first second =
+        by_order (request.Unit bay) (unit_order bay) first second
+        (λ free a b. unit_taken bay a b)
+    steps_agree (request.Fill address count byte) calm calm_too first second =
+        by_order (request.Fill address count byte) refl first second
+        (λ free a b.
+        let within = leb-true (address + count) user_bytes (taken_good (nat_le (address + count) user_bytes) None free) in
+        filled address count byte within a.0 b.0 a.1 b.1 a.2 b.2)
+    steps_agree (request.Dump address count) calm calm_too first second =
+        by_order (request.Dump address count) refl first second
+        (λ free a b.
+        let within = leb-true (address + count) user_bytes (taken_good (nat_le (address + count) user_bytes) None free) in
+        dumped address count within a.0 b.0 a.1 b.1 a.2 b.2)
+    steps_agree (request.Ack bay) calm calm_too first second =
+        called (reply_of first.1.0) (reply_of second.1.0) first.1.1 second.1.1 first.0 second.0
+        (ack_call bay one.station two.station one_new.station two_new.station same.stations (regular_bay one bay regular) (quiet bay calm.first calm.second) first.0.counts (quiet_too bay calm_too.first calm_too.second) second.0.counts first.1.0 second.1.0 first.1.2 second.1.2)
+    steps_agree (request.Read bay key address) calm calm_too first second =
+        called (read_reply first.1.0) (read_reply second.1.0) first.1.1 second.1.1 first.0 second.0
+        (read_call bay one.station two.station one_new.station two_new.station same.stations (regular_bay one bay regular) (quiet bay calm.first calm.second) first.0.counts (quiet_too bay calm_too.first calm_too.second) second.0.counts key address first.1.0 second.1.0 first.1.2 second.1.2)
+    steps_agree (request.Write bay key address) calm calm_too first second =
+        called (reply_of first.1.0) (reply_of second.1.0) first.1.1 second.1.1 first.0 second.0
+        (write_call bay one.station two.station one_new.station two_new.station same.stations (regular_bay one bay regular) (quiet bay calm.first calm.second) first.0.counts (quiet_too bay calm_too.first calm_too.second) second.0.counts first.1.0 second.1.0 key address false first.1.2 second.1.2)
+    steps_agree (request.WriteDeleted bay key address) calm calm_too first second =
+        called (reply_of first.1.0) (reply_of second.1.0) first.1.1 second.1.1 first.0 second.0
+        (write_call bay one.station two.station one_new.station two_new.station same.stations (regular_bay one bay regular) (quiet bay calm.first calm.second) first.0.counts (quiet_too bay calm_too.first calm_too.second) second.0.counts first.1.0 second.1.0 key address true first.1.2 second.1.2)
+    steps_agree (request.Format bay c h) calm calm_too first second =
+        called (reply_of first.1.0) (reply_of second.1.0) first.1.1 second.1.1 first.0 second.0
+        (format_call bay one.station two.station one_new.station two_new.station same.stations (regular_bay one bay regular) (quiet bay calm.first calm.second) first.0.counts (quiet_too bay calm_too.first calm_too.second) second.0.counts first.1.0 second.1.0 c h first.1.2 second.1.2)
+    steps_agree (request.SetRate bay rate) calm calm_too first second =
+        called (reply_of first.1.0) (reply_of second.1.0) first.1.1 second.1.1 first.0 second.0
+        (rate_call bay one.station two.station one_new.station two_new.station same.stations (regular_bay one bay regular) (quiet bay calm.first calm.second) first.0.counts (quiet_too bay calm_too.first calm_too.second) second.0.counts first.1.0 second.1.0 rate first.1.2 second.1.2)
+    steps_agree (request.Tries tries) calm calm_too first second =
+        agree reply.Done first.1 second.1 (second.0.names ∙ same.names ∙ sym first.0.names)
+        (becomes_same (record one.station { tries = tries }) (record two.station { tries = tries }) one_new.station two_new.station same.stations first.2.becomes second.2.becomes)
+        (files_stay first.0.files second.0.files)

@@ -8,14 +8,26 @@ use Rattle.sector_model.specs.declared.reply.Reply.TheVariants as reply
 use Rattle.sector_model.specs.declared.reply.Stop.TheVariants as stop
 use Rattle.commands.specs.Parts.{Part, needs, carries, opens, sets_rate, acknowledges, through, each}
 
+-- the status is 0 or 1, and this holds of whether it is 1; or the outside gave the status
+abbrev pub EndsAs : (Bool → Type 0) → Status → Type 0
+EndsAs Holds status.AllOk = Holds false
+EndsAs Holds status.SomeRefused = Holds true
+EndsAs Holds status.NoMemory = Unit {0}
+EndsAs Holds status.FileFault = Unit {0}
+EndsAs Holds status.SinkFault = Unit {0}
+EndsAs Holds _ = ⊥
+
+abbrev pub Is : Bool → Bool → Type 0
+Is refused flag = refused ≡ flag
+
+-- this holds with status 0, and that with status 1
+abbrev pub ByFlag : Type 0 → Type 0 → Bool → Type 0
+ByFlag Fine Refused false = Fine
+ByFlag Fine Refused true = Refused
+
 -- the status says whether some reply was a refusal, or the outside gave it
 abbrev pub EndsBy : Bool → Status → Type 0
-EndsBy refused status.AllOk = refused ≡ false
-EndsBy refused status.SomeRefused = refused ≡ true
-EndsBy refused status.NoMemory = Unit {0}
-EndsBy refused status.FileFault = Unit {0}
-EndsBy refused status.SinkFault = Unit {0}
-EndsBy refused _ = ⊥
+EndsBy refused ended = EndsAs (Is refused) ended
 
 -- a request that doesn't put the disk of a file in
 abbrev pub NeverInserts : Request → Type 0
@@ -36,42 +48,59 @@ IsFaithful refused (Stores name bytes line wanted) = wanted ≡ whole_status ref
 IsFaithful refused (MayStarve rest) = IsFaithful refused rest
 IsFaithful refused (Fails cause) = EndsBy refused cause
 
-pub whole_by : (refused : Bool) → EndsBy refused (whole_status refused)
-whole_by true = refl
-whole_by false = refl
+module _ (Holds : Bool → Type 0) where
+  pub whole_as : (refused : Bool) → Holds refused → EndsAs Holds (whole_status refused)
+  whole_as true holds = holds
+  whole_as false holds = holds
 
-pub put_by : (refused : Bool) (ended : Status) → IsPutFault ended → EndsBy refused ended
-put_by refused status.NoMemory fault = tt
-put_by refused status.SinkFault fault = tt
-put_by refused _ fault = absurd fault
+  pub put_as : (ended : Status) → IsPutFault ended → EndsAs Holds ended
+  put_as status.NoMemory fault = tt
+  put_as status.SinkFault fault = tt
+  put_as _ fault = absurd fault
 
-store_by : (refused : Bool) (ended : Status) → IsStoreFault ended → EndsBy refused ended
-store_by refused status.NoMemory fault = tt
-store_by refused status.FileFault fault = tt
-store_by refused _ fault = absurd fault
+  store_as : (ended : Status) → IsStoreFault ended → EndsAs Holds ended
+  store_as status.NoMemory fault = tt
+  store_as status.FileFault fault = tt
+  store_as _ fault = absurd fault
 
-pub prints_by : (refused : Bool) (line : List (List ℕ)) (wanted : Status) (old new : Option (List (List ℕ))) (ended : Status) → Prints line wanted old new ended
-    → EndsBy refused wanted → EndsBy refused ended
-prints_by refused line wanted old new ended (Whole is well) by = subst (λ (s : Status). EndsBy refused s) (sym well) by
-prints_by refused line wanted old new ended (InPart grows fault) by = put_by refused ended fault
+  pub stop_as : (cause : Stop) → IsEndStop cause → EndsAs Holds (stop_status cause)
+  stop_as stop.FileFault only = tt
+  stop_as stop.NoMemory only = tt
+  stop_as _ only = absurd only
+
+  pub prints_as : (line : List (List ℕ)) (wanted : Status) (old new : Option (List (List ℕ))) (ended : Status) → Prints line wanted old new ended
+      → (ended ≡ wanted → EndsAs Holds wanted) → EndsAs Holds ended
+  prints_as line wanted old new ended (Whole is well) by = subst (λ (s : Status). EndsAs Holds s) (sym well) (by well)
+  prints_as line wanted old new ended (InPart grows fault) by = put_as ended fault
+
+  -- a statement on statuses that holds of each such status, with the faults of the outside counted
+  pub ends_so : (Such : Status → Type 0) (ended : Status) → (Holds false → Such status.AllOk) → (Holds true → Such status.SomeRefused) → Such status.NoMemory
+      → (ended ≡ status.FileFault → Such status.FileFault) → (ended ≡ status.SinkFault → Such status.SinkFault) → EndsAs Holds ended → Such ended
+  ends_so Such status.AllOk fine refused starved shelf sink ends = fine ends
+  ends_so Such status.SomeRefused fine refused starved shelf sink ends = refused ends
+  ends_so Such status.NoMemory fine refused starved shelf sink ends = starved
+  ends_so Such status.FileFault fine refused starved shelf sink ends = shelf refl
+  ends_so Such status.SinkFault fine refused starved shelf sink ends = sink refl
+  ends_so Such _ fine refused starved shelf sink ends = absurd ends
 
 told_by : (refused : Bool) (line : List (List ℕ)) (wanted : Status) (old new : Option (List (List ℕ))) (ended : Status) → Prints line wanted old new ended
     → wanted ≡ whole_status refused → EndsBy refused ended
 told_by refused line wanted old new ended prints is =
-    prints_by refused line wanted old new ended prints (subst (λ (s : Status). EndsBy refused s) (sym is) (whole_by refused))
+    prints_as (Is refused) line wanted old new ended prints
+    (λ well. subst (λ (s : Status). EndsBy refused s) (sym is) (whole_as (Is refused) refused refl))
 
 stored_by : (refused : Bool) (name bytes line : List ℕ) (wanted : Status) (old new : World) (ended : Status)
     → StoresLast name bytes line wanted old new ended → wanted ≡ whole_status refused → EndsBy refused ended
 stored_by refused name bytes line wanted old new ended (IsStored state files prints) is = told_by refused (line ∷ []) wanted _ _ ended prints is
-stored_by refused name bytes line wanted old new ended (NotStored same fault) is = store_by refused ended fault
+stored_by refused name bytes line wanted old new ended (NotStored same fault) is = store_as (Is refused) ended fault
 
--- only the outside stops a request that doesn't put the disk of a file in
-stop_by : (refused : Bool) (told : Option Files) (asked : Request) (cause : Stop) → StopCause told asked cause → NeverInserts asked
-    → EndsBy refused (stop_status cause)
-stop_by refused told asked (stop.BadImage name error) cause never = absurd (never cause.0.0 name cause.0.1)
-stop_by refused told asked (stop.TooLong name most) cause never = absurd (never cause.0.0 name cause.0.1)
-stop_by refused told asked (stop.Absent name) cause never = absurd (never cause.0.0 name cause.0.1)
-stop_by refused told asked _ cause never = tt
+-- only the outside stops a request, unless it is one that puts the disk of a file in
+pub loads_stop : (told : Option Files) (asked : Request) (cause : Stop) → StopCause told asked cause
+    → ((bay : ℕ) (name : List ℕ) → asked ≡ request.Insert bay name → IsEndStop cause) → IsEndStop cause
+loads_stop told asked (stop.BadImage name error) cause loads = loads cause.0.0 name cause.0.1
+loads_stop told asked (stop.TooLong name most) cause loads = loads cause.0.0 name cause.0.1
+loads_stop told asked (stop.Absent name) cause loads = loads cause.0.0 name cause.0.1
+loads_stop told asked _ cause loads = tt
 
 pub or_none : (a : Bool) → a ≡ (a || false)
 or_none true = refl
@@ -89,9 +118,10 @@ pub script_tells : (refused : Bool) (script : Script) (old new : World) (course 
 script_tells refused (Ends line wanted) old new [] ended is runs = at_end refused ended (told_by refused line wanted _ _ ended runs.report is)
 script_tells refused (Says line rest) old new course ended is (inl runs) =
     script_tells refused rest (record old { report = grown old.report (line ∷ []) }) new course ended is runs
-script_tells refused (Says line rest) old new course ended is (inr cut) = put_by (refused || has_refusal course) ended cut.1.1
+script_tells refused (Says line rest) old new course ended is (inr cut) = put_as (Is (refused || has_refusal course)) ended cut.1.1
 script_tells refused (Asks asked rest) old new [] ended is runs =
-    at_end refused ended (prints_by refused _ _ _ _ ended runs.2 (stop_by refused old.files asked runs.0 runs.1.cause is.0))
+    at_end refused ended (prints_as (Is refused) _ _ _ _ ended runs.2 (λ well.
+    stop_as (Is refused) runs.0 (loads_stop old.files asked runs.0 runs.1.cause (λ bay name e. absurd (is.0 bay name e)))))
 script_tells refused (Asks asked rest) old new (taken ∷ later) ended is runs =
     subst (λ (b : Bool). EndsBy b ended) (or_over refused (is_refusal taken.answer) (has_refusal later))
     (script_tells (refused || is_refusal taken.answer) (rest taken.answer taken.after) (with_report taken.after runs.1 old.report) new later ended
@@ -164,18 +194,14 @@ tracks_tell flag part is cylinders heads found =
 
 -- ---- The disk of a file is put in, and that file is there.
 
-pub end_by : (refused : Bool) (cause : Stop) → IsEndStop cause → EndsBy refused (stop_status cause)
-end_by refused stop.FileFault only = tt
-end_by refused stop.NoMemory only = tt
-end_by refused _ only = absurd only
-
 pub opens_tells : (name : List ℕ) (rest : Shape → Script) (files : Files) (disk : Disk) (old new : World) (course : List Taken) (ended : Status)
     → old.files ≡ Some files → IsImageOf (Some files) name disk → ((shape : Shape) → IsFaithful false (rest shape))
     → RunsScript (opens name rest) old course new ended → EndsBy (has_refusal course) ended
 unfolding opens needs
 opens_tells name rest files disk old new [] ended told image is runs =
     let stops = subst (λ (f : Option Files). StopsAt (request.Insert 0 name) old.state f runs.0 new.state new.files) told runs.1 in
-    prints_by false _ _ _ _ ended runs.2 (end_by false runs.0 (insert_stops 0 name files disk old.state new.state new.files runs.0 image stops))
+    prints_as (Is false) _ _ _ _ ended runs.2
+    (λ well. stop_as (Is false) runs.0 (insert_stops 0 name files disk old.state new.state new.files runs.0 image stops))
 opens_tells name rest files disk old new (taken ∷ later) ended told image is runs =
     let left = rest (shape_at taken.after 0) in
     script_tells (false || is_refusal taken.answer) (unless_refused (request.Insert 0 name) taken.answer left) (with_report taken.after runs.1 old.report)

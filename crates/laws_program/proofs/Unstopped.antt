@@ -128,19 +128,13 @@ module _ (key : Chrn) (lines : List LogLine) (rest : List LogLine → Script) (g
   refused_going code.Overrun = logged_going code.Overrun
   refused_going code.BadCrc = logged_going code.BadCrc
   refused_going code.Seek = logged_going code.Seek
-  refused_going code.BadRequest = stop_going (reason.Driver code.BadRequest)
-  refused_going code.Page = stop_going (reason.Driver code.Page)
-  refused_going code.Changed = stop_going (reason.Driver code.Changed)
-  refused_going code.Protected = stop_going (reason.Driver code.Protected)
-  refused_going code.NotReady = stop_going (reason.Driver code.NotReady)
+  refused_going cause = stop_going (reason.Driver cause)
 
   follows_going : (answer : Reply) → Going (follows key answer lines rest)
   unfolding follows does_next
   follows_going reply.DoneDeleted = carries_going (write_of key true) _ (strictly _ (goes lines))
   follows_going (reply.Refused (reason.Driver cause)) = refused_going cause
-  follows_going (reply.Refused reason.Busy) = stop_going reason.Busy
-  follows_going (reply.Refused reason.Empty) = stop_going reason.Empty
-  follows_going (reply.Refused reason.NoSpare) = stop_going reason.NoSpare
+  follows_going (reply.Refused cause) = stop_going cause
   follows_going _ = carries_going (write_of key false) _ (strictly _ (goes lines))
 
 rescues_going : (keys : List Chrn) (lines : List LogLine) (rest : List LogLine → Script) → ((now : List LogLine) → Going (rest now)) → Going (through rescues keys lines rest)

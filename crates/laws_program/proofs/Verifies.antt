@@ -1,7 +1,7 @@
 -- What a verify prints.
 use Rattle.std.proofs.Common.{◌≡◌, ◌∙◌, ℕ, Bool, true, false, List, [], ◌∷◌, length, Some, refl, ap, sym, subst, inl, inr, arith}
 use Rattle.std.specs.Prelude.{nat_le}
-use Rattle.laws_program.proofs.Common.{leb-false, length-append, Files, Code, Status, Chrn, Disk, Two, in_bay, DriveCounts, Look, Found, NoMark, NoSector, NoData, BadCrc, standard_keys, Bay, IsImageOf, whole_status, Board, Outside, world, RunsOver, IsUnmistaken, told_of, all_told_of, IsEndStatus, verify_tells, HadNoFault, HadNoStall, ListsFailing}
+use Rattle.laws_program.proofs.Common.{leb-false, length-append, Files, Code, Status, Chrn, Disk, Two, in_bay, DriveCounts, Look, Found, standard_keys, Bay, IsImageOf, whole_status, Board, Outside, world, RunsOver, IsUnmistaken, told_of, all_told_of, IsEndStatus, verify_tells, HadNoFault, HadNoStall, ListsFailing}
 use Rattle.std.proofs.lemmas.Grind.{flat_map-append}
 use Rattle.flop_base.specs.declared.answers.Status.TheVariants as status
 use Rattle.sector_map.specs.Failing.{AreFailing, unless_found}
@@ -36,10 +36,7 @@ none_told n well = let few = leb-false 1 n (none_refused (nat_le 1 n) well) in o
 -- a key that isn't found is listed
 told_one : (key : Chrn) (look : Look) → length (all_told_of (unless_found key look)) ≡ length (unless_found key look)
 told_one key (Found deleted place) = refl
-told_one key NoMark = refl
-told_one key NoSector = refl
-told_one key NoData = refl
-told_one key BadCrc = refl
+told_one key look = refl
 
 -- each key that isn't found is listed
 told_each : (disk : Disk) (keys : List Chrn) (failed : List (Chrn × Look)) → AreFailing disk keys failed → length (all_told_of failed) ≡ length failed

@@ -1,10 +1,7 @@
 -- A data command that is awaited, from the port write that begins it on, and through port reads.
-use Rattle.std.proofs.Common.{◌≡◌, ℕ, ◌==◌, Bool, true, false, [], ◌∷◌, ◌++◌, if◌then◌else◌, refl, sym, ◌∙◌, ap, subst}
-use Rattle.laws_machine.proofs.Common.{answer, kept, Ready, ReadData, FormatTrack, Obeys, TakesAs, asked, is_executing, given, is_taking, data_commands_of, Fdc, counted, Board, controller_of, lines_of, irq_taken, is_controllers, Inputs, Outputs, shown_again, drive_stays, IsHushed, Scene, write_of, read_from, Order, Identify, Read, Write, Window, Track, CanBegin, IsLetOut, HoldsSet, IsAwaited, false≢true, after_read, begun_with}
-use Rattle.fdc_commands.specs.declared.command.Command.{Command}
-use Rattle.fdc_commands.specs.declared.command.Command.TheVariants.{ReadId}
-use Rattle.fdc_core.specs.Ports.{Writes}
-use Rattle.laws_machine.proofs.OnOrders.Beginning.{begins_write}
+use Rattle.std.proofs.Common.{◌≡◌, ℕ, ◌==◌, Bool, true, false, if◌then◌else◌, refl, sym, ◌∙◌, ap, subst}
+use Rattle.laws_machine.proofs.Common.{is_executing, given, data_commands_of, Fdc, counted, Board, controller_of, irq_taken, is_controllers, Inputs, Outputs, shown_again, drive_stays, IsHushed, Scene, read_from, Order, CanBegin, IsLetOut, HoldsSet, IsAwaited, false≢true, after_read}
+use Rattle.laws_machine.proofs.OnOrders.Beginning.{begun_at}
 use Rattle.laws_machine.proofs.OnSteps.Runs.{gap, inputs}
 use Rattle.laws_machine.proofs.OnAwaits.Turning.{on_still}
 use Rattle.laws_machine.proofs.OnAwaits.Awaiting.{awaiting, same_await}
@@ -18,59 +15,17 @@ pub record HasBegun (old new : Fdc) : Type 0 where
   pub low : new.interrupt ≡ false
   pub busy : is_executing new.phase ≡ true
 
-begun_as : (old new : Fdc) (head_drive : ℕ) (task : _) → IsLetOut old → old.interrupt ≡ false → new ≡ begun_with head_drive task (record old { command = [] }) → HasBegun old new
-begun_as old new head_drive task out low is = subst (HasBegun old) (sym is) (record {
-  calm = record { selects = out.selects; gated = out.gated; no_seek = out.no_seek; polled = out.polled };
-  holds = record { seeks = refl; dor = refl; rate = refl; non_dma = refl; polling = refl; on = refl; threshold = refl; command = refl; data_commands = refl };
-  low = low;
-  busy = refl;
-})
-
--- the commands that write ask for their first bytes
-asks_as : (old new : Fdc) (head_drive : ℕ) (task : _) → IsLetOut old → old.interrupt ≡ false → new ≡ asked (begun_with head_drive task (record old { command = [] })) → HasBegun old new
-asks_as old new head_drive task out low is =
-    let from = begun_with head_drive task (record old { command = [] }) in
-    let has = begun_as old from head_drive task out low refl in
-    subst (HasBegun old) (sym is) (record {
-      calm = record { selects = out.selects; gated = out.gated; no_seek = out.no_seek; polled = out.polled };
-      holds = record { seeks = refl; dor = refl; rate = refl; non_dma = refl; polling = refl; on = refl; threshold = refl; command = refl; data_commands = refl };
-      low = low;
-      busy = has.busy;
-    })
-
--- the byte with which a command is whole
-obeyed : (command : Command) (byte : ℕ) (old : Board) (controller : Fdc) → answer ((controller_of old).command ++ byte ∷ []) ≡ Ready command → is_taking (controller_of old) ≡ true
-    → Writes 0x3F5 byte (lines_of old) (controller_of old) controller → Obeys command (lines_of old) (record (controller_of old) { command = [] }) controller
-obeyed command byte old controller whole taking writes =
-    let fdc = controller_of old in
-    subst (λ accepted. TakesAs accepted (lines_of old) (record fdc { command = kept accepted (fdc.command ++ byte ∷ []) }) controller) whole ((writes.bytes refl).0 taking)
-
-begun_by : (order : Order) (scene : Scene) (byte : ℕ) (old : Board) (controller : Fdc) → CanBegin order scene byte old → IsLetOut (controller_of old) → (controller_of old).interrupt ≡ false
-    → Writes 0x3F5 byte (lines_of old) (controller_of old) controller → HasBegun (controller_of old) controller
-begun_by Identify scene byte old controller can out low writes =
-    let does = obeyed (ReadId scene.sent.head_drive) byte old controller can.last.whole can.last.taking writes in
-    let (task, is, waits, after) = (does.0 can.last.no_seek).1 can.last.dma in
-    begun_as (controller_of old) controller scene.sent.head_drive task out low after
-begun_by Read scene byte old controller can out low writes =
-    let does = obeyed (ReadData scene.sent.head_drive scene.sent.key scene.sent.last_sector can.last.gap can.last.length_code) byte old controller can.last.whole can.last.taking writes in
-    let (task, is, waits, after) = (does.0 can.last.no_seek).1 can.last.dma in
-    begun_as (controller_of old) controller scene.sent.head_drive task out low after
-begun_by (Write (Window deleted)) scene byte old controller can out low writes =
-    let does = obeyed (write_of deleted scene.sent can.last.gap can.last.length_code) byte old controller can.last.whole can.last.taking writes in
-    let (task, is, waits, after) =
-    begins_write deleted scene.sent can.last.gap can.last.length_code (lines_of old) (record (controller_of old) { command = [] }) controller does can.last.no_seek can.last.dma in
-    asks_as (controller_of old) controller scene.sent.head_drive task out low after
-begun_by (Write (Track numbers)) scene byte old controller can out low writes =
-    let does = obeyed (FormatTrack scene.sent.head_drive numbers.n numbers.sectors numbers.gap3 numbers.fill) byte old controller can.last.whole can.last.taking writes in
-    let (task, is, waits, after) = (does.0 can.last.no_seek).1 can.last.dma in
-    asks_as (controller_of old) controller scene.sent.head_drive task out low after
-
 -- after the write, before its gap
 has_begun : (order : Order) (scene : Scene) (byte : ℕ) (old new : Board) (access : Outputs 0x3F5 byte old new) → CanBegin order scene byte old → IsLetOut (controller_of old) → IsHushed old
     → HasBegun (controller_of old) (controller_of access.between)
 has_begun order scene byte old new access can out hushed =
-    let (controller, writes, chips_are) = access.writes.writes.controllers refl in
-    subst (HasBegun (controller_of old)) (sym (ap (λ bus. bus.chips.controller) access.writes.bus ∙ ap (λ chips. chips.controller) chips_are)) (begun_by order scene byte old controller can out hushed.low writes)
+    let (has, chips_are) = begun_at order scene byte old access.between access.writes can.last in
+    subst (HasBegun (controller_of old)) (sym has.after) (record {
+      calm = record { selects = out.selects; gated = out.gated; no_seek = out.no_seek; polled = out.polled };
+      holds = record { seeks = refl; dor = refl; rate = refl; non_dma = refl; polling = refl; on = refl; threshold = refl; command = refl; data_commands = refl };
+      low = hushed.low;
+      busy = refl;
+    })
 
 pub begins_awaited : (order : Order) (scene : Scene) (byte : ℕ) (old new : Board) → Outputs 0x3F5 byte old new → CanBegin order scene byte old → IsLetOut (controller_of old) → IsHushed old
     → IsAwaited (counted (data_commands_of (controller_of old))) old new

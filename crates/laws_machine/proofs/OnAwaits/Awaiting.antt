@@ -1,15 +1,15 @@
 -- A data command that is awaited, through device steps and waits.
-use Rattle.std.proofs.Common.{inl, inr, ◌≡◌, ℕ, ◌%◌, ◌≤◌, ◌==◌, ◌&&◌, Bool, true, false, None, [], ◌∷◌, ◌++◌, length, refl, sym, ◌∙◌, ap, subst}
-use Rattle.laws_machine.proofs.Common.{DriveState, at_index, is_stray_due, Fifo, room_of, Dor, with_byte, is_reading, is_executing, ExecutesIn, interrupts, is_gated, dor_of, polled, seek_stepped, MovesIn, RestsIn, Stays, WritesIn, Fdc, Phase, Execute, Board, controller_of, latch_of, drive_in, Works, Step, strayed_if, lined, Chips, IsHushed, regapped, Steady, TurnsOn, IsLetOut, HoldsSet, is_unread, IsAwaited, false≢true, dma_stepped}
-use Rattle.laws_machine.proofs.Facts.{if_both, either_is, lined_rose, lined_set, strayed_level, strayed_set, told_busy, told_on, told_threshold}
+use Rattle.std.proofs.Common.{inl, inr, ◌≡◌, ℕ, ◌%◌, ◌≤◌, ◌==◌, Bool, true, false, None, refl, sym, ◌∙◌, ap, subst}
+use Rattle.laws_machine.proofs.Common.{DriveState, at_index, is_stray_due, Dor, is_executing, ExecutesIn, interrupts, is_gated, dor_of, polled, seek_stepped, MovesIn, RestsIn, Stays, WritesIn, Fdc, Phase, Execute, Board, controller_of, latch_of, drive_in, Works, Step, strayed_if, lined, Chips, IsHushed, regapped, Steady, TurnsOn, IsLetOut, HoldsSet, is_unread, IsAwaited, false≢true, dma_stepped, HasEnded, and_right}
+use Rattle.laws_machine.proofs.Facts.{either_is, lined_rose, lined_set, strayed_level, strayed_set, told_busy}
 use Rattle.laws_machine.proofs.OnQuiet.Listening.{stepped_none, pulse_none}
 use Rattle.laws_machine.proofs.OnQuiet.Standing.{polled_same}
-use Rattle.laws_machine.proofs.OnSteps.Controllers.{idle_dma, dma_controller}
+use Rattle.laws_machine.proofs.OnSteps.Controllers.{idle_dma, dma_only, phase_dma, with_moved}
 use Rattle.laws_machine.proofs.OnQuiet.Turning.{turned_moves}
 use Rattle.laws_machine.proofs.OnSteps.Words.{drives, some_drive}
-use Rattle.laws_machine.specs.OnAwaits.Awaits.{HasEnded}
 use Rattle.laws_machine.proofs.OnAwaits.Turning.{as_turned, on_calm, on_further}
-use Rattle.laws_machine.proofs.OnAwaits.Words.{Leaves, word_leaves}
+use Rattle.laws_machine.proofs.OnAwaits.Words.{word_leaves}
+use Rattle.laws_machine.proofs.OnSteps.Outcomes.{Leaves}
 
 -- ---- the word time
 
@@ -69,53 +69,6 @@ same_works before after old between none unpolled works = by_busy (is_executing 
     by_busy false idle = rests_behind old.phase before after old between refl idle none
         (subst (λ polls. MovesIn polls.phase polls before after) same works.drive) (subst (λ polls. RestsIn polls.phase (before.cylinder == 0) polls between) same works.rests)
 
--- ---- the latch
-
-gate_low : (gated interrupt : Bool) → interrupt ≡ false → (gated && interrupt) ≡ false
-gate_low true interrupt low = low
-gate_low false interrupt low = refl
-
--- ---- the transfers
-
--- what transfers leave as it was
-pub record IsKeptBy (old new : Fdc) : Type 0 where
-  pub seeks : new.seeks ≡ old.seeks
-  pub poll : new.poll_due ≡ old.poll_due
-  pub interrupt : new.interrupt ≡ old.interrupt
-  pub dor : new.dor ≡ old.dor
-  pub rate : new.rate ≡ old.rate
-  pub non_dma : new.non_dma ≡ old.non_dma
-  pub polling : new.polling ≡ old.polling
-  pub on : new.fifo.on ≡ old.fifo.on
-  pub threshold : new.fifo.threshold ≡ old.fifo.threshold
-  pub command : new.command ≡ old.command
-  pub data_commands : new.data_commands ≡ old.data_commands
-  pub busy : is_executing new.phase ≡ is_executing old.phase
-
-with_on : (byte : ℕ) (fifo : Fifo) → (with_byte byte fifo).on ≡ fifo.on
-with_on byte fifo = if_both (length fifo.bytes == room_of fifo.on) fifo (record fifo { bytes = fifo.bytes ++ byte ∷ [] }) (λ z. z.on ≡ fifo.on) refl refl
-
-with_threshold : (byte : ℕ) (fifo : Fifo) → (with_byte byte fifo).threshold ≡ fifo.threshold
-with_threshold byte fifo = if_both (length fifo.bytes == room_of fifo.on) fifo (record fifo { bytes = fifo.bytes ++ byte ∷ [] }) (λ z. z.threshold ≡ fifo.threshold) refl refl
-
-dma_keeps_all : (chips : Chips) → IsKeptBy chips.controller (dma_stepped chips).controller
-dma_keeps_all chips =
-    let fdc = chips.controller in
-    record {
-      seeks = dma_controller (λ f. f.seeks) (λ f. refl) (λ f. refl) (λ byte f. refl) fdc.seeks chips refl;
-      poll = dma_controller (λ f. f.poll_due) (λ f. refl) (λ f. refl) (λ byte f. refl) fdc.poll_due chips refl;
-      interrupt = dma_controller (λ f. f.interrupt) (λ f. refl) (λ f. refl) (λ byte f. refl) fdc.interrupt chips refl;
-      dor = dma_controller (λ f. f.dor) (λ f. refl) (λ f. refl) (λ byte f. refl) fdc.dor chips refl;
-      rate = dma_controller (λ f. f.rate) (λ f. refl) (λ f. refl) (λ byte f. refl) fdc.rate chips refl;
-      non_dma = dma_controller (λ f. f.non_dma) (λ f. refl) (λ f. refl) (λ byte f. refl) fdc.non_dma chips refl;
-      polling = dma_controller (λ f. f.polling) (λ f. refl) (λ f. refl) (λ byte f. refl) fdc.polling chips refl;
-      on = dma_controller (λ f. f.fifo.on) (λ f. told_on (is_reading f.phase) f.fifo) (λ f. refl) (λ byte f. with_on byte f.fifo) fdc.fifo.on chips refl;
-      threshold = dma_controller (λ f. f.fifo.threshold) (λ f. told_threshold (is_reading f.phase) f.fifo) (λ f. refl) (λ byte f. with_threshold byte f.fifo) fdc.fifo.threshold chips refl;
-      command = dma_controller (λ f. f.command) (λ f. refl) (λ f. refl) (λ byte f. refl) fdc.command chips refl;
-      data_commands = dma_controller (λ f. f.data_commands) (λ f. refl) (λ f. refl) (λ byte f. refl) fdc.data_commands chips refl;
-      busy = dma_controller (λ f. is_executing f.phase) (λ f. told_busy f.phase) (λ f. refl) (λ byte f. refl) (is_executing fdc.phase) chips refl;
-    }
-
 -- ---- what was set
 
 let_out_on : (old new : Fdc) → IsLetOut old → new.dor ≡ old.dor → new.seeks ≡ old.seeks → new.poll_due ≡ old.poll_due → IsLetOut new
@@ -129,17 +82,17 @@ let_out_on old new was dor seeks poll = record {
     gated_same : new.dor ≡ old.dor → is_gated old ≡ true → is_gated new ≡ true
     gated_same same is = ap (λ (d : Dor). is_gated (record new { dor = d })) same ∙ is
 
-holds_word : (begun : ℕ) (start old between new : Fdc) → HoldsSet begun start old → Stays old between → between.seeks ≡ old.seeks → IsKeptBy between new → HoldsSet begun start new
+holds_word : (begun : ℕ) (start old between new : Fdc) → HoldsSet begun start old → Stays old between → between.seeks ≡ old.seeks → new ≡ with_moved between new → HoldsSet begun start new
 holds_word begun start old between new was stays seeks kept = record {
-  seeks = kept.seeks ∙ (seeks ∙ was.seeks);
-  dor = kept.dor ∙ (stays.dor ∙ was.dor);
-  rate = kept.rate ∙ (stays.rate ∙ was.rate);
-  non_dma = kept.non_dma ∙ (stays.non_dma ∙ was.non_dma);
-  polling = kept.polling ∙ (stays.polling ∙ was.polling);
-  on = kept.on ∙ (stays.on ∙ was.on);
-  threshold = kept.threshold ∙ (stays.threshold ∙ was.threshold);
-  command = kept.command ∙ (stays.command ∙ was.command);
-  data_commands = kept.data_commands ∙ (stays.data_commands ∙ was.data_commands);
+  seeks = ap (λ f. f.seeks) kept ∙ (seeks ∙ was.seeks);
+  dor = ap (λ f. f.dor) kept ∙ (stays.dor ∙ was.dor);
+  rate = ap (λ f. f.rate) kept ∙ (stays.rate ∙ was.rate);
+  non_dma = ap (λ f. f.non_dma) kept ∙ (stays.non_dma ∙ was.non_dma);
+  polling = ap (λ f. f.polling) kept ∙ (stays.polling ∙ was.polling);
+  on = ap (λ f. f.fifo.on) kept ∙ (stays.on ∙ was.on);
+  threshold = ap (λ f. f.fifo.threshold) kept ∙ (stays.threshold ∙ was.threshold);
+  command = ap (λ f. f.command) kept ∙ (stays.command ∙ was.command);
+  data_commands = ap (λ f. f.data_commands) kept ∙ (stays.data_commands ∙ was.data_commands);
 }
 
 -- ---- the device step
@@ -171,24 +124,27 @@ module _ (begun : ℕ) (start old new : Board) (was : IsAwaited begun start old)
   now : controller_of new ≡ (dma_stepped chips).controller
   now = ap (λ bus. bus.chips.controller) step.bus
 
-  kept : IsKeptBy step.between (controller_of new)
-  kept = subst (IsKeptBy step.between) (sym now) (dma_keeps_all chips)
+  kept : controller_of new ≡ with_moved step.between (controller_of new)
+  kept = subst (λ fdc. fdc ≡ with_moved step.between fdc) (sym now) (dma_only chips)
+
+  busy_same : is_executing (controller_of new).phase ≡ is_executing step.between.phase
+  busy_same = ap (λ fdc. is_executing fdc.phase) now ∙ phase_dma is_executing told_busy chips
 
   latch_now : latch_of new ≡ lined (interrupts (dma_stepped chips).controller) (strayed_if (is_stray_due old.bus.strays) old.bus.latch)
   latch_now = ap (λ bus. bus.latch) step.bus
 
   gated_now : is_gated (dma_stepped chips).controller ≡ true
-  gated_now = sym (ap is_gated now) ∙ (let_out_on (controller_of old) (controller_of new) was.calm (kept.dor ∙ past.stays.dor) (kept.seeks ∙ past.behind.2.seeks) (kept.poll ∙ past.behind.2.poll)).gated
+  gated_now = sym (ap is_gated now) ∙ (let_out_on (controller_of old) (controller_of new) was.calm (ap (λ f. f.dor) kept ∙ past.stays.dor) (ap (λ f. f.seeks) kept ∙ past.behind.2.seeks) (ap (λ f. f.poll_due) kept ∙ past.behind.2.poll)).gated
 
   still : is_executing (controller_of old).phase ≡ true → is_executing step.between.phase ≡ true → IsHushed new
   still was_busy busy =
       let hushed = was.waits was_busy in
       let leaves = past.behind.2.busy was_busy in
-      let low : (controller_of new).interrupt ≡ false = kept.interrupt ∙ (leaves.goes_on busy ∙ hushed.low) in
+      let low : (controller_of new).interrupt ≡ false = ap (λ f. f.interrupt) kept ∙ (leaves.goes_on busy ∙ hushed.low) in
       record {
         low = low;
-        polled = kept.poll ∙ (past.behind.2.poll ∙ hushed.polled);
-        level = ap (λ latch. latch.level) latch_now ∙ gate_low (is_gated (dma_stepped chips).controller) (dma_stepped chips).controller.interrupt (sym (ap (λ fdc. fdc.interrupt) now) ∙ low);
+        polled = ap (λ f. f.poll_due) kept ∙ (past.behind.2.poll ∙ hushed.polled);
+        level = ap (λ latch. latch.level) latch_now ∙ and_right (is_gated (dma_stepped chips).controller) (dma_stepped chips).controller.interrupt (sym (ap (λ fdc. fdc.interrupt) now) ∙ low);
       }
 
   -- the command ends in this step
@@ -230,12 +186,12 @@ module _ (begun : ℕ) (start old new : Board) (was : IsAwaited begun start old)
 
   pub step_awaits : IsAwaited begun start new
   step_awaits = record {
-    calm = let_out_on (controller_of old) (controller_of new) was.calm (kept.dor ∙ past.stays.dor) (kept.seeks ∙ past.behind.2.seeks) (kept.poll ∙ past.behind.2.poll);
+    calm = let_out_on (controller_of old) (controller_of new) was.calm (ap (λ f. f.dor) kept ∙ past.stays.dor) (ap (λ f. f.seeks) kept ∙ past.behind.2.seeks) (ap (λ f. f.poll_due) kept ∙ past.behind.2.poll);
     holds = holds_word begun (controller_of start) (controller_of old) step.between (controller_of new) was.holds past.stays past.behind.2.seeks kept;
     first = on_further start.first old.first new.first was.first past.both.0;
     second = on_further start.second old.second new.second was.second past.both.1;
-    waits = λ busy. waits_now (sym kept.busy ∙ busy);
-    ended = λ idle. ended_now (sym kept.busy ∙ idle);
+    waits = λ busy. waits_now (sym busy_same ∙ busy);
+    ended = λ idle. ended_now (sym busy_same ∙ idle);
   }
 
 -- the same controller, drives and latch

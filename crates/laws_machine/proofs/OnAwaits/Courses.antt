@@ -1,7 +1,7 @@
 -- A data command, from its beginning until its end is reported: through device steps, waits, spurious interrupts that
 -- are taken, and reads of MSR.
 use Rattle.std.proofs.Common.{◌≡◌, ◌⊎◌, inl, inr, ℕ, ◌+◌, ◌≤◌, Bool, true, false, min, if◌then◌else◌, refl, sym, ◌∙◌, ap, subst, arith}
-use Rattle.laws_machine.proofs.Common.{last_count, Rose, is_executing, takes_in, asks, data_commands_of, is_held, Phase, Command, Execute, CountsGoOn, GoesQuietly, HoldsOn, Turned, only_listens, Scene, AreShort, counted, shown, LeavesOthers, IsFedInTime, IsOnTime, read_from, Stalled, Keeping, regapped, Steady, Order, Identify, Read, Write, CanBegin, IsAwaited, is_unread, Board, controller_of, holds_of, irq_taken, Inputs, Outputs, Waits, stirred, Chips, false≢true, CountsOn, EndsSoon, GoesOn, InTime, Listens, StandsReady, with_one, Runs}
+use Rattle.laws_machine.proofs.Common.{last_count, is_executing, takes_in, asks, data_commands_of, is_held, Phase, Command, Execute, CountsGoOn, GoesQuietly, HoldsOn, Turned, only_listens, Scene, AreShort, counted, shown, LeavesOthers, IsFedInTime, IsOnTime, read_from, Stalled, Keeping, regapped, Steady, Order, Identify, Read, Write, CanBegin, IsAwaited, is_unread, Board, controller_of, holds_of, irq_taken, Inputs, Outputs, Waits, stirred, Chips, false≢true, CountsOn, EndsSoon, GoesOn, InTime, Listens, StandsReady, with_one, Runs}
 use Rattle.laws_machine.proofs.Facts.{shown_stalls}
 use Rattle.laws_machine.proofs.OnCounts.Counting.{counting, input_counts, output_counts}
 use Rattle.laws_machine.proofs.OnQuiet.Steps.{quietly, starts_quietly}
@@ -13,7 +13,7 @@ use Rattle.laws_machine.proofs.OnWrites.OnTime.{on_time}
 use Rattle.laws_machine.proofs.OnOrders.Heads.{begin_leaves}
 use Rattle.laws_machine.proofs.OnOrders.Punctual.{begins_on_time}
 use Rattle.laws_machine.proofs.OnSteps.Runs.{from_start, inputs, wait, waits}
-use Rattle.laws_machine.proofs.OnSteps.Stalls.{gap_until, until_stalled}
+use Rattle.laws_machine.proofs.OnSteps.Stalls.{gap_since, until_stalled}
 use Rattle.laws_machine.proofs.OnOrders.Accesses.{begins, inputs_keep}
 use Rattle.laws_machine.proofs.OnOrders.Steps.{underway}
 use Rattle.laws_machine.proofs.OnAwaits.Awaiting.{awaiting}
@@ -68,10 +68,7 @@ status_in_time Read scene value old new access other was = elim (inputs_prompt 0
   | inr (inl over) ↦ absurd (other over)
   | inr (inr rose) ↦ inr rose
 ]
-status_in_time (Write laid) scene value old new access other was = elim (gap_until IsOnTime on_time (read_from 0x3F4 old) new access.gap between) [
-  | inl on ↦ inl on
-  | inr rose ↦ inr (subst (λ stalls. Rose stalls (holds_of new).stalls) (shown_stalls (asks (controller_of old)) (holds_of old)) rose)
-]
+status_in_time (Write laid) scene value old new access other was = gap_since IsOnTime on_time old (read_from 0x3F4 old) new (shown_stalls (asks (controller_of old)) (holds_of old)) access.gap between
   where
     between : IsOnTime (read_from 0x3F4 old)
     between = record {
@@ -144,13 +141,10 @@ taking_listens (Execute execution) held taking = absurd (false≢true taking)
 taking_listens _ held taking = refl
 
 begins_listening : (order : Order) (scene : Scene) (byte : ℕ) (old new : Board) → Outputs 0x3F5 byte old new → CanBegin order scene byte old → StandsReady old → Listens order (with_one old) old new
-begins_listening Identify scene byte old new access can ready =
-    begins_quietly Identify tt (data_commands_of (controller_of old)) old scene byte old new access can
-    (starts_quietly old (record { no_seek = ready.out.no_seek; listens = taking_listens (controller_of old).phase (is_held (controller_of old)) can.last.taking }))
-begins_listening Read scene byte old new access can ready =
-    begins_quietly Read tt (data_commands_of (controller_of old)) old scene byte old new access can
-    (starts_quietly old (record { no_seek = ready.out.no_seek; listens = taking_listens (controller_of old).phase (is_held (controller_of old)) can.last.taking }))
 begins_listening (Write laid) scene byte old new access can ready = tt
+begins_listening order scene byte old new access can ready =
+    begins_quietly order tt (data_commands_of (controller_of old)) old scene byte old new access can
+    (starts_quietly old (record { no_seek = ready.out.no_seek; listens = taking_listens (controller_of old).phase (is_held (controller_of old)) can.last.taking }))
 
 -- ---- all of it
 

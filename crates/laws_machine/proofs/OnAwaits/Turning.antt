@@ -1,8 +1,7 @@
 -- Drives that go on turning, while words are read and written.
 use Rattle.std.proofs.Common.{◌≡◌, inl, inr, ℕ, ◌≤◌, ◌&&◌, nat_lt, not, Bool, true, false, Option, Some, None, is_some, if◌then◌else◌, refl, sym, ◌∙◌, ap, subst, arith}
-use Rattle.laws_machine.proofs.Common.{Disk, spends_twice, DriveState, Becomes, Writes, can_write, has_track, rewritten, turns, with_gate, let_pass, WordTime, Saw, KeptOut, Wrote, Stopped, IsTime, Opens, Closes, DataRate, Turned, TurnsOn, becomes_at}
+use Rattle.laws_machine.proofs.Common.{Disk, spends_twice, DriveState, Becomes, Writes, can_write, has_track, rewritten, turns, with_gate, let_pass, WordTime, Saw, KeptOut, Wrote, Stopped, IsTime, Opens, Closes, DataRate, Turned, TurnsOn, becomes_at, with_disk_word as with_word}
 use Rattle.laws_machine.proofs.Facts.{if_both, spin_on}
-use Rattle.raw_image.specs.Disk.{with_word}
 use Rattle.laws_machine.proofs.OnQuiet.Turning.{turned_calmly, turned_let, turned_still}
 
 pub as_turned : (old new : DriveState) → Turned old new → TurnsOn old new
@@ -28,18 +27,22 @@ on_further a b c one two = record {
   spends = spends_twice a.faults b.faults c.faults a.left b.left c.left one.spends two.spends;
 }
 
+-- a drive that becomes one with the heads, the change line and the motor of before, a medium where there was one, and
+-- no less speed
+on_as : (target old new : DriveState) → Becomes target old new → is_some target.medium ≡ is_some old.medium → target.cylinder ≡ old.cylinder → target.change ≡ old.change → target.motor ≡ old.motor
+    → old.spin ≤ target.spin → TurnsOn old new
+on_as target old new is stays_in cylinder change motor spin = record {
+  stays_in = ap (λ s. is_some s.medium) is.becomes ∙ stays_in;
+  cylinder = ap (λ s. s.cylinder) is.becomes ∙ cylinder;
+  change = ap (λ s. s.change) is.becomes ∙ change;
+  motor = ap (λ s. s.motor) is.becomes ∙ motor;
+  spin = subst (λ n. old.spin ≤ n) (sym (ap (λ s. s.spin) is.becomes)) spin;
+  never_falls = is.never_falls;
+  spends = is.spends;
+}
+
 on_gate : (opened : Bool) (old new : DriveState) → new ≡ with_gate opened old → TurnsOn old new
-on_gate opened old new is =
-    let becomes = becomes_at (with_gate opened old) old new is refl refl in
-    record {
-      stays_in = ap (λ s. is_some s.medium) is;
-      cylinder = ap (λ s. s.cylinder) is;
-      change = ap (λ s. s.change) is;
-      motor = ap (λ s. s.motor) is;
-      spin = let same : new.spin ≡ old.spin = ap (λ s. s.spin) is in omega arith;
-      never_falls = becomes.never_falls;
-      spends = becomes.spends;
-    }
+on_gate opened old new is = on_as (with_gate opened old) old new (becomes_at (with_gate opened old) old new is refl refl) refl refl refl refl (omega arith)
 
 some_rewritten : (medium : Option Disk) (c h place word : ℕ) → is_some (rewritten medium c h place word) ≡ is_some medium
 some_rewritten None c h place word = refl
@@ -50,24 +53,8 @@ some_if true medium c h place word = some_rewritten medium c h place word
 some_if false medium c h place word = refl
 
 on_written : (head word : ℕ) (old new : DriveState) → Writes head word old new → TurnsOn old new
-on_written head word old new (inl wrote) = record {
-  stays_in = ap (λ s. is_some s.medium) wrote.becomes ∙ some_if (can_write old) old.medium old.cylinder head old.place word;
-  cylinder = ap (λ s. s.cylinder) wrote.becomes;
-  change = ap (λ s. s.change) wrote.becomes;
-  motor = ap (λ s. s.motor) wrote.becomes;
-  spin = subst (λ n. old.spin ≤ n) (sym (ap (λ s. s.spin) wrote.becomes)) (spin_on (turns old && nat_lt old.spin 6250) old.spin);
-  never_falls = wrote.never_falls;
-  spends = wrote.spends;
-}
-on_written head word old new (inr (can, becomes, rose)) = record {
-  stays_in = ap (λ s. is_some s.medium) becomes.becomes;
-  cylinder = ap (λ s. s.cylinder) becomes.becomes;
-  change = ap (λ s. s.change) becomes.becomes;
-  motor = ap (λ s. s.motor) becomes.becomes;
-  spin = subst (λ n. old.spin ≤ n) (sym (ap (λ s. s.spin) becomes.becomes)) (spin_on (turns old && nat_lt old.spin 6250) old.spin);
-  never_falls = becomes.never_falls;
-  spends = becomes.spends;
-}
+on_written head word old new (inl wrote) = on_as _ old new wrote (some_if (can_write old) old.medium old.cylinder head old.place word) refl refl refl (spin_on (turns old && nat_lt old.spin 6250) old.spin)
+on_written head word old new (inr (can, becomes, rose)) = on_as _ old new becomes refl refl refl refl (spin_on (turns old && nat_lt old.spin 6250) old.spin)
 
 on_opened : (opened : Bool) (old new : DriveState) → Opens opened old new → TurnsOn old new
 on_opened true old new becomes = on_gate true old new becomes

@@ -1,52 +1,17 @@
 -- Counts, step by step and access by access.
-use Rattle.std.proofs.Common.{◌≡◌, ℕ, ◌+◌, ◌≤◌, min, nat_lt, Bool, true, false, List, [], ◌∷◌, if◌then◌else◌, refl, sym, ◌∙◌, ap, subst, arith}
-use Rattle.laws_machine.proofs.Common.{last_count, drive_twice, asks, next_entry, rest_of, Holds, looked, waited, shown, counted, DmaRequest, Low, High, Board, controller_of, holds_of, is_controllers, port_read, WritesPort, Inputs, Outputs, Step, looked_at, shown_again, Chips, counts_of, CountsGoOn, regapped, Progress, drive_itself, after_read, controller_after, stalls_with, moved_up_to, dma_stepped}
-use Rattle.pc_bus.specs.Counts.{long_holds}
+use Rattle.std.proofs.Common.{◌≡◌, ℕ, Bool, true, false, if◌then◌else◌, refl, sym, ◌∙◌, ap, subst, arith}
+use Rattle.laws_machine.proofs.Common.{drive_twice, asks, Holds, shown, Board, controller_of, holds_of, is_controllers, port_read, WritesPort, Inputs, Outputs, Step, looked_at, shown_again, Chips, counts_of, CountsGoOn, regapped, Progress, drive_itself, after_read, controller_after, moved_up_to, dma_stepped}
 use Rattle.laws_machine.proofs.OnSteps.Runs.{from_start, inputs, outputs}
 use Rattle.laws_machine.proofs.OnCounts.Spending.{DrivesGoOn, drives_step, drives_written, drives_same}
-use Rattle.laws_machine.proofs.OnSteps.Stalls.{up_to_holding}
+use Rattle.laws_machine.proofs.OnSteps.Stalls.{up_to_holding, HoldsGoOn, SameHolds, looked_holds, same_on}
 use Rattle.laws_machine.proofs.OnSteps.Transfers.{by_request}
 
 -- ---- the DMA latencies
-
--- the count of late DMAs and the DMA latencies that are left
-pub record HoldsGoOn (old new : Holds) : Type 0 where
-  pub stalls : min old.stalls last_count ≤ new.stalls
-  pub spent : new.stalls + long_holds new.entries ≤ old.stalls + long_holds old.entries
-
--- the same count of late DMAs, and the same DMA latencies
-pub record SameHolds (old new : Holds) : Type 0 where
-  pub stalls : new.stalls ≡ old.stalls
-  pub entries : new.entries ≡ old.entries
-
-same_on : (old new : Holds) → SameHolds old new → HoldsGoOn old new
-same_on old new same =
-    let stalls = same.stalls in let left = ap long_holds same.entries in
-    record { stalls = omega arith; spent = omega arith }
 
 holds_on : (a b c : Holds) → HoldsGoOn a b → HoldsGoOn b c → HoldsGoOn a c
 holds_on a b c first second =
     let one = first.stalls in let two = second.stalls in let three = first.spent in let four = second.spent in
     record { stalls = omega arith; spent = omega arith }
-
-by_long : (stalls left : ℕ) (b : Bool) → (min stalls last_count ≤ (if b then counted stalls else stalls))
-    × ((if b then counted stalls else stalls) + left ≤ stalls + ((if b then 1 else 0) + left))
-by_long stalls left true = (omega arith, omega arith)
-by_long stalls left false = (omega arith, omega arith)
-
-taken_holds : (entries : List ℕ) (stalls : ℕ) (request then_request : DmaRequest)
-    → HoldsGoOn (record { entries = entries; request = request; stalls = stalls })
-    (record { entries = rest_of entries; request = then_request; stalls = stalls_with (next_entry entries) stalls })
-taken_holds [] stalls request then_request = record { stalls = omega arith; spent = omega arith }
-taken_holds (hold ∷ holds) stalls request then_request = let (grows, spends) = by_long stalls (long_holds holds) (nat_lt 8 hold) in record { stalls = grows; spent = spends }
-
-waited_holds : (request : DmaRequest) (old : Holds) → HoldsGoOn old (waited request old)
-waited_holds Low old = let goes = taken_holds old.entries old.stalls old.request (High (next_entry old.entries)) in record { stalls = goes.stalls; spent = goes.spent }
-waited_holds (High left) old = same_on old (waited (High left) old) (record { stalls = refl; entries = refl })
-
-looked_holds : (line : Bool) (old : Holds) → HoldsGoOn old (looked line old)
-looked_holds true old = waited_holds old.request old
-looked_holds false old = same_on old (looked false old) (record { stalls = refl; entries = refl })
 
 shown_same : (line : Bool) (old : Holds) → SameHolds old (shown line old)
 shown_same true old = record { stalls = refl; entries = refl }

@@ -1,8 +1,7 @@
 -- The faults of the drives, step by step and access by access.
 use Rattle.std.proofs.Common.{◌≡◌, inl, inr, ℕ, ◌==◌, Bool, true, false, Option, Some, None, ap, refl}
-use Rattle.laws_machine.proofs.Common.{drive_twice, DriveState, Becomes, Pulses, with_gate, let_pass, Moves, WordTime, IsTime, Closes, Fdc, DataRate, Board, FollowsWrite, Step, counts_of, drive_same, moved, with_motor, becomes_at, FollowsDor, resets}
+use Rattle.laws_machine.proofs.Common.{drive_twice, DriveState, Becomes, Pulses, with_gate, let_pass, Moves, WordTime, IsTime, Closes, Fdc, DataRate, Board, FollowsWrite, Step, counts_of, drive_same, moved, with_motor, becomes_at, FollowsDor, resets, SetsLines}
 use Rattle.flop_base.specs.Counters.{DriveGoesOn}
-use Rattle.pc_bus.specs.Ports.{SetsLines}
 use Rattle.laws_machine.proofs.OnSteps.Drives.{both}
 use Rattle.laws_machine.proofs.OnAwaits.Turning.{on_time}
 

@@ -1,6 +1,6 @@
 -- From the words that were laid to the medium.
 use Rattle.std.proofs.Common.{true, ◌≡◌, ◌⊎◌, inl, inr, ℕ, ◌+◌, ◌*◌, ◌≤◌, Bool, false, List, [], ◌∷◌, length, take, drop, refl, sym, ◌∙◌, ap, subst, arith}
-use Rattle.laws_machine.proofs.Common.{Chrn, Disk, HasTrack, IsWithTrack, track_of, Channel, DriveState, Fifo, Past, Ending, Done, NoMark, NoField, Overrun, Protected, Late, Numbers, HasLaid, IsBehindFirst, IsWholeTurn, IsFirstOf, IsContent, MayFormatIn, MayFormatTask, Short, Long, Phase, Command, Execute, Result, Task, content_of, place_in, IsCalm, Scene, IsScene, head_sent, IsAtDrive, IsThere, start_in, IsTaken, range_of, refuses, refuses_as, AreKeysOf, with_items, HasFormatted, IsFormatting, Formats, none_or_some, FormatEndedIn, FormatEndsAs, FitsOn, HasLaying, IsSameOrLaid, LaysTo, LaysTurn, layout_in, there_or_not, outset_of}
+use Rattle.laws_machine.proofs.Common.{Chrn, Disk, HasTrack, IsWithTrack, track_of, Channel, DriveState, Fifo, Past, Ending, Done, NoMark, NoField, Overrun, Protected, Late, Numbers, HasLaid, IsBehindFirst, IsWholeTurn, IsFirstOf, IsContent, MayFormatIn, MayFormatTask, Long, Phase, Execute, Result, Task, content_of, place_in, IsCalm, Scene, IsScene, head_sent, IsAtDrive, IsThere, start_in, IsTaken, range_of, refuses, refuses_as, AreKeysOf, with_items, HasFormatted, IsFormatting, Formats, none_or_some, FormatEndedIn, FormatEndsAs, FitsOn, HasLaying, IsSameOrLaid, LaysTo, LaysTurn, layout_in, there_or_not, outset_of}
 use Rattle.track_model.specs.Layouts.{laid_words, lay}
 use Rattle.sector_map.specs.Layings.{Format, IsLaying, Laying, format_keys, formatted}
 use Rattle.flop_base.specs.Standard.{standard_code}
@@ -44,8 +44,6 @@ laid_stage past numbers handed now was =
 -- what the command has laid out, whatever its phase is
 pub laid_in : (scene : Scene) (numbers : Numbers) (past : Past) (phase : Phase) (asking : Bool) (fifo : Fifo) → MayFormatIn past scene.sent.head_drive numbers phase asking fifo
     → (handed : List ℕ) × IsContent past.counted past.taken handed × HasLaid past numbers handed
-laid_in scene numbers past Command asking fifo was = absurd was
-laid_in scene numbers past (Result (Short next last)) asking fifo was = absurd was
 laid_in scene numbers past (Result (Long ending results read)) asking fifo (low, same, (handed, has)) = (handed, has.content, has.formatted.begun)
 laid_in scene numbers past (Execute execution) asking fifo was = in_task execution.task execution.head_drive execution.steps was
   where
@@ -57,6 +55,7 @@ laid_in scene numbers past (Execute execution) asking fifo was = in_task executi
       laid_stage past numbers handed formatting.stage on.formats,
     )
     in_task _ head_drive steps was = absurd was
+laid_in scene numbers past _ asking fifo was = absurd was
 
 pub words_of : (scene : Scene) (numbers : Numbers) (keys : List Chrn) (past : Past) (memory : List ℕ) (channel : Channel) → IsScene scene
     → IsTaken scene past.taken past.counted memory channel → scene.size ≡ 4 * numbers.sectors → AreKeysOf scene numbers keys

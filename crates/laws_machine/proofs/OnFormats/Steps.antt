@@ -1,10 +1,8 @@
 -- The word time of a FORMAT.
 use Rattle.std.proofs.Common.{◌≡◌, ℕ, ◌+◌, ◌≤◌, Bool, true, false, List, [], ◌∷◌, ◌++◌, length, refl, sym, ◌∙◌, ap, subst, arith, length-append}
-use Rattle.laws_machine.proofs.Common.{DriveState, is_protected, rate_of, Fifo, Past, heard, wrote, turns_after, Numbers, is_next, is_first, IsAtPart, FormatNext, FormatPart, Await, Due, Lay, Barred, FormatDoes, after_laid, stepped, is_executing, rate_fits, WordTime, Saw, KeptOut, Wrote, Stopped, IsHeardTime, IsTime, after_time, with_word, WritesTask, MayFormatIn, MayFormatTask, Fdc, Phase, Command, Execute, Result, Task, Format, Formatting, led, Scene, IsScene, head_sent, IsAtDrive, Track, false≢true, kept_out, MayFormat, IsFormattingOn, few_led, kept_on, saw_on, wrote_on, stopped_on, outset_of}
-use Rattle.fdc_stages.specs.declared.formatting.FormatNext.TheVariants as next
-use Rattle.fdc_phases.specs.Formatting.{is_ended}
+use Rattle.laws_machine.proofs.Common.{DriveState, is_protected, rate_of, Fifo, Past, heard, wrote, turns_after, Numbers, is_next, is_first, IsAtPart, FormatPart, Await, Due, Lay, Barred, FormatDoes, stepped, is_executing, rate_fits, WordTime, Saw, KeptOut, Wrote, Stopped, IsHeardTime, IsTime, after_time, with_word, WritesTask, MayFormatIn, MayFormatTask, Fdc, Phase, Execute, Task, Format, Formatting, led, Scene, IsScene, head_sent, IsAtDrive, Track, false≢true, kept_out, MayFormat, IsFormattingOn, few_led, kept_on, saw_on, wrote_on, stopped_on, outset_of}
 use Rattle.laws_machine.proofs.OnWrites.Steps.{is_stopped, time_here, unprotected_led}
-use Rattle.laws_machine.proofs.OnFormats.Covered.{does_covered}
+use Rattle.laws_machine.proofs.OnSteps.Outcomes.{closes_not, covered as refused, format_outcome}
 use Rattle.laws_machine.proofs.OnOrders.Behind.{IsTimedLed}
 
 -- ---- parts
@@ -47,13 +45,12 @@ at_part past Lay was = record { place = λ _. was.1; few = one_long past.turns w
 at_part past Barred was = record { place = λ some. absurd (no_words past.words was.1 some); few = one_long past.turns was.0.0 was.0.1 }
 
 in_execution : (past : Past) (sent : ℕ) (numbers : Numbers) (phase : Phase) (asking : Bool) (fifo : Fifo) → MayFormatIn past sent numbers phase asking fifo → is_executing phase ≡ true → IsInExecution past
-in_execution past sent numbers Command asking fifo was busy = absurd was
-in_execution past sent numbers (Result answer) asking fifo was busy = absurd (false≢true busy)
 in_execution past sent numbers (Execute execution) asking fifo was busy = in_task execution.task execution.head_drive execution.steps was
   where
     in_task : (task : Task) (head_drive steps : ℕ) → MayFormatTask past sent numbers head_drive steps task asking fifo → IsInExecution past
     in_task (Format formatting) head_drive steps (asks, (handed, on)) = at_part past formatting.stage.part on.formats.0
     in_task _ head_drive steps was = absurd was
+in_execution past sent numbers _ asking fifo was busy = absurd (false≢true busy)
 
 no_index : (index : Bool) (word : ℕ) (past : Past) → IsInExecution (wrote index word (stepped past)) → index ≡ false
 no_index true word past is =
@@ -62,10 +59,6 @@ no_index true word past is =
 no_index false word past is = refl
 
 -- ---- the word time
-
-ended_rests : (head_drive steps : ℕ) (formatting : Formatting) (after : FormatNext) (old : Fdc) → is_executing (after_laid head_drive steps formatting after old).phase ≡ true → is_ended after ≡ false
-ended_rests head_drive steps formatting (next.On now) old busy = refl
-ended_rests head_drive steps formatting (next.Ended ending key) old busy = absurd (false≢true busy)
 
 few_heard : (index : Bool) (word lead : ℕ) (late : Past) → length late.turns ≤ 1 → IsInExecution (heard index word (stepped (led lead late))) → length (turns_after index late.turns (with_word late.seen word)) ≤ 1
 few_heard true word lead late few is = let one = is.few in let same = few_led lead late.turns in omega arith
@@ -105,7 +98,7 @@ module _ (scene : Scene) (numbers : Numbers) (lead : ℕ) (late : Past) (drive a
       let unprotected = unprotected_led scene lead late drive steps was on.steps_are on.fresh guarded (λ first covered. false≢true (ap is_stopped (guards first covered))) in
       wrote_on (outset_of scene) late drive after opened closed index (is_executing between.phase) word whole.disk (fits_now opened is.fits (λ yes. due.first (sym does.opened_is ∙ yes)) (λ no. due.later (sym does.opened_is ∙ no)))
       was unprotected (λ yes. due.first (sym does.opened_is ∙ yes)) (λ no. due.later (sym does.opened_is ∙ no)) is
-      (λ busy. does.closed_is ∙ ended_rests head_drive (steps + 1) formatting does.next _ (sym (ap (λ fdc. is_executing fdc.phase) does.after_is) ∙ busy))
+      (closes_not (Wrote opened closed index word) steps drive polls between (format_outcome (Wrote opened closed index word) head_drive steps formatting polls drive between does))
       (λ busy. no_index index word past (in_execution (wrote index word (stepped past)) scene.sent.head_drive numbers between.phase between.asking between.fifo then_is busy))
     where
       fits_now : (opened : Bool) → (opened ≡ true → rate_fits scene.rate (rate_of drive.medium) ≡ true) → (opened ≡ true → late.words ≡ []) → (opened ≡ false → 1 ≤ length late.words) → rate_fits scene.rate scene.disk.rate ≡ true
@@ -125,7 +118,7 @@ in_task scene numbers lead late drive after polls between asking fifo whole rate
     record {
       time = does.time;
       may = then_is;
-      covered = λ is. let (first, covered) = does_covered does.time head_drive steps formatting polls drive between does.does is in sym (ap is_protected (was.medium.quiet (on.fresh first))) ∙ covered;
+      covered = λ is. let (first, covered) = refused does.time steps drive polls between (format_outcome does.time head_drive steps formatting polls drive between does.does) is in sym (ap is_protected (was.medium.quiet (on.fresh first))) ∙ covered;
       at = by_time scene numbers lead late drive after polls between head_drive steps formatting fifo.bytes handed whole guarded was on does.time
           (time_here scene does.time drive after polls head_drive on.sent_is rate does.is) does.does writes.step.guards then_is;
     }

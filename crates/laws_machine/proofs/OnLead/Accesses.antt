@@ -1,8 +1,7 @@
 -- Port accesses of a data command, whatever the drive's speed was when it began.
 use Rattle.std.proofs.Common.{◌≡◌, ◌⊎◌, inl, inr, ℕ, Bool, refl, arith}
-use Rattle.laws_machine.proofs.Common.{DriveState, drive_in, Board, controller_of, Inputs, Outputs, IsTurningIn, IsGuarded, IsLed, WarmsUp, Order, Write, CanBegin, Leaves, StandsStill, Scene, IsScene, new_past, slow_or_fast}
+use Rattle.laws_machine.proofs.Common.{DriveState, drive_in, Board, controller_of, Inputs, Outputs, IsTurningIn, IsGuarded, IsLed, WarmsUp, Order, Write, CanBegin, Leaves, StandsStill, Scene, IsScene, new_past, slow_or_fast, CanWarm}
 use Rattle.fdc_phases.specs.declared.phases.Phase.TheVariants as phase
-use Rattle.laws_machine.specs.OnLead.Leads.{CanWarm}
 use Rattle.laws_machine.proofs.OnLead.Spinning.{nothing_heard, turning_of}
 use Rattle.laws_machine.proofs.OnLead.Steps.{led_keeps}
 use Rattle.laws_machine.proofs.OnOrders.Accesses.{inputs_go, begins_on}

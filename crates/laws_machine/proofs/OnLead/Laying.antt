@@ -1,16 +1,14 @@
 -- Commands that write, whatever the drive's speed was when they began.
 use Rattle.std.proofs.Common.{◌≡◌, ◌⊎◌, inl, inr, ℕ, zero, suc, ◌+◌, ◌*◌, ◌≤◌, Bool, true, false, List, [], ◌∷◌, length, refl, sym, ◌∙◌, ap, subst, arith}
-use Rattle.laws_machine.proofs.Common.{Chrn, DriveState, is_protected, Fifo, Past, heard, Numbers, is_first, is_next, IsAtPart, IsWriting, FormatPart, Await, Due, Lay, Barred, WriteStage, FormatDoes, stepped, is_executing, let_pass, WordTime, Saw, KeptOut, Wrote, Stopped, IsTime, after_time, WritesIn, WritesTask, WriteDoes, MayWriteTask, MayFormatTask, Fdc, Execution, Execute, Task, Formatting, Writing, turns_led, turn_led, led, IsSpinning, IsUnheard, IsLed, Laid, Window, Track, Write, MayLayIn, LaysOn, Scene, IsScene, head_sent, IsAtDrive, false_from_ne_true, false≢true, address_in, few_led, time_led, no_index, hears_none, turning_on, outset_of}
-use Rattle.fdc_stages.specs.Writings.{is_due}
+use Rattle.laws_machine.proofs.Common.{Chrn, DriveState, is_protected, Fifo, Past, heard, Numbers, is_first, is_next, IsAtPart, IsWriting, FormatPart, Await, Due, Lay, Barred, WriteStage, FormatDoes, stepped, is_executing, let_pass, WordTime, Saw, KeptOut, Wrote, Stopped, IsTime, after_time, WritesIn, WritesTask, WriteDoes, MayWriteTask, MayFormatTask, Fdc, Execution, Execute, Task, Formatting, Writing, turns_led, turn_led, led, IsSpinning, IsUnheard, IsLed, Laid, Window, Track, Write, MayLayIn, LaysOn, Scene, IsScene, head_sent, IsAtDrive, false_from_ne_true, false≢true, address_in, few_led, time_led, no_index, hears_none, turning_on, outset_of, is_word_due as is_due}
 use Rattle.fdc_phases.specs.declared.phases.Task.TheVariants as task
-use Rattle.laws_machine.proofs.OnLead.Listening.{led_over, spun}
+use Rattle.laws_machine.proofs.OnLead.Listening.{led_at, led_over, spun}
 use Rattle.laws_machine.proofs.OnLead.Spinning.{nothing_heard}
 use Rattle.laws_machine.proofs.OnQuiet.Turning.{calmly}
-use Rattle.laws_machine.proofs.OnFormats.Covered as formats
 use Rattle.laws_machine.proofs.OnOrders.Behind.{IsTimed, Laying, laid_on}
 use Rattle.laws_machine.proofs.OnOrders.Words.{laying, timed_led}
-use Rattle.laws_machine.proofs.OnWrites.Covered as writes
 use Rattle.laws_machine.proofs.OnWrites.Steps.{is_stopped, due_now, opens_due, time_here}
+use Rattle.laws_machine.proofs.OnSteps.Outcomes.{covered as refused, format_outcome, over_stopped, write_outcome}
 
 -- ---- a word time in which the medium spins up
 
@@ -94,10 +92,6 @@ hears_window lead late head_drive steps writing polls between drive handed none 
     no_due lead late writing.wanted.key writing.deleted handed writing.stage none was does.due
 hears_window lead late head_drive steps writing polls between drive handed none was _ does = tt
 
-over_window : (head_drive steps : ℕ) (writing : Writing) (polls between : Fdc) (drive : DriveState) (time : WordTime)
-    → WriteDoes time head_drive steps writing polls drive between → time ≡ Stopped → is_executing between.phase ≡ false
-over_window head_drive steps writing polls between drive time does is = ap (λ fdc. is_executing fdc.phase) (subst (λ t. WriteDoes t head_drive steps writing polls drive between) is does).after_is
-
 -- ---- of a FORMAT
 
 no_turn : (lead : ℕ) (late : Past) (first : List ℕ) → IsUnheard late → turns_led lead late.turns ≡ first ∷ [] → ⊥
@@ -127,10 +121,6 @@ hears_track lead late head_drive steps formatting polls between drive none was (
     no_next lead late (turn_led lead late.turns late.seen) late.place late.words late.barred formatting.stage.part none was does.due
 hears_track lead late head_drive steps formatting polls between drive none was _ does = tt
 
-over_track : (head_drive steps : ℕ) (formatting : Formatting) (polls between : Fdc) (drive : DriveState) (time : WordTime)
-    → FormatDoes time head_drive steps formatting polls drive between → time ≡ Stopped → is_executing between.phase ≡ false
-over_track head_drive steps formatting polls between drive time does is = ap (λ fdc. is_executing fdc.phase) (subst (λ t. FormatDoes t head_drive steps formatting polls drive between) is does).after_is
-
 -- ---- in execution
 
 module _ (scene : Scene) (lead : ℕ) (late : Past) (drive after : DriveState) (polls between : Fdc) (asking : Bool) (fifo : Fifo) (whole : IsScene scene) (rate : polls.rate ≡ scene.rate)
@@ -141,15 +131,16 @@ module _ (scene : Scene) (lead : ℕ) (late : Past) (drive after : DriveState) (
   spun_window deleted (task.Write writing) head_drive steps may writing_step =
       let (asks, (handed, on)) = may in
       let does = writing_step.step.does in
+      let outcome = write_outcome does.time head_drive steps writing polls drive between does.does in
       record {
         time = does.time;
         may = writing_step.writes (led lead late) scene.sent deleted may;
-        covered = λ is. let (first, covered) = writes.does_covered does.time head_drive steps writing polls drive between does.does is in sym (ap is_protected spins.turning.medium) ∙ covered;
+        covered = λ is. let (first, covered) = refused does.time steps drive polls between outcome is in sym (ap is_protected spins.turning.medium) ∙ covered;
         at = by_time (Window deleted) scene lead late drive after (is_executing between.phase) whole guarded none spins does.time
             (hears_window lead late head_drive steps writing polls between drive handed none on.writes does.time does.does)
             (time_here scene does.time drive after polls head_drive (ap (λ s. s.head_drive) on.sent_is) rate does.is)
             (unprotected_spun scene lead late drive steps does.time none spins guarded on.steps_are writing_step.step.guards)
-            (over_window head_drive steps writing polls between drive does.time does.does);
+            (over_stopped does.time steps drive polls between outcome);
       }
   spun_window deleted _ head_drive steps may writing_step = absurd may
 
@@ -160,15 +151,16 @@ module _ (scene : Scene) (lead : ℕ) (late : Past) (drive after : DriveState) (
   spun_track numbers (task.Format formatting) head_drive steps may writing_step =
       let (asks, (handed, on)) = may in
       let does = writing_step.step.does in
+      let outcome = format_outcome does.time head_drive steps formatting polls drive between does.does in
       record {
         time = does.time;
         may = writing_step.formats (led lead late) scene.sent.head_drive numbers may;
-        covered = λ is. let (first, covered) = formats.does_covered does.time head_drive steps formatting polls drive between does.does is in sym (ap is_protected spins.turning.medium) ∙ covered;
+        covered = λ is. let (first, covered) = refused does.time steps drive polls between outcome is in sym (ap is_protected spins.turning.medium) ∙ covered;
         at = by_time (Track numbers) scene lead late drive after (is_executing between.phase) whole guarded none spins does.time
             (hears_track lead late head_drive steps formatting polls between drive none on.formats.0 does.time does.does)
             (time_here scene does.time drive after polls head_drive on.sent_is rate does.is)
             (unprotected_spun scene lead late drive steps does.time none spins guarded on.steps_are writing_step.step.guards)
-            (over_track head_drive steps formatting polls between drive does.time does.does);
+            (over_stopped does.time steps drive polls between outcome);
       }
   spun_track numbers _ head_drive steps may writing_step = absurd may
 
@@ -196,14 +188,8 @@ works_led laid scene lead late drive after polls between asking fifo whole rate 
 
 rests_led : (laid : Laid) (scene : Scene) (past : Past) (drive after : DriveState) → IsScene scene → IsLed (Write laid) scene past false drive
     → after.medium ≡ drive.medium → drive.faults ≤ after.faults → IsLed (Write laid) scene past false after
-rests_led laid scene past drive after whole was same falls = record {
-  lead = was.lead;
-  late = was.late;
-  past_is = was.past_is;
-  short = was.short;
-  guarded = was.guarded;
-  drive_is = inr ((laying laid scene whole).rests was.late drive after (led_over (Write laid) scene past false drive whole was) same falls);
-}
+rests_led laid scene past drive after whole was same falls = led_at (Write laid) scene past false false drive after was
+    (inr ((laying laid scene whole).rests was.late drive after (led_over (Write laid) scene past false drive whole was) same falls))
 
 pub laying_led : (laid : Laid) (scene : Scene) → IsScene scene → Laying laid scene (IsLed (Write laid) scene)
 laying_led laid scene whole = record {

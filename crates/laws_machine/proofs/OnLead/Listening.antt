@@ -1,10 +1,9 @@
 -- READ ID and READ DATA, whatever the drive's speed was when they began.
-use Rattle.std.proofs.Common.{◌≡◌, inl, inr, ℕ, ◌+◌, ◌≤◌, Bool, true, false, length, refl, sym, ◌∙◌, ap, subst, arith}
+use Rattle.std.proofs.Common.{◌≡◌, inl, inr, ℕ, ◌+◌, ◌≤◌, Bool, true, false, length, refl, sym, ◌∙◌, ap, subst, arith, ◌⊎◌}
 use Rattle.laws_machine.proofs.Common.{DriveState, Becomes, at_index, Past, heard, words_heard, stepped, SeesUnder, let_pass, led, IsSpinning, IsUnheard, IsGuarded, IsLed, Order, Identify, Write, AtDrive, Scene, IsScene, head_sent, track_met, false≢true, heard_led, longer_led, passed_by, still_unheard, few_led, words_led, slow_or_fast, no_index, hears_none, turning_on, spin_on, outset_of}
 use Rattle.laws_machine.proofs.OnLead.Spinning.{nothing_heard}
-use Rattle.laws_machine.proofs.OnOrders.Steps.{drive_on}
+use Rattle.laws_machine.proofs.OnOrders.Steps.{at_bytes, drive_on}
 use Rattle.laws_machine.proofs.OnOrders.Behind.{IsOfWords, Listening}
-use Rattle.laws_machine.proofs.OnOrders.Steps.{at_bytes}
 use Rattle.laws_machine.proofs.OnReads.Beginnings.{Listens}
 use Rattle.laws_machine.proofs.OnReads.EndWords.{words_few}
 use Rattle.laws_machine.proofs.OnReads.IdWords.{IsBrief}
@@ -28,17 +27,17 @@ led_bytes order scene drive = record {
   };
 }
 
+-- the same words passed, and this is then known of the drive
+pub led_at : (order : Order) (scene : Scene) (past : Past) (before now : Bool) (drive after : DriveState) → (was : IsLed order scene past before drive)
+    → (IsUnheard was.late × IsSpinning scene was.lead after) ⊎ AtDrive order scene was.late now after → IsLed order scene past now after
+led_at order scene past before now drive after was is =
+    record { lead = was.lead; late = was.late; past_is = was.past_is; short = was.short; guarded = was.guarded; drive_is = is }
+
 -- the command may be over
 pub led_less : (order : Order) (scene : Scene) (past : Past) (before now : Bool) (drive : DriveState) → (now ≡ true → before ≡ true)
     → IsLed order scene past before drive → IsLed order scene past now drive
-led_less order scene past before now drive less was = record {
-  lead = was.lead;
-  late = was.late;
-  past_is = was.past_is;
-  short = was.short;
-  guarded = was.guarded;
-  drive_is = elim was.drive_is [ inl spins ↦ inl spins | inr at ↦ inr (drive_on order scene was.late before now drive less at) ];
-}
+led_less order scene past before now drive less was =
+    led_at order scene past before now drive drive was (elim was.drive_is [ inl spins ↦ inl spins | inr at ↦ inr (drive_on order scene was.late before now drive less at) ])
 
 -- once the command is over, all is known of the drive that is known for a command that began at speed
 pub led_over : (order : Order) (scene : Scene) (past : Past) (executes : Bool) (drive : DriveState) → IsScene scene
@@ -110,14 +109,8 @@ hears_led order scene past drive after word executes listens whole was sees beco
 
 rests_led : (order : Order) (scene : Scene) (past : Past) (drive after : DriveState) → Listens order → IsScene scene → IsLed order scene past false drive
     → drive.faults ≤ after.faults → IsLed order scene past false after
-rests_led order scene past drive after listens whole was falls = record {
-  lead = was.lead;
-  late = was.late;
-  past_is = was.past_is;
-  short = was.short;
-  guarded = was.guarded;
-  drive_is = inr (rests_at order scene was.late drive after listens (led_over order scene past false drive whole was) falls);
-}
+rests_led order scene past drive after listens whole was falls =
+    led_at order scene past false false drive after was (inr (rests_at order scene was.late drive after listens (led_over order scene past false drive whole was) falls))
 
 pub listening_led : (order : Order) (scene : Scene) → Listens order → IsScene scene → Listening scene (IsLed order scene)
 listening_led order scene listens whole = record {

@@ -1,33 +1,28 @@
 -- Port accesses of a data command: the write that begins it, and reads.
 use Rattle.std.proofs.Common.{◌≡◌, ◌⊎◌, inl, inr, ℕ, ◌+◌, ◌==◌, ◌||◌, nat_le, Bool, true, false, not, Option, List, if◌then◌else◌, refl, sym, ◌∙◌, subst}
-use Rattle.laws_machine.proofs.Common.{DriveState, Channel, Fifo, Past, Ending, Results, is_executing, given, phase_after, Short, Long, Fdc, Phase, Board, controller_of, drive_in, is_controllers, port_read, WritesPort, Inputs, Outputs, shown_again, Chips, drive_stays, IsScene, Scene, read_from, IsUnderwayOn, Window, Track, Order, Identify, Read, Write, MayIn, Shows, AtDrive, IsDoneBy, Underway, CanBegin, IsDriveOf, new_past, CanBeginAt}
+use Rattle.laws_machine.proofs.Common.{DriveState, Channel, Fifo, Past, Ending, Results, is_executing, given, phase_after, Short, Long, Fdc, Phase, Board, controller_of, drive_in, is_controllers, port_read, WritesPort, Inputs, Outputs, shown_again, Chips, drive_stays, IsScene, Scene, read_from, IsUnderwayOn, Window, Order, Identify, Read, Write, MayIn, Shows, AtDrive, IsDoneBy, Underway, CanBegin, IsDriveOf, new_past, CanBeginAt, refuses, false≢true, Moved as Moves}
 use Rattle.dma_8237.specs.Channel.{grants, after_read}
 use Rattle.fdc_phases.specs.declared.phases.Phase.TheVariants as phase
 use Rattle.laws_machine.proofs.OnReads.Accesses.{busy_before, still_busy, calm_read}
 use Rattle.laws_machine.proofs.OnSteps.Controllers.{step_command}
 use Rattle.laws_machine.proofs.OnReads.Steps.{same_drive}
-use Rattle.laws_machine.proofs.OnWrites.Covered.{read_refuses}
 use Rattle.laws_machine.proofs.OnSteps.Runs.{gap, outputs}
-use Rattle.laws_machine.specs.OnOrders.Orders.{Moves}
 use Rattle.laws_machine.proofs.OnOrders.Behind.{KeepsOn}
 use Rattle.laws_machine.proofs.OnLead.Spinning.{none_heard}
 use Rattle.laws_machine.proofs.OnOrders.Beginning.{begun_at, begun_by}
 use Rattle.laws_machine.proofs.OnOrders.Steps.{goes_on, at_drive}
+use Rattle.laws_machine.proofs.Facts.{either_is, given_down}
 
 -- ---- a read of the data port
 
 no_short : (order : Order) (scene : Scene) (past : Past) (next : ℕ) (last : Option ℕ) (asking : Bool) (fifo : Fifo) → MayIn order scene past (phase.Result (Short next last)) asking fifo → ⊥
-no_short Identify scene past next last asking fifo may = may
-no_short Read scene past next last asking fifo may = may
 no_short (Write (Window deleted)) scene past next last asking fifo may = may
-no_short (Write (Track numbers)) scene past next last asking fifo may = may
+no_short _ scene past next last asking fifo may = may
 
 next_byte : (order : Order) (scene : Scene) (past : Past) (ending : Ending) (results : Results) (taken : ℕ) (asking : Bool) (fifo : Fifo) → MayIn order scene past (phase.Result (Long ending results taken)) asking fifo
     → MayIn order scene past (phase.Result (Long ending results (taken + 1))) asking fifo
-next_byte Identify scene past ending results taken asking fifo may = may
-next_byte Read scene past ending results taken asking fifo may = may
 next_byte (Write (Window deleted)) scene past ending results taken asking fifo may = may
-next_byte (Write (Track numbers)) scene past ending results taken asking fifo may = may
+next_byte _ scene past ending results taken asking fifo may = may
 
 pub may_given : (order : Order) (scene : Scene) (past : Past) (p : Phase) (asking : Bool) (fifo : Fifo) → MayIn order scene past p asking fifo
     → MayIn order scene past (phase_after p) asking fifo ⊎ (phase_after p ≡ phase.Command)
@@ -40,6 +35,12 @@ may_given order scene past (phase.Result (Long ending results taken)) asking fif
         ⊎ ((if b then phase.Command else phase.Result (Long ending results (taken + 1))) ≡ phase.Command)
     by_last true = inr refl
     by_last false = inl (next_byte order scene past ending results taken asking fifo may)
+
+read_refuses : (phase : Phase) → refuses (phase_after phase) ≡ true → refuses phase ≡ true
+read_refuses phase is = elim (either_is (refuses phase)) [
+  | inl was ↦ was
+  | inr calm ↦ absurd (false≢true (sym (given_down refuses refl (λ next last. refl) (λ ending results taken. refl) phase calm) ∙ is))
+]
 
 pub shows_given : (order : Order) (scene : Scene) (fdc : Fdc) → Shows order scene fdc → Shows order scene (given fdc)
 shows_given Identify scene fdc (low, calm) = (low, calm_read fdc.phase calm)

@@ -1,13 +1,10 @@
 -- The controller after the byte that begins a data command.
 use Rattle.std.proofs.Common.{◌≡◌, ℕ, Bool, true, false, List, [], ◌∷◌, ◌++◌, refl, sym, ◌∙◌, ap, subst}
-use Rattle.laws_machine.proofs.Common.{Channel, answer, kept, Ready, ReadData, FormatTrack, emptied, seek_bits, Obeys, TakesAs, WaitsAtFirst, asked, Sent, is_executing, is_taking, dor_of, Fdc, Lines, Task, Board, controller_of, lines_of, WritesPort, shown_again, Chips, is_late, Scene, write_of, refuses, Window, Track, Order, Identify, Read, Write, May, Shows, IsDoneBy, IsLast, IsSetFor, false≢true, new_past, BeginsAsking, begun_with}
+use Rattle.laws_machine.proofs.Common.{Channel, answer, kept, Ready, ReadData, FormatTrack, emptied, seek_bits, Obeys, TakesAs, WaitsAtFirst, asked, Sent, is_taking, dor_of, Fdc, Lines, Task, Board, controller_of, lines_of, WritesPort, shown_again, Chips, Scene, write_of, Window, Track, Order, Identify, Read, Write, May, Shows, IsDoneBy, IsLast, IsSetFor, false≢true, new_past, BeginsAsking, begun_with, IsWritingData, PortWrites as Writes, Moved as Moves}
 use Rattle.fdc_commands.specs.declared.command.Command.{Command}
 use Rattle.fdc_commands.specs.declared.command.Command.TheVariants.{ReadId}
-use Rattle.fdc_phases.specs.Commands.{IsWritingData}
-use Rattle.fdc_core.specs.Ports.{Writes}
 use Rattle.laws_machine.proofs.OnReads.Accesses as reads
 use Rattle.laws_machine.proofs.OnWrites.Bytes.{none_taken}
-use Rattle.laws_machine.specs.OnOrders.Orders.{Moves}
 
 -- a command that writes asks for bytes at once
 abbrev pub first_line : Order → Fdc → Bool
@@ -32,50 +29,41 @@ takes byte lines old new command whole taking writes =
     subst (λ accepted. TakesAs accepted lines (record old { command = kept accepted (old.command ++ byte ∷ []) }) new) whole ((writes.bytes refl).0 taking)
 
 -- the task that begins
-pub begins_write : (deleted : Bool) (sent : Sent) (gap length_code : ℕ) (lines : Lines) (old new : Fdc) → Obeys (write_of deleted sent gap length_code) lines old new → seek_bits old.seeks ≡ 0 → old.non_dma ≡ false
+begins_write : (deleted : Bool) (sent : Sent) (gap length_code : ℕ) (lines : Lines) (old new : Fdc) → Obeys (write_of deleted sent gap length_code) lines old new → seek_bits old.seeks ≡ 0 → old.non_dma ≡ false
     → BeginsAsking sent.head_drive (IsWritingData sent deleted) old new
 begins_write true sent gap length_code lines old new obeys rest dma = (obeys.0 rest).1 dma
 begins_write false sent gap length_code lines old new obeys rest dma = (obeys.0 rest).1 dma
 
+shows_begun : (order : Order) (scene : Scene) (task : Task) (old : Fdc) → Shows order scene (begun_as order scene.sent.head_drive task old)
+shows_begun Identify scene task old = (refl, refl)
+shows_begun Read scene task old = λ _. refl
+shows_begun (Write laid) scene task old = λ yes. absurd (false≢true yes)
+
+begins_as : (order : Order) (scene : Scene) (old new : Fdc) (task : Task) → WaitsAtFirst task → May order scene new_past (begun_as order scene.sent.head_drive task (record old { command = [] }))
+    → new ≡ begun_as order scene.sent.head_drive task (record old { command = [] }) → HasBegun order scene old new
+begins_as order scene old new task waits is after = record {
+  task = task;
+  waits = waits;
+  may = subst (May order scene new_past) (sym after) is;
+  shows = subst (Shows order scene) (sym after) (shows_begun order scene task (record old { command = [] }));
+  after = after;
+}
+
 pub begun : (order : Order) (scene : Scene) (byte : ℕ) (lines : Lines) (old new : Fdc) → IsLast order scene byte old → Writes 0x3F5 byte lines old new → HasBegun order scene old new
 begun Identify scene byte lines old new last writes =
     let (task, is, waits, after) = ((takes byte lines old new (ReadId scene.sent.head_drive) last.whole last.taking writes).0 last.no_seek).1 last.dma in
-    record {
-      task = task;
-      waits = waits;
-      may = subst (May Identify scene new_past) (sym after) is;
-      shows = (ap (λ fdc. fdc.asking) after, ap (λ fdc. is_late fdc.phase) after);
-      after = after;
-    }
+    begins_as Identify scene old new task waits is after
 begun Read scene byte lines old new last writes =
     let (task, is, waits, after) = ((takes byte lines old new (ReadData scene.sent.head_drive scene.sent.key scene.sent.last_sector last.gap last.length_code) last.whole last.taking writes).0 last.no_seek).1 last.dma in
-    record {
-      task = task;
-      waits = waits;
-      may = subst (May Read scene new_past) (sym after) is;
-      shows = λ _. ap (λ fdc. is_executing fdc.phase) after;
-      after = after;
-    }
+    begins_as Read scene old new task waits is after
 begun (Write (Window deleted)) scene byte lines old new last writes =
     let (task, is, waits, after) = begins_write deleted scene.sent last.gap last.length_code lines (record old { command = [] }) new
     (takes byte lines old new (write_of deleted scene.sent last.gap last.length_code) last.whole last.taking writes) last.no_seek last.dma in
-    record {
-      task = task;
-      waits = waits;
-      may = subst (May (Write (Window deleted)) scene new_past) (sym after) (is (emptied old.fifo.on old.fifo.threshold) false refl);
-      shows = λ yes. absurd (false≢true (sym (ap (λ fdc. refuses fdc.phase) after) ∙ yes));
-      after = after;
-    }
+    begins_as (Write (Window deleted)) scene old new task waits (is (emptied old.fifo.on old.fifo.threshold) false refl) after
 begun (Write (Track numbers)) scene byte lines old new last writes =
     let (task, is, waits, after) =
     ((takes byte lines old new (FormatTrack scene.sent.head_drive numbers.n numbers.sectors numbers.gap3 numbers.fill) last.whole last.taking writes).0 last.no_seek).1 last.dma in
-    record {
-      task = task;
-      waits = waits;
-      may = subst (May (Write (Track numbers)) scene new_past) (sym after) (is (emptied old.fifo.on old.fifo.threshold) false refl);
-      shows = λ yes. absurd (false≢true (sym (ap (λ fdc. refuses fdc.phase) after) ∙ yes));
-      after = after;
-    }
+    begins_as (Write (Track numbers)) scene old new task waits (is (emptied old.fifo.on old.fifo.threshold) false refl) after
 
 -- ---- on the board
 

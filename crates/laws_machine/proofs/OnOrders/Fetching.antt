@@ -1,24 +1,15 @@
 -- A byte of a READ DATA goes to memory.
-use Rattle.std.proofs.Common.{◌≡◌, ℕ, ◌+◌, ◌≤◌, ◌==◌, ◌&&◌, Bool, true, false, List, length, [], ◌∷◌, ◌++◌, if◌then◌else◌, refl, sym, subst}
-use Rattle.laws_machine.proofs.Common.{after_transfer, Past, taken_out, told_count, told_in, is_executing, asks, is_gated, can_move, moved_to_memory, moved_from_memory, told_if, Chips, Scene, IsMoved, grants, out_reads, told_reads, byte_out, gave, memory_after}
+use Rattle.std.proofs.Common.{◌≡◌, ℕ, ◌+◌, ◌≤◌, ◌==◌, Bool, true, false, List, length, [], ◌∷◌, ◌++◌, if◌then◌else◌, refl, sym, subst}
+use Rattle.laws_machine.proofs.Common.{after_transfer, Past, taken_out, told_count, told_in, is_executing, asks, is_gated, can_move, moved_to_memory, moved_from_memory, told_if, Chips, Scene, IsMoved, grants, out_reads, told_reads, byte_out, gave, memory_after, and_parts}
 use Rattle.laws_machine.proofs.Facts.{told_busy}
 use Rattle.fdc_core.specs.Heard.{MayRead}
 use Rattle.pc_bus.specs.Transfers.{moved}
 use Rattle.laws_machine.proofs.OnReads.Bytes as moving
 use Rattle.laws_machine.proofs.OnReads.Steps.{reads_there}
 
--- the first of two is true
-pub first_true : (a b : Bool) → (a && b) ≡ true → a ≡ true
-first_true true b h = refl
-first_true false b h = absurd cc
-
-pub second_true : (a b : Bool) → (a && b) ≡ true → b ≡ true
-second_true true b h = h
-second_true false b h = absurd cc
-
 -- a byte moves where the controller asks
 pub must_ask : (chips : Chips) → can_move chips ≡ true → chips.controller.asking ≡ true
-must_ask chips can = second_true (is_gated chips.controller) chips.controller.asking (first_true (asks chips.controller) (grants chips.channel) can)
+must_ask chips can = (and_parts (is_gated chips.controller) chips.controller.asking (and_parts (asks chips.controller) (grants chips.channel) can).0).1
 
 -- the bytes that were given after the transfer; the same words were heard
 pub record Fetched (scene : Scene) (past : Past) (old new : Chips) : Type 0 where
@@ -57,7 +48,7 @@ pub fetched : (scene : Scene) → scene.address + scene.size ≤ length scene.me
     → (chips.controller.asking ≡ true → is_executing chips.controller.phase ≡ true) → IsMoved scene past.given past.counted chips.memory chips.channel → Fetched scene past chips (moved chips)
 unfolding moved
 fetched scene fits past chips can may quiet was =
-    let granting = second_true (asks chips.controller) (grants chips.channel) can in
+    let granting = (and_parts (asks chips.controller) (grants chips.channel) can).1 in
     let up = must_ask chips can in
     let busy = quiet up in
     let reading = reads_there past scene.sent chips.controller.phase chips.controller.asking chips.controller.fifo.bytes may busy in

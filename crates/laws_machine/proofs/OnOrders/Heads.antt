@@ -1,6 +1,6 @@
 -- What the port write that begins a data command leaves of the drives.
 use Rattle.std.proofs.Common.{◌≡◌, ℕ, ◌%◌, refl, ◌∙◌, ap, arith}
-use Rattle.laws_machine.proofs.Common.{Seeking, seek_bits, Fdc, next_entry, Board, controller_of, selected_of, Outputs, drive_stays, Scene, LeavesOthers, HasNoSeek, StaysStill, Window, Track, Order, Identify, Read, Write, IsLast, CanBegin}
+use Rattle.laws_machine.proofs.Common.{Seeking, seek_bits, Fdc, next_entry, Board, controller_of, selected_of, Outputs, drive_stays, Scene, LeavesOthers, HasNoSeek, StaysStill, Window, Order, Write, IsLast, CanBegin}
 use Rattle.laws_machine.proofs.OnReads.Accesses.{gapped}
 use Rattle.laws_machine.proofs.OnOrders.Beginning.{begun_at}
 use Rattle.laws_machine.proofs.OnWrites.Guards.{leaves_on, leaving}
@@ -47,10 +47,8 @@ begin_keeps order scene byte old new access can =
     record { seeks = ap (λ (fdc : Fdc). fdc.seeks) has.after; dor = ap (λ (fdc : Fdc). fdc.dor) has.after }
 
 no_bits_last : (order : Order) (scene : Scene) (byte : ℕ) (fdc : Fdc) → IsLast order scene byte fdc → seek_bits fdc.seeks ≡ 0
-no_bits_last Identify scene byte fdc last = last.no_seek
-no_bits_last Read scene byte fdc last = last.no_seek
 no_bits_last (Write (Window deleted)) scene byte fdc last = last.no_seek
-no_bits_last (Write (Track numbers)) scene byte fdc last = last.no_seek
+no_bits_last _ scene byte fdc last = last.no_seek
 
 pub begin_still : (order : Order) (scene : Scene) (byte : ℕ) (old new : Board) → Outputs 0x3F5 byte old new → CanBegin order scene byte old → StaysStill old new
 begin_still order scene byte old new access can =

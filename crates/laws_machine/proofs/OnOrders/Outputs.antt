@@ -1,15 +1,14 @@
 -- Port writes that leave a data command as it is. They are a byte to the data port, which takes none, a write that
 -- clears the channel's flip-flop, and a write to a port where nothing answers.
 use Rattle.std.proofs.Common.{inl, inr, ◌≡◌, ℕ, ◌==◌, Bool, true, false, refl, sym, ◌∙◌, ap, subst}
-use Rattle.laws_machine.proofs.Common.{Channel, Past, is_executing, takes_in, is_held, Fdc, Phase, Board, controller_of, channel_of, drive_in, lines_of, is_controllers, sets_lines, WritesPort, Outputs, shown_again, drive_stays, Scene, IsUnderwayOn, Order, Identify, Read, Write, MayIn, May, AtDrive, IsDoneBy, Underway, Leaves, DriveState, false≢true}
+use Rattle.laws_machine.proofs.Common.{Channel, Past, is_executing, takes_in, is_held, Fdc, Phase, Board, controller_of, channel_of, drive_in, lines_of, is_controllers, sets_lines, WritesPort, Outputs, shown_again, drive_stays, Scene, IsUnderwayOn, Order, Identify, Read, Write, MayIn, May, AtDrive, IsDoneBy, Underway, Leaves, DriveState, false≢true, PortWrites as Writes}
 use Rattle.laws_machine.proofs.Facts.{either_is, number_is}
 use Rattle.dma_8237.specs.Channel.{after_write}
-use Rattle.fdc_core.specs.Ports.{Writes}
 use Rattle.fdc_phases.specs.declared.phases.Phase.TheVariants as phase
 use Rattle.laws_machine.proofs.OnReads.Steps.{same_drive}
 use Rattle.laws_machine.proofs.OnSteps.Runs.{outputs}
 use Rattle.laws_machine.proofs.OnOrders.Accesses.{moves_flipped}
-use Rattle.laws_machine.proofs.OnOrders.Words.{no_command}
+use Rattle.laws_machine.proofs.OnOrders.Words.{views}
 use Rattle.laws_machine.proofs.OnOrders.Steps.{goes_on, goes_on, at_drive}
 use Rattle.laws_machine.proofs.OnOrders.Behind.{KeepsOn}
 
@@ -21,7 +20,7 @@ taking_in _ busy held = refl
 pub not_command : (order : Order) (scene : Scene) (past : Past) (fdc : Fdc) → May order scene past fdc → fdc.phase ≡ phase.Command → ⊥
 not_command Identify scene past fdc may is = subst (λ p. MayIn Identify scene past p fdc.asking fdc.fifo) is may
 not_command Read scene past fdc may is = subst (λ p. MayIn Read scene past p fdc.asking fdc.fifo) is may
-not_command (Write laid) scene past fdc may is = no_command laid scene past fdc.asking fdc.fifo (subst (λ p. MayIn (Write laid) scene past p fdc.asking fdc.fifo) is may)
+not_command (Write laid) scene past fdc may is = views laid scene past phase.Command fdc.asking fdc.fifo (subst (λ p. MayIn (Write laid) scene past p fdc.asking fdc.fifo) is may)
 
 pub same_fdc : (order : Order) (scene : Scene) (past : Past) (port value : ℕ) (board : Board) (new : Fdc) → Leaves port value board → May order scene past (controller_of board) → Writes port value (lines_of board) (controller_of board) new → new ≡ controller_of board
 same_fdc order scene past port value board new leaves may writes = elim (either_is (port == 0x3F5)) [

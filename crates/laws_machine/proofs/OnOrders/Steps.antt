@@ -1,26 +1,20 @@
 -- A device step of a data command.
 use Rattle.std.proofs.Common.{◌≡◌, ℕ, ◌+◌, ◌%◌, ◌≤◌, ◌==◌, Bool, true, false, List, length, [], ◌∷◌, ◌++◌, if◌then◌else◌, refl, sym, ◌∙◌, ap, subst}
-use Rattle.laws_machine.proofs.Common.{DriveState, after_transfer, Past, taken_in, told_count, phase_told, told_in, is_executing, is_read, is_reading, asks, Fdc, Phase, Task, Answer, Short, Long, Fifo, Board, controller_of, drive_in, Step, can_move, moved_to_memory, moved_from_memory, byte_read, told_if, Chips, Scene, StandsStill, IsTaken, refuses, Steady, Moving, IsUnderwayOn, Laid, Window, Track, Order, Identify, Read, Write, MayLayIn, MayLay, AtDrive, IsDoneBy, Underway, false≢true, grants, took, outset_of, drive_less}
-use Rattle.laws_machine.proofs.Facts.{told_busy}
-use Rattle.fdc_core.proofs.MayWrite.{in_writes, in_formats, told_writes, told_formats}
+use Rattle.laws_machine.proofs.Common.{DriveState, after_transfer, Past, taken_in, told_count, told_in, is_executing, is_reading, asks, Fdc, Phase, Short, Long, Fifo, Board, controller_of, drive_in, Step, can_move, moved_to_memory, moved_from_memory, byte_read, told_if, Chips, Scene, StandsStill, IsTaken, refuses, Steady, Moving, IsUnderwayOn, Laid, Window, Track, Order, Identify, Read, Write, MayLayIn, MayLay, AtDrive, IsDoneBy, Underway, false≢true, grants, took, outset_of, drive_less, in_writes, in_formats, told_writes, told_formats, and_parts}
+use Rattle.laws_machine.proofs.Facts.{told_busy, told_keeps}
 use Rattle.fdc_phases.specs.declared.phases.Phase.TheVariants as phase
-use Rattle.fdc_phases.specs.declared.phases.Task.TheVariants as task
 use Rattle.pc_bus.specs.Transfers.{moved}
 use Rattle.laws_machine.proofs.OnReads.Steps as reads
 use Rattle.laws_machine.proofs.OnWrites.Bytes as taking_bytes
 use Rattle.laws_machine.proofs.OnSteps.Transfers.{after_moves}
 use Rattle.laws_machine.proofs.OnSteps.Words.{selected}
 use Rattle.laws_machine.proofs.OnOrders.Behind.{KeepsOn, laid_on, IsDoing, IsOfWords}
-use Rattle.laws_machine.proofs.OnOrders.Fetching.{fetched, must_ask, second_true}
-use Rattle.laws_machine.proofs.OnOrders.Words.{word_time, no_command}
+use Rattle.laws_machine.proofs.OnOrders.Fetching.{fetched, must_ask}
+use Rattle.laws_machine.proofs.OnOrders.Words.{views, word_time}
 use Rattle.laws_machine.proofs.OnReads.Accesses.{hearing_less}
+use Rattle.laws_machine.proofs.OnWrites.Filling.{not_reading}
 
 -- ---- one transfer
-
-told_refuses : (p : Phase) → refuses (phase_told p) ≡ refuses p
-told_refuses phase.Command = refl
-told_refuses (phase.Result answer) = refl
-told_refuses (phase.Execute execution) = refl
 
 -- the histories of commands that write take a byte, and TC
 in_may : (laid : Laid) (scene : Scene) (past : Past) (fdc : Fdc) (byte : ℕ) → fdc.asking ≡ true → MayLay laid scene past fdc → MayLay laid scene (took byte past) (taken_in byte fdc)
@@ -36,24 +30,13 @@ record IsTaking (p : Phase) : Type 0 where
   busy : is_executing p ≡ true
   from_memory : is_reading p ≡ false
 
-taking_task : (laid : Laid) (scene : Scene) (past : Past) (head_drive steps : ℕ) (task : Task) (asking : Bool) (fifo : Fifo)
-    → MayLayIn laid scene past (phase.Execute (record { head_drive = head_drive; steps = steps; task = task })) asking fifo → is_read task ≡ false
-taking_task (Window deleted) scene past head_drive steps (task.Write writing) asking fifo may = refl
-taking_task (Window deleted) scene past head_drive steps _ asking fifo may = absurd may
-taking_task (Track numbers) scene past head_drive steps (task.Format formatting) asking fifo may = refl
-taking_task (Track numbers) scene past head_drive steps _ asking fifo may = absurd may
-
-low_result : (laid : Laid) (scene : Scene) (past : Past) (answer : Answer) (asking : Bool) (fifo : Fifo) → MayLayIn laid scene past (phase.Result answer) asking fifo → asking ≡ false
-low_result (Window deleted) scene past (Short next last) asking fifo may = absurd may
-low_result (Window deleted) scene past (Long ending results read) asking fifo may = may.0
-low_result (Track numbers) scene past (Short next last) asking fifo may = absurd may
-low_result (Track numbers) scene past (Long ending results read) asking fifo may = may.0
-
 taking : (laid : Laid) (scene : Scene) (past : Past) (p : Phase) (asking : Bool) (fifo : Fifo) → asking ≡ true → MayLayIn laid scene past p asking fifo → IsTaking p
-taking laid scene past phase.Command asking fifo up may = absurd (no_command laid scene past asking fifo may)
-taking laid scene past (phase.Result answer) asking fifo up may = absurd (false≢true (sym (low_result laid scene past answer asking fifo may) ∙ up))
+taking laid scene past phase.Command asking fifo up may = absurd (views laid scene past phase.Command asking fifo may)
+taking laid scene past (phase.Result (Short next last)) asking fifo up may = absurd (views laid scene past (phase.Result (Short next last)) asking fifo may)
+taking laid scene past (phase.Result (Long ending results read)) asking fifo up may =
+    absurd (false≢true (sym (views laid scene past (phase.Result (Long ending results read)) asking fifo may) ∙ up))
 taking laid scene past (phase.Execute execution) asking fifo up may =
-    record { busy = refl; from_memory = taking_task laid scene past execution.head_drive execution.steps execution.task asking fifo may }
+    record { busy = refl; from_memory = not_reading (phase.Execute execution) (views laid scene past (phase.Execute execution) asking fifo may).0 }
 
 abbrev retaken : Past → List ℕ → Bool → Past
 retaken past taken counted = record past { taken = taken; counted = counted }
@@ -101,7 +84,7 @@ laid_moved laid scene P words fits chips up granting was busy =
           past = retaken was.past (was.past.taken ++ byte ∷ []) true;
           known = record {
             may = subst (λ b. MayLay laid scene (told_in b (took byte was.past)) (told_count fdc)) busy (told_may laid scene (took byte was.past) fdc into);
-            shows = λ is. was.known.shows (sym (told_refuses fdc.phase) ∙ is);
+            shows = λ is. was.known.shows (sym (told_keeps refuses (λ _. refl) fdc.phase) ∙ is);
             dor = was.known.dor;
             rate = was.known.rate;
             moves = moves;
@@ -118,7 +101,7 @@ laid_one : (laid : Laid) (scene : Scene) (P : Past → Bool → Type 0) → IsOf
     → IsDoing (Write laid) scene P (moved chips)
 unfolding moved
 laid_one laid scene P words fits chips can was =
-    let granting = second_true (asks chips.controller) (grants chips.channel) can in
+    let granting = (and_parts (asks chips.controller) (grants chips.channel) can).1 in
     let is = taking laid scene was.past chips.controller.phase chips.controller.asking chips.controller.fifo (must_ask chips can) was.known.may in
     subst (λ b. IsDoing (Write laid) scene P (if b then moved_to_memory chips else moved_from_memory chips)) (sym is.from_memory) (laid_moved laid scene P words fits chips (must_ask chips can) granting was is.busy)
 
@@ -141,10 +124,7 @@ at_bytes (Write laid) scene drive = record {
   bytes = λ past given taken counted executes was. laid_on laid scene past (record past { given = given; taken = taken; counted = counted }) executes executes drive drive
       (drive_less (outset_of scene) past executes executes drive given taken counted (λ busy. busy)) refl refl was;
 }
-at_bytes Identify scene drive = record {
-  bytes = λ past given taken counted executes was. reads.hearing_same scene past (record past { given = given; taken = taken; counted = counted }) executes drive (record { turns = refl; seen = refl }) was;
-}
-at_bytes Read scene drive = record {
+at_bytes _ scene drive = record {
   bytes = λ past given taken counted executes was. reads.hearing_same scene past (record past { given = given; taken = taken; counted = counted }) executes drive (record { turns = refl; seen = refl }) was;
 }
 

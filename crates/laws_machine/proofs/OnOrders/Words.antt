@@ -1,11 +1,10 @@
 -- The word time of a data command.
-use Rattle.std.proofs.Common.{◌≡◌, ℕ, ◌==◌, ◌&&◌, not, Bool, true, false, List, refl, sym, ◌∙◌, ap, subst, arith}
-use Rattle.laws_machine.proofs.Common.{DriveState, Fifo, with_polls, Past, is_executing, is_held, polled, RestsIn, MovesIn, WordTime, Saw, KeptOut, Wrote, Stopped, after_time, WritesIn, Fdc, Execution, Phase, Command, Execute, Result, Works, Chips, Scene, IsScene, IsTaken, refuses, Laid, Window, Track, Order, Identify, Read, Write, MayLayIn, MayLay, LaysOn, AtDrive, IsDoneBy, led, IsGuarded, outset_of, rests_on, led_none}
-use Rattle.laws_machine.proofs.Facts.{if_both, polled_phase}
-use Rattle.fdc_core.specs.Writes.{RestsWritten}
+use Rattle.std.proofs.Common.{◌≡◌, ℕ, ◌==◌, Bool, true, false, List, refl, sym, ◌∙◌, ap, subst, arith}
+use Rattle.laws_machine.proofs.Common.{DriveState, Fifo, Past, is_executing, polled, RestsIn, MovesIn, WordTime, Stopped, after_time, WritesIn, Fdc, Execution, Phase, Command, Execute, Result, Works, Chips, Scene, IsScene, IsTaken, refuses, Laid, Window, Track, Order, Identify, Read, Write, MayLayIn, MayLay, LaysOn, AtDrive, IsDoneBy, led, IsGuarded, outset_of, rests_on, led_none, Long, Task, fills_task, RestsWritten}
+use Rattle.laws_machine.proofs.Facts.{polled_phase, polled_keeps}
+use Rattle.fdc_phases.specs.declared.phases.Task.TheVariants as task
 use Rattle.laws_machine.proofs.OnReads.IdWords as ids
 use Rattle.laws_machine.proofs.OnReads.Steps as reads
-use Rattle.laws_machine.proofs.OnReads.Steps.{moves_faults}
 use Rattle.laws_machine.proofs.OnWrites.Guards.{moves_same}
 use Rattle.laws_machine.proofs.OnWrites.Steps as writes
 use Rattle.laws_machine.proofs.OnFormats.Steps as formats
@@ -14,14 +13,12 @@ use Rattle.laws_machine.proofs.OnOrders.Behind.{IsDoing, IsBehind, IsTimed, IsTi
 -- ---- of a command that writes
 
 polled_rate : (old : Fdc) → (polled old).rate ≡ old.rate
-polled_rate old = if_both (old.poll_due && not (is_held old)) (record old { poll_due = false; interrupt = true; seeks = with_polls old.seeks }) old (λ z. z.rate ≡ old.rate) refl refl
+polled_rate old = polled_keeps (λ fdc. fdc.rate) old refl
 
 -- a word time takes no byte
 same_taken : (time : WordTime) (past : Past) (P : List ℕ → Bool → Type 0) → P past.taken past.counted → P (after_time time past).taken (after_time time past).counted
-same_taken (Saw index word) past P was = was
-same_taken (KeptOut index word) past P was = was
-same_taken (Wrote opened closed index word) past P was = was
 same_taken Stopped past P was = was
+same_taken _ past P was = was
 
 -- a word time after `lead` words 0000
 pub timed_led : (laid : Laid) (scene : Scene) (lead : ℕ) (late : Past) (drive after : DriveState) (polls between : Fdc) (asking : Bool) (fifo : Fifo) → IsScene scene → polls.rate ≡ scene.rate
@@ -45,9 +42,26 @@ laying laid scene whole = record {
   rests = λ past drive after was same falls. laid_on laid scene past past false false drive after (λ at. rests_on (outset_of scene) past drive after at same falls) refl refl was;
 }
 
-pub no_command : (laid : Laid) (scene : Scene) (past : Past) (asking : Bool) (fifo : Fifo) → MayLayIn laid scene past Command asking fifo → ⊥
-no_command (Window deleted) scene past asking fifo may = may
-no_command (Track numbers) scene past asking fifo may = may
+-- a command that writes takes bytes from memory in execution, after as many device steps as its history has. In its
+-- results DRQ is low
+abbrev pub Views : Past → Phase → Bool → Type 0
+Views past (Execute execution) asking = (fills_task execution.task ≡ true) × (past.steps ≡ execution.steps)
+Views past (Result (Long ending results read)) asking = asking ≡ false
+Views past _ asking = ⊥
+
+views_task : (laid : Laid) (scene : Scene) (past : Past) (head_drive steps : ℕ) (task : Task) (asking : Bool) (fifo : Fifo)
+    → MayLayIn laid scene past (Execute (record { head_drive = head_drive; steps = steps; task = task })) asking fifo → (fills_task task ≡ true) × (past.steps ≡ steps)
+views_task (Window deleted) scene past head_drive steps (task.Write writing) asking fifo (room, (handed, on)) = (refl, on.steps_are)
+views_task (Track numbers) scene past head_drive steps (task.Format formatting) asking fifo (room, (handed, on)) = (refl, on.steps_are)
+views_task (Window deleted) scene past head_drive steps _ asking fifo may = absurd may
+views_task (Track numbers) scene past head_drive steps _ asking fifo may = absurd may
+
+pub views : (laid : Laid) (scene : Scene) (past : Past) (phase : Phase) (asking : Bool) (fifo : Fifo) → MayLayIn laid scene past phase asking fifo → Views past phase asking
+views laid scene past (Execute execution) asking fifo may = views_task laid scene past execution.head_drive execution.steps execution.task asking fifo may
+views (Window deleted) scene past (Result (Long ending results read)) asking fifo may = may.0
+views (Track numbers) scene past (Result (Long ending results read)) asking fifo may = may.0
+views (Window deleted) scene past _ asking fifo may = absurd may
+views (Track numbers) scene past _ asking fifo may = absurd may
 
 rests_may : (laid : Laid) (scene : Scene) (past : Past) (phase : Phase) (asking : Bool) (fifo : Fifo) (new : Fdc) → RestsWritten phase asking fifo new → MayLayIn laid scene past phase asking fifo → MayLay laid scene past new
 rests_may (Window deleted) scene past phase asking fifo new rests may = rests.writes past scene.sent deleted may
@@ -60,7 +74,7 @@ in_phase : (laid : Laid) (scene : Scene) (P : Past → Bool → DriveState → T
     → WritesIn phase chips.controller.asking chips.controller.fifo (polled chips.controller) drive after between
     → RestsIn phase (drive.cylinder == 0) (polled chips.controller) between → MovesIn phase (polled chips.controller) drive after
     → IsDoing (Write laid) scene (λ now executes. P now executes after) (record chips { controller = between })
-in_phase laid scene P lays past chips drive after between known works Command is may was covered does rests moves = absurd (no_command laid scene past _ _ may)
+in_phase laid scene P lays past chips drive after between known works Command is may was covered does rests moves = absurd (views laid scene past Command _ _ may)
 in_phase laid scene P lays past chips drive after between known works (Execute execution) is may was covered does rests moves =
     let made = lays.works past drive after (polled chips.controller) between _ _ (polled_rate chips.controller ∙ known.rate) was execution may does in
     record {
@@ -85,7 +99,7 @@ in_phase laid scene P lays past chips drive after between known works (Result an
         rate = works.stays.rate ∙ known.rate;
         moves = known.moves;
       };
-      at = subst (λ b. P past b after) (sym (ap is_executing same)) (lays.rests past drive after was (moves_same _ drive after moves) (moves_faults _ drive after moves));
+      at = subst (λ b. P past b after) (sym (ap is_executing same)) (lays.rests past drive after was (moves_same _ drive after moves) (reads.moves_faults _ drive after moves));
     }
 
 pub laid_timed : (laid : Laid) (scene : Scene) (P : Past → Bool → DriveState → Type 0) → Laying laid scene P → (past : Past) (chips : Chips) (drive : DriveState) (between : Fdc) (after : DriveState)

@@ -1,11 +1,10 @@
 -- Between two data commands: what port accesses set.
-use Rattle.std.proofs.Common.{◌≡◌, ℕ, ◌==◌, not, ◌||◌, Bool, true, false, [], ◌∷◌, ◌++◌, if◌then◌else◌, refl, sym, ◌∙◌, ap, subst}
-use Rattle.laws_machine.proofs.Common.{answer, kept, More, TakesAs, is_executing, given, interrupt_after, phase_after, takes_in, is_taking, dsr_resets, is_held, Fdc, Phase, Command, Execute, Result, Board, controller_of, lines_of, is_controllers, port_read, WritesPort, RunsGap, Inputs, Outputs, sets_lines, shown_again, Chips, drive_stays, only_listens, HoldsOn, HaveTurned, IsHushed, Setting, ChipsStand, Stands, false_from_ne_true, false≢true, after_write, after_read, ccr_written, result_byte, dor_resets}
+use Rattle.std.proofs.Common.{◌≡◌, ℕ, ◌==◌, not, ◌||◌, Bool, true, false, [], ◌∷◌, ◌++◌, if◌then◌else◌, refl, sym, ◌∙◌, ap, subst, List}
+use Rattle.laws_machine.proofs.Common.{answer, kept, More, TakesAs, is_executing, given, interrupt_after, phase_after, takes_in, is_taking, dsr_resets, is_held, Fdc, Phase, Command, Execute, Result, Board, controller_of, lines_of, is_controllers, port_read, WritesPort, RunsGap, Inputs, Outputs, sets_lines, shown_again, Chips, drive_stays, only_listens, HoldsOn, HaveTurned, IsHushed, Setting, ChipsStand, Stands, false_from_ne_true, false≢true, after_write, after_read, result_byte, dor_resets, DataRate, rate_chosen, is_fresh}
 use Rattle.laws_machine.proofs.Facts.{if_both, idle_read, number_is, shown_stalls}
-use Rattle.fdc_phases.specs.Answers.{is_fresh}
 use Rattle.laws_machine.specs.OnQuiet.Settings.{with_byte, with_rate, with_write, with_read}
 use Rattle.laws_machine.proofs.OnQuiet.Steps.{drives_on, like_holds, like_mode}
-use Rattle.laws_machine.proofs.OnQuiet.Standing.{standing}
+use Rattle.laws_machine.proofs.OnQuiet.Standing.{standing, stands_beside}
 use Rattle.laws_machine.proofs.OnSteps.Runs.{gap}
 use Rattle.laws_machine.proofs.OnQuiet.Turning.{turned_still}
 
@@ -44,26 +43,14 @@ sets_none port value beside =
     ap (λ b. b || (if b then dor_resets value else (if port == 0x3F4 then dsr_resets value else false))) (another_port port 0x3F2 refl beside)
     ∙ ap (λ b. if b then dsr_resets value else false) (another_port port 0x3F4 refl beside)
 
-with_channel : (old : Chips) (set : Setting) (now : Chips) (port value : ℕ) → ChipsStand set old now
-    → ChipsStand (with_write port value set) old (record now { channel = after_write port value now.channel })
-with_channel old set now port value was = record {
-  controller = was.controller;
-  phase = was.phase;
-  command = was.command;
-  rate = was.rate;
-  low = was.low;
-  channel = ap (after_write port value) was.channel;
-  memory = was.memory;
-  stalls = was.stalls;
-}
-
 pub channel_stands : (start : Board) (set : Setting) (port value : ℕ) (old new : Board) → is_controllers port ≡ false → Outputs port value old new
     → Stands set start old → Stands (with_write port value set) start new
 channel_stands start set port value old new beside access was =
     gap_stands start (with_write port value set) access.between new access.gap
     (written_stands start (with_write port value set) port value old access.between (record old.bus.chips { channel = after_write port value old.bus.chips.channel })
     (sets_none port value beside) access.writes (access.writes.writes.channels beside) was.idle
-    (with_channel start.bus.chips set old.bus.chips port value was.chips) was.drives was.hush refl refl)
+    (stands_beside start.bus.chips set old.bus.chips (after_write port value old.bus.chips.channel) (after_write port value set.channel) old.bus.chips.holding
+    (ap (after_write port value) was.chips.channel) refl was.chips) was.drives was.hush refl refl)
 
 -- ---- the controller's ports
 
@@ -88,6 +75,24 @@ port_takes start set old was command free =
     let same : is_held (controller_of old) ≡ false = ap (λ dor. is_held (record (controller_of start) { dor = dor })) was.chips.controller.dor ∙ free in
     ap (λ phase. takes_in phase (is_held (controller_of old))) (was.chips.phase ∙ command) ∙ ap not same
 
+-- a port write that sets no line, and sets other bytes of a command or another rate
+registers_stand : (start : Board) (set : Setting) (port value : ℕ) (command : List ℕ) (rate : DataRate) (old new : Board) (access : Outputs port value old new) (controller : Fdc)
+    → sets_lines port value ≡ false → access.writes.chips ≡ shown_again (record old.bus.chips { controller = controller }) → controller ≡ record (controller_of old) { command = command; rate = rate }
+    → Stands set start old → Stands (record set { command = command; rate = rate }) start new
+registers_stand start set port value command rate old new access controller sets chips_are after was =
+    let fdc = controller_of old in
+    let like = like_mode fdc controller (ap (λ c. c.seeks) after) (ap (λ c. c.dor) after) (ap (λ c. c.non_dma) after) (ap (λ c. c.polling) after)
+    (ap (λ c. c.data_commands) after)
+    (ap (λ c. c.fifo.on) after) (ap (λ c. c.fifo.threshold) after) in
+    let listens : only_listens controller.phase ≡ true = ap (λ c. only_listens c.phase) after ∙ was.chips.controller.quiet.listens in
+    let then_set : Setting = record set { command = command; rate = rate } in
+    gap_stands start then_set access.between new access.gap
+    (written_stands start then_set port value old access.between (shown_again (record old.bus.chips { controller = controller })) sets access.writes chips_are was.idle
+    (with_controller start.bus.chips set old.bus.chips then_set controller was.chips
+    (like_holds (controller_of start).data_commands (controller_of start) fdc controller was.chips.controller like listens)
+    (ap (λ c. c.phase) after ∙ was.chips.phase) (ap (λ c. c.command) after) (ap (λ c. c.rate) after) (ap (λ c. c.asking) after ∙ was.chips.low) refl)
+    was.drives was.hush (ap (λ c. c.interrupt) after) (ap (λ c. c.poll_due) after))
+
 pub byte_stands : (start : Board) (set : Setting) (byte : ℕ) (old new : Board) → set.phase ≡ Command → is_held (controller_of start) ≡ false → answer (set.command ++ byte ∷ []) ≡ More
     → Outputs 0x3F5 byte old new → Stands set start old → Stands (with_byte byte set) start new
 byte_stands start set byte old new command free more access was =
@@ -97,34 +102,14 @@ byte_stands start set byte old new command free more access was =
     let after : controller ≡ record fdc { command = fdc.command ++ byte ∷ [] } =
     subst (λ accepted. TakesAs accepted (lines_of old) (record fdc { command = kept accepted (fdc.command ++ byte ∷ []) }) controller) whole
     ((writes.bytes refl).0 (port_takes start set old was command free)) in
-    let phase : controller.phase ≡ set.phase = ap (λ c. c.phase) after ∙ was.chips.phase in
-    let like = like_mode fdc controller (ap (λ c. c.seeks) after) (ap (λ c. c.dor) after) (ap (λ c. c.non_dma) after) (ap (λ c. c.polling) after)
-    (ap (λ c. c.data_commands) after)
-    (ap (λ c. c.fifo.on) after) (ap (λ c. c.fifo.threshold) after) in
-    let listens : only_listens controller.phase ≡ true = ap only_listens (phase ∙ command) in
-    gap_stands start (with_byte byte set) access.between new access.gap
-    (written_stands start (with_byte byte set) 0x3F5 byte old access.between (shown_again (record old.bus.chips { controller = controller })) refl access.writes chips_are was.idle
-    (with_controller start.bus.chips set old.bus.chips (with_byte byte set) controller was.chips
-    (like_holds (controller_of start).data_commands (controller_of start) fdc controller was.chips.controller like listens)
-    phase (ap (λ c. c.command) after ∙ ap (λ bytes. bytes ++ byte ∷ []) was.chips.command) (ap (λ c. c.rate) after ∙ was.chips.rate) (ap (λ c. c.asking) after ∙ was.chips.low) refl)
-    was.drives was.hush (ap (λ c. c.interrupt) after) (ap (λ c. c.poll_due) after))
+    registers_stand start set 0x3F5 byte (set.command ++ byte ∷ []) set.rate old new access controller refl chips_are
+    (after ∙ (ap (λ bytes. record fdc { command = bytes ++ byte ∷ [] }) was.chips.command ∙ ap (λ rate. record fdc { command = set.command ++ byte ∷ []; rate = rate }) was.chips.rate)) was
 
 pub rate_stands : (start : Board) (set : Setting) (byte : ℕ) (old new : Board) → Outputs 0x3F7 byte old new → Stands set start old → Stands (with_rate byte set) start new
 rate_stands start set byte old new access was =
     let (controller, writes, chips_are) = access.writes.writes.controllers refl in
-    let fdc = controller_of old in
-    let after : controller ≡ ccr_written byte fdc = writes.control refl in
-    let phase : controller.phase ≡ set.phase = ap (λ c. c.phase) after ∙ was.chips.phase in
-    let like = like_mode fdc controller (ap (λ c. c.seeks) after) (ap (λ c. c.dor) after) (ap (λ c. c.non_dma) after) (ap (λ c. c.polling) after)
-    (ap (λ c. c.data_commands) after)
-    (ap (λ c. c.fifo.on) after) (ap (λ c. c.fifo.threshold) after) in
-    let listens : only_listens controller.phase ≡ true = ap (λ c. only_listens c.phase) after ∙ was.chips.controller.quiet.listens in
-    gap_stands start (with_rate byte set) access.between new access.gap
-    (written_stands start (with_rate byte set) 0x3F7 byte old access.between (shown_again (record old.bus.chips { controller = controller })) refl access.writes chips_are was.idle
-    (with_controller start.bus.chips set old.bus.chips (with_rate byte set) controller was.chips
-    (like_holds (controller_of start).data_commands (controller_of start) fdc controller was.chips.controller like listens)
-    phase (ap (λ c. c.command) after ∙ was.chips.command) (ap (λ c. c.rate) after) (ap (λ c. c.asking) after ∙ was.chips.low) refl)
-    was.drives was.hush (ap (λ c. c.interrupt) after) (ap (λ c. c.poll_due) after))
+    registers_stand start set 0x3F7 byte set.command (rate_chosen byte) old new access controller refl chips_are
+    (writes.control refl ∙ ap (λ bytes. record (controller_of old) { command = bytes; rate = rate_chosen byte }) was.chips.command) was
 
 -- ---- reads
 
@@ -150,16 +135,8 @@ read_chips old set now port idle was true true =
     phase was.command was.rate was.low refl
 read_chips old set now port idle was true false =
     with_controller old set now set now.controller was was.controller was.phase was.command was.rate was.low refl
-read_chips old set now port idle was false data_port = record {
-  controller = was.controller;
-  phase = was.phase;
-  command = was.command;
-  rate = was.rate;
-  low = was.low;
-  channel = ap (after_read port) was.channel;
-  memory = was.memory;
-  stalls = was.stalls;
-}
+read_chips old set now port idle was false data_port =
+    stands_beside old set now (after_read port now.channel) (after_read port set.channel) now.holding (ap (after_read port) was.channel) refl was
 
 read_idle : (set : Setting) (port : ℕ) → is_executing set.phase ≡ false → (controllers data_port : Bool) → is_executing (read_by controllers data_port port set).phase ≡ false
 read_idle set port idle true true = idle_read set.phase idle

@@ -1,28 +1,20 @@
 -- Between two data commands: device steps leave a setting.
 use Rattle.std.proofs.Common.{◌≡◌, ◌==◌, ◌&&◌, ◌||◌, Bool, false, None, refl, sym, ◌∙◌, ap, subst}
-use Rattle.laws_machine.proofs.Common.{DmaRequest, Low, is_executing, polled, seek_stepped, RestsIn, Stays, Fdc, Phase, Execute, Board, controller_of, Step, Chips, Seeking, is_seeking, interrupts, is_gated, IsQuiet, HoldsOn, StandsStill, IsHushed, Setting, setting_of, ChipsStand, Stands, regapped, Steady, and_right, false≢true, dma_stepped}
+use Rattle.laws_machine.proofs.Common.{Low, is_executing, polled, seek_stepped, RestsIn, Stays, Fdc, Board, controller_of, Step, Chips, Seeking, is_seeking, interrupts, is_gated, IsQuiet, HoldsOn, StandsStill, IsHushed, Setting, setting_of, ChipsStand, Stands, regapped, Steady, and_right, dma_stepped, Channel, Holds}
 use Rattle.laws_machine.proofs.Facts.{polled_asking, polled_phase}
 use Rattle.laws_machine.proofs.OnQuiet.Steps.{step_works, drives_on, drives_still, starts_quietly, idles_still}
 use Rattle.laws_machine.proofs.OnSteps.Words.{controller}
-use Rattle.laws_machine.proofs.OnSteps.Controllers.{idle_dma}
+use Rattle.laws_machine.proofs.OnSteps.Controllers.{idle_dma, rests_polled}
 
 -- outside execution a controller stays in its phase, with DRQ as it was
 pub record Stayed (old new : Fdc) : Type 0 where
   pub phase : new.phase ≡ old.phase
   pub asking : new.asking ≡ old.asking
 
-stepped_stayed : (old new : Fdc) (track0 : Bool) → new ≡ seek_stepped track0 (polled old) → Stayed old new
-stepped_stayed old new track0 is = record {
-  phase = ap (λ fdc. fdc.phase) is ∙ polled_phase old;
-  asking = ap (λ fdc. fdc.asking) is ∙ polled_asking old;
-}
-
-rests_stayed : (phase : Phase) (old new : Fdc) (track0 : Bool) → is_executing phase ≡ false → RestsIn phase track0 (polled old) new → Stayed old new
-rests_stayed (Execute execution) old new track0 idle rests = absurd (false≢true (sym idle))
-rests_stayed _ old new track0 idle rests = stepped_stayed old new track0 rests
-
 pub rested : (old new : Fdc) (track0 : Bool) → is_executing old.phase ≡ false → RestsIn (polled old).phase track0 (polled old) new → Stayed old new
-rested old new track0 idle rests = rests_stayed old.phase old new track0 idle (subst (λ phase. RestsIn phase track0 (polled old) new) (polled_phase old) rests)
+rested old new track0 idle rests =
+    let is = rests_polled old new track0 idle rests in
+    record { phase = ap (λ fdc. fdc.phase) is ∙ polled_phase old; asking = ap (λ fdc. fdc.asking) is ∙ polled_asking old }
 
 -- ---- INT
 
@@ -37,9 +29,10 @@ polled_same old none = rw none refl
 low_or : (seeking : Bool) → seeking ≡ false → (interrupt rest : Bool) → interrupt ≡ false → (interrupt || (seeking && rest)) ≡ false
 low_or seeking none interrupt rest low = rw (low, none) refl
 
-stepped_low : (old new : Fdc) (track0 : Bool) → old.seeks.seek ≡ None → old.poll_due ≡ false → old.interrupt ≡ false → new ≡ seek_stepped track0 (polled old) → StaysLow new
-stepped_low old new track0 none unpolled low is =
-    let same : new ≡ seek_stepped track0 old = is ∙ ap (seek_stepped track0) (polled_same old unpolled) in
+low_rested : (old new : Fdc) (track0 : Bool) → is_executing old.phase ≡ false → old.seeks.seek ≡ None → old.poll_due ≡ false → old.interrupt ≡ false
+    → RestsIn (polled old).phase track0 (polled old) new → StaysLow new
+low_rested old new track0 idle none unpolled low rests =
+    let same : new ≡ seek_stepped track0 old = rests_polled old new track0 idle rests ∙ ap (seek_stepped track0) (polled_same old unpolled) in
     record {
       low = ap (λ fdc. fdc.interrupt) same ∙ low_or (is_seeking old.seeks) (not_seeking old.seeks none) old.interrupt _ low;
       polled = ap (λ fdc. fdc.poll_due) same ∙ unpolled;
@@ -47,16 +40,6 @@ stepped_low old new track0 none unpolled low is =
   where
     not_seeking : (seeks : Seeking) → seeks.seek ≡ None → is_seeking seeks ≡ false
     not_seeking seeks none = rw none refl
-
-rests_low : (phase : Phase) (old new : Fdc) (track0 : Bool) → is_executing phase ≡ false → old.seeks.seek ≡ None → old.poll_due ≡ false → old.interrupt ≡ false
-    → RestsIn phase track0 (polled old) new → StaysLow new
-rests_low (Execute execution) old new track0 idle none unpolled low rests = absurd (false≢true (sym idle))
-rests_low _ old new track0 idle none unpolled low rests = stepped_low old new track0 none unpolled low rests
-
-low_rested : (old new : Fdc) (track0 : Bool) → is_executing old.phase ≡ false → old.seeks.seek ≡ None → old.poll_due ≡ false → old.interrupt ≡ false
-    → RestsIn (polled old).phase track0 (polled old) new → StaysLow new
-low_rested old new track0 idle none unpolled low rests =
-    rests_low old.phase old new track0 idle none unpolled low (subst (λ phase. RestsIn phase track0 (polled old) new) (polled_phase old) rests)
 
 step_low : (old new : Board) → is_executing (controller_of old).phase ≡ false → (controller_of old).seeks.seek ≡ None → IsHushed old → (step : Step old new) → StaysLow step.between
 step_low old new idle none hushed step = let low = low_rested (controller_of old) step.between in
@@ -80,21 +63,23 @@ step_stayed old new idle step = controller (Stayed (controller_of old) step.betw
     (λ before after works. (rested (controller_of old) step.between (before.cylinder == 0) idle works.rests, works.stays))
     (λ works. (rested (controller_of old) step.between false idle works.rests, works.stays))
 
--- the request plays no part
-quiet_chips : (old : Chips) (set : Setting) (now : Chips) (request : DmaRequest) → ChipsStand set old now → ChipsStand set old (record now { holding = record now.holding { request = request } })
-quiet_chips old set now request was = record {
+-- another channel that is set so, and another request
+pub stands_beside : (old : Chips) (set : Setting) (now : Chips) (channel set_channel : Channel) (holding : Holds) → channel ≡ set_channel → holding.stalls ≡ now.holding.stalls → ChipsStand set old now
+    → ChipsStand (record set { channel = set_channel }) old (record now { channel = channel; holding = holding })
+stands_beside old set now channel set_channel holding is stalls was = record {
   controller = was.controller;
   phase = was.phase;
   command = was.command;
   rate = was.rate;
   low = was.low;
-  channel = was.channel;
+  channel = is;
   memory = was.memory;
-  stalls = was.stalls;
+  stalls = stalls ∙ was.stalls;
 }
 
 stands_dma : (old : Chips) (set : Setting) (now : Chips) → ChipsStand set old now → ChipsStand set old (dma_stepped now)
-stands_dma old set now was = subst (ChipsStand set old) (sym (idle_dma now was.low)) (quiet_chips old set now Low was)
+stands_dma old set now was =
+    subst (ChipsStand set old) (sym (idle_dma now was.low)) (stands_beside old set now now.channel set.channel (record now.holding { request = Low }) was.channel refl was)
 
 stands_word : (old : Chips) (set : Setting) (now : Chips) (between : Fdc) → ChipsStand set old now → HoldsOn old.controller.data_commands old.controller between
     → Stayed now.controller between → Stays now.controller between → ChipsStand set old (record now { controller = between })

@@ -1,13 +1,11 @@
 -- A quiet machine, through device steps.
-use Rattle.std.proofs.Common.{◌≡◌, ℕ, ◌==◌, Bool, true, false, None, List, length, refl, sym, ◌∙◌, ap, subst}
-use Rattle.laws_machine.proofs.Common.{DriveState, room_of, taken_out, taken_in, told_count, phase_told, task_told, ExecutesIn, is_listening, is_reading, polled, RestsIn, Stays, MovesIn, MovesTask, Fdc, Phase, Command, Execute, Result, Task, ReadId, Format, Board, controller_of, Works, WorksAlone, Step, Turned, only_listens, IsQuiet, HoldsOn, HaveTurned, GoesQuietly, StandsStill, regapped, Steady, Transferred}
-use Rattle.laws_machine.proofs.Facts.{polled_phase, told_on, told_threshold}
-use Rattle.fdc_phases.specs.declared.phases.Task.TheVariants.{Read, Write}
+use Rattle.std.proofs.Common.{◌≡◌, ℕ, ◌==◌, Bool, true, false, None, List, refl, sym, ◌∙◌, ap, subst}
+use Rattle.laws_machine.proofs.Common.{DriveState, phase_told, task_told, ExecutesIn, is_listening, polled, RestsIn, Stays, MovesIn, MovesTask, Fdc, Phase, Execute, Board, controller_of, Works, WorksAlone, Step, Turned, only_listens, IsQuiet, HoldsOn, HaveTurned, GoesQuietly, StandsStill, regapped, Steady, Chips, dma_stepped}
+use Rattle.laws_machine.proofs.Facts.{polled_phase, each_task, told_keeps}
 use Rattle.laws_machine.proofs.OnQuiet.Listening.{pulse_none, Listened, word_listens}
 use Rattle.laws_machine.proofs.OnSteps.Words.{controller, drives}
-use Rattle.laws_machine.proofs.OnSteps.Transfers.{after_step}
 use Rattle.laws_machine.proofs.OnQuiet.Turning.{turned_calmly, turned_let, turned_moves, turned_still, turned_on}
-use Rattle.laws_machine.proofs.OnSteps.Controllers.{by_bytes, byte_on, byte_threshold, polled_cylinders, polled_seek}
+use Rattle.laws_machine.proofs.OnSteps.Controllers.{polled_cylinders, polled_seek, dma_only, phase_dma}
 
 -- ---- the word time
 
@@ -74,15 +72,7 @@ turned_works old before new after quiet works =
 -- ---- the transfers
 
 pub listens_told : (phase : Phase) → only_listens (phase_told phase) ≡ only_listens phase
-listens_told Command = refl
-listens_told (Result answer) = refl
-listens_told (Execute execution) = in_task execution.task
-  where
-    in_task : (task : Task) → is_listening (task_told task) ≡ is_listening task
-    in_task (ReadId search) = refl
-    in_task (Read reading) = refl
-    in_task (Write writing) = refl
-    in_task (Format formatting) = refl
+listens_told = told_keeps only_listens (λ execution. each_task (λ task. is_listening (task_told task) ≡ is_listening task) (λ _. refl) (λ _. refl) (λ _. refl) (λ _. refl) execution.task)
 
 -- only the FIFO's mode has to be looked at
 pub like_mode : (old new : Fdc) → new.seeks ≡ old.seeks → new.dor ≡ old.dor → new.non_dma ≡ old.non_dma → new.polling ≡ old.polling
@@ -99,15 +89,12 @@ like_mode old new seeks dor non_dma polling commands on threshold = record {
   data_commands = commands;
 }
 
-holding : (begun : ℕ) (start : Fdc) → Transferred (λ chips. HoldsOn begun start chips.controller)
-holding begun start = by_bytes (HoldsOn begun start)
-    (λ fdc was. like_holds begun start fdc (told_count fdc) was
-    (like_mode fdc (told_count fdc) refl refl refl refl refl (told_on (is_reading fdc.phase) fdc.fifo) (told_threshold (is_reading fdc.phase) fdc.fifo))
-    (listens_told fdc.phase ∙ was.quiet.listens))
-    (λ fdc was. like_holds begun start fdc (taken_out fdc) was (like_mode fdc (taken_out fdc) refl refl refl refl refl refl refl) was.quiet.listens)
-    (λ byte fdc was. like_holds begun start fdc (taken_in byte fdc) was (like_mode fdc (taken_in byte fdc) refl refl refl refl refl
-    (byte_on (length fdc.fifo.bytes == room_of fdc.fifo.on) fdc.fifo _)
-    (byte_threshold (length fdc.fifo.bytes == room_of fdc.fifo.on) fdc.fifo _)) was.quiet.listens)
+holds_moved : (begun : ℕ) (start : Fdc) (chips : Chips) → HoldsOn begun start chips.controller → HoldsOn begun start (dma_stepped chips).controller
+holds_moved begun start chips was =
+    let only = dma_only chips in
+    like_holds begun start chips.controller (dma_stepped chips).controller was (like_mode chips.controller (dma_stepped chips).controller (ap (λ f. f.seeks) only) (ap (λ f. f.dor) only)
+    (ap (λ f. f.non_dma) only) (ap (λ f. f.polling) only) (ap (λ f. f.data_commands) only) (ap (λ f. f.fifo.on) only) (ap (λ f. f.fifo.threshold) only))
+    (phase_dma only_listens listens_told chips ∙ was.quiet.listens)
 
 -- ---- the device step
 
@@ -140,7 +127,8 @@ pub step_quietly : (begun : ℕ) (start old new : Board) → Step old new → Go
 step_quietly begun start old new step was =
     let works = step_works begun (controller_of start) old new was.controller step in
     record {
-      controller = after_step (λ c. HoldsOn begun (controller_of start) c.controller) (holding begun (controller_of start)) old new step works.controller;
+      controller = subst (HoldsOn begun (controller_of start)) (sym (ap (λ bus. bus.chips.controller) step.bus))
+          (holds_moved begun (controller_of start) (record old.bus.chips { controller = step.between }) works.controller);
       drives = drives_on start old new was.drives works.drives;
     }
 

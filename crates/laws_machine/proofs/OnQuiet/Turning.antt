@@ -1,8 +1,7 @@
 -- Drives that go on turning.
 use Rattle.std.proofs.Common.{◌≡◌, ℕ, ◌+◌, ◌<◌, ◌≤◌, ◌==◌, ◌&&◌, nat_lt, Bool, true, false, Option, None, if◌then◌else◌, refl, sym, ◌∙◌, ap, subst, arith}
-use Rattle.laws_machine.proofs.Common.{spends_twice, DriveState, Becomes, at_speed, turns, track_words, let_pass, Moves, Turned, spends_itself, becomes_at}
+use Rattle.laws_machine.proofs.Common.{spends_twice, DriveState, Becomes, at_speed, turns, track_words, let_pass, Moves, Turned, spends_itself, becomes_at, Spends}
 use Rattle.laws_machine.proofs.Facts.{different, spin_on}
-use Rattle.flop_base.specs.Counts.{Spends}
 
 place_on : (fast : Bool) (place words : ℕ) → place < words
     → (if fast && (place + 1 == words) then 0 else (if fast then place + 1 else place)) < words

@@ -1,14 +1,10 @@
 -- What port accesses leave of a command that listens.
 use Rattle.std.proofs.Common.{◌≡◌, ℕ, ◌+◌, ◌==◌, ◌||◌, Bool, true, false, not, List, [], length, slice_index, if◌then◌else◌, refl, sym, ◌∙◌, ap, subst, arith}
-use Rattle.laws_machine.proofs.Common.{DriveState, Channel, answer, Past, is_executing, phase_after, Phase, Command, Execute, Result, rest_of, Board, port_read, Scene, IsHearing, IsSet, IsMoved, is_late, false≢true}
+use Rattle.laws_machine.proofs.Common.{DriveState, Channel, answer, Past, is_executing, phase_after, Phase, Command, Execute, Result, rest_of, Board, Scene, IsHearing, IsSet, IsMoved, is_late, false≢true}
 use Rattle.laws_machine.proofs.Facts.{given_down, idle_after}
 use Rattle.dma_8237.specs.Channel.{grants, after_read}
 
 -- ---- boards
-
--- a port was read, and its gap is to run
-abbrev pub read_board : ℕ → Board → Board
-read_board port old = record old { bus = record old.bus { chips = port_read port old.bus.chips; gaps = rest_of old.bus.gaps; fresh = false } }
 
 -- the gap is taken
 abbrev pub gapped : Board → Board

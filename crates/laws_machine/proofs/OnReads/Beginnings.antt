@@ -1,11 +1,10 @@
 -- A command that listens and begins after port accesses.
 use Rattle.std.proofs.Common.{◌≡◌, ℕ, ◌+◌, ◌%◌, ◌<◌, ◌≤◌, ◌==◌, Bool, true, false, [], ◌∷◌, ◌++◌, length, min, if◌then◌else◌, refl, sym, ◌∙◌, ap, subst, arith}
-use Rattle.laws_machine.proofs.Common.{last_count, Disk, track_words, Channel, writes_memory, answer, Sent, is_listening, Fdc, Task, next_entry, counted, Board, controller_of, channel_of, drive_in, memory_of, Outputs, drive_stays, Turned, HaveTurned, HoldsOn, GoesQuietly, Setting, Stands, Order, Identify, Read, Write, May, IsSetFor, IsLast, CanBegin, seek_bits, is_taking, Command, Scene, IsSet, IsSetForId, id_scene, sent_id, new_past}
+use Rattle.laws_machine.proofs.Common.{last_count, Disk, track_words, Channel, writes_memory, answer, Sent, is_listening, Fdc, Task, next_entry, counted, Board, controller_of, channel_of, drive_in, memory_of, Outputs, drive_stays, Turned, HaveTurned, HoldsOn, GoesQuietly, Setting, Stands, Order, Identify, Read, Write, May, IsSetFor, IsLast, CanBegin, seek_bits, is_taking, Command, Scene, IsSet, IsSetForId, id_scene, sent_id, new_past, IsReadyIn, IsSetForRead, scene_of}
 use Rattle.dma_8237.specs.SetUp.{IsSetUp}
 use Rattle.laws_machine.proofs.OnQuiet.Accesses.{port_takes}
 use Rattle.laws_machine.proofs.OnQuiet.Steps.{quietly, drives_on}
 use Rattle.laws_machine.proofs.OnQuiet.Turning.{turned_still}
-use Rattle.laws_machine.specs.OnReads.Begins.{IsReadyIn, IsSetFor as IsSetForRead, scene_of}
 use Rattle.laws_machine.proofs.OnReads.IdWords.{listens_id}
 use Rattle.laws_machine.proofs.OnOrders.Beginning.{HasBegun, begun_as, begun_at}
 use Rattle.laws_machine.proofs.OnReads.Accesses.{gapped}
@@ -104,8 +103,8 @@ Listens (Write laid) = ⊥
 Listens _ = Unit {0}
 
 listening : (order : Order) → Listens order → (scene : Scene) (old new : Fdc) → (has : HasBegun order scene old new) → is_listening has.task ≡ true
-listening Read is scene old new has = listens_task new_past scene.sent scene.sent.head_drive 0 has.task false [] (subst (May Read scene new_past) has.after has.may)
-listening Identify is scene old new has = listens_id new_past scene.sent.head_drive scene.sent.head_drive 0 has.task (subst (May Identify scene new_past) has.after has.may)
+listening Read is scene old new has = (listens_task new_past scene.sent scene.sent.head_drive 0 has.task false [] (subst (May Read scene new_past) has.after has.may)).1
+listening Identify is scene old new has = (listens_id new_past scene.sent.head_drive scene.sent.head_drive 0 has.task (subst (May Identify scene new_past) has.after has.may)).1
 listening (Write laid) is scene old new has = absurd is
 
 -- the write of the last byte counts one data command

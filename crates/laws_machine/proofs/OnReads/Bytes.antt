@@ -2,7 +2,7 @@
 use Rattle.std.proofs.Common.{◌≡◌, ◌⊎◌, inl, inr, ℕ, ◌+◌, ◌-◌, ◌%◌, ◌<◌, ◌≤◌, ◌==◌, Bool, true, false, List, [], ◌∷◌, ◌++◌, length, slice_set, if◌then◌else◌, refl, sym, ◌∙◌, subst, arith}
 use Rattle.laws_machine.proofs.Common.{Channel, after_transfer, place_of, writes_memory, Scene, HasBytes, IsSet, IsMoved, get_or-append, length-set, get_or_push, get_or-set_other, nat_tests, grants}
 use Rattle.std.proofs.lemmas.Grind.{get_or-set_at}
-use Rattle.laws_machine.proofs.Facts.{length_more, not_granting, same_grants, set_over, some_of, zero_is}
+use Rattle.laws_machine.proofs.Facts.{length_more, not_granting, same_grants, set_over, some_of, number_is}
 
 early_or_last : (i n : ℕ) → i < n + 1 → (i < n) ⊎ (i ≡ n)
 early_or_last i n h = grind (arith, nat_tests)
@@ -24,18 +24,18 @@ bytes_more old address bytes new byte place was here room = record {
 
 -- ---- the channel
 
--- the channel goes on behind the byte
+-- a channel that stood at an address stands behind it after a byte, with one byte less to come
+pub behind_byte : (channel : Channel) (address left : ℕ) → place_of channel ≡ address → channel.count ≡ left → channel.address + left < 65536 → (channel.count == 0) ≡ false
+    → (place_of (after_transfer channel) ≡ address + 1) × ((after_transfer channel).count ≡ left - 1) × ((after_transfer channel).address + (left - 1) < 65536)
+behind_byte channel address left at is room more =
+    let some = some_of channel.count more in
+    let next : (channel.address + 1) % 65536 ≡ channel.address + 1 = omega arith in (rw next (omega arith), rw more (omega arith), rw next (omega arith))
+
 set_more : (channel : Channel) (address left : ℕ) → IsSet channel address left → (channel.count == 0) ≡ false
     → IsSet (after_transfer channel) (address + 1) (left - 1)
-set_more channel address left set more = record {
-  granting = same_grants channel more ∙ set.granting;
-  writing = set.writing;
-  place = let some = some_of channel.count more in let room = set.room in let is = set.count in let at = set.place in
-      let next : (channel.address + 1) % 65536 ≡ channel.address + 1 = omega arith in rw next (omega arith);
-  count = let is = set.count in rw more (omega arith);
-  room = let some = some_of channel.count more in let room = set.room in let is = set.count in
-      let next : (channel.address + 1) % 65536 ≡ channel.address + 1 = omega arith in rw next (omega arith);
-}
+set_more channel address left set more =
+    let (place, count, room) = behind_byte channel address left set.place set.count set.room more in
+    record { granting = same_grants channel more ∙ set.granting; writing = set.writing; place = place; count = count; room = room }
 
 -- ---- a byte that went to memory
 
@@ -64,6 +64,6 @@ moved_more scene given memory channel byte fits was last is =
         (let some = some_of channel.count on in let count = set.count in omega arith),
         subst (λ address. IsSet (after_transfer channel) address (left - 1)) (omega arith) (set_more channel (scene.address + length given) left set on),
       );
-      over = λ counted. let none = zero_is channel.count (is ∙ counted) in let count = set.count in
+      over = λ counted. let none = number_is channel.count 0 (is ∙ counted) in let count = set.count in
           (set_over channel (is ∙ counted), omega arith);
     }

@@ -1,19 +1,19 @@
 -- A READ DATA that ends soon, through the port write that begins it, waits and port reads.
-use Rattle.std.proofs.Common.{◌≡◌, ◌⊎◌, inl, inr, ℕ, ◌≤◌, ◌==◌, ◌&&◌, Bool, true, false, length, if◌then◌else◌, refl, sym, ◌∙◌, ap, subst, arith, [], ◌∷◌, ◌++◌}
-use Rattle.laws_machine.proofs.Common.{Rose, begun, TakesAs, IsReadingData, kept, Accepted, Ready, ReadData, Sent, is_executing, given, phase_after, interrupt_after, asks, is_gated, Fdc, Phase, Command, Execute, Task, next_entry, AreShort, Holds, IsShort, shown, Board, controller_of, holds_of, lines_of, is_controllers, WritesPort, Inputs, Outputs, shown_again, Chips, StandsStill, read_from, CanBegin, Scene, wait_left, IsSoonOver, ReadSoon, ReadPrompt, false≢true, after_read, controller_after, IsGrantedSoon}
+use Rattle.std.proofs.Common.{◌≡◌, ◌⊎◌, inl, inr, ℕ, ◌≤◌, ◌==◌, ◌&&◌, Bool, true, false, length, if◌then◌else◌, refl, sym, ap, subst, arith, []}
+use Rattle.laws_machine.proofs.Common.{begun, IsReadingData, Sent, is_executing, given, phase_after, interrupt_after, asks, is_gated, Fdc, Phase, Command, Execute, Task, AreShort, Holds, IsShort, shown, Board, controller_of, holds_of, is_controllers, WritesPort, Inputs, Outputs, shown_again, Chips, StandsStill, read_from, CanBegin, Scene, wait_left, IsSoonOver, ReadSoon, ReadPrompt, false≢true, after_read, controller_after, IsGrantedSoon, new_past, Stalled}
 use Rattle.laws_machine.proofs.Facts.{quiet_task}
 use Rattle.laws_machine.proofs.OnSteps.Runs.{gap, outputs}
-use Rattle.laws_machine.proofs.OnSteps.Stalls.{runs_until}
+use Rattle.laws_machine.proofs.OnSteps.Stalls.{gap_since}
 use Rattle.laws_machine.specs.OnOrders.Orders as order
-use Rattle.laws_machine.proofs.OnReads.Accesses.{gapped, read_board, busy_before, calm_read}
+use Rattle.laws_machine.proofs.OnReads.Accesses.{busy_before, calm_read}
 use Rattle.laws_machine.proofs.OnOrders.Accesses.{begun_underway, read_between}
 use Rattle.laws_machine.proofs.OnOrders.Steps.{still_keeps}
-use Rattle.laws_machine.specs.OnReads.Timely.{Stalled}
-use Rattle.laws_machine.proofs.OnReads.HeldCalls.{still_in_time, read_in_time, read_stalls}
+use Rattle.laws_machine.proofs.OnReads.HeldCalls.{still_in_time, read_in_time, read_since}
 use Rattle.laws_machine.proofs.OnReads.InTime.{begun_in_time}
 use Rattle.laws_machine.proofs.OnSteps.Short.{shown_short}
 use Rattle.laws_machine.proofs.OnReads.EndMoves.{request_short, asks_up}
 use Rattle.laws_machine.proofs.OnReads.EndSteps.{soon_over, prompting}
+use Rattle.laws_machine.proofs.OnOrders.Beginning.{begun_at}
 
 -- ---- a call that leaves the chips
 
@@ -47,16 +47,11 @@ begun_soon words chips sent task old is gated = record {
 between_soon : (scene : Scene) (byte : ℕ) (old between : Board) → WritesPort 0x3F5 byte old between → CanBegin order.Read scene byte old → is_gated (controller_of old) ≡ true
     → IsSoonOver scene.disk.words_per_track between.bus.chips × (AreShort (holds_of old) → AreShort (holds_of between))
 between_soon scene byte old between writes can gated =
-    let (controller, does, chips_are) = writes.writes.controllers refl in
-    let fdc = controller_of old in
-    let bytes = fdc.command ++ byte ∷ [] in
-    let whole : Accepted = Ready (ReadData scene.sent.head_drive scene.sent.key scene.sent.last_sector can.last.gap can.last.length_code) in
-    let takes = subst (λ accepted. TakesAs accepted (lines_of old) (record fdc { command = kept accepted bytes }) controller) can.last.whole ((does.bytes refl).0 can.last.taking) in
-    let (task, is, waits, after) = (takes.0 can.last.no_seek).1 can.last.dma in
-    let at : between.bus.chips ≡ shown_again (record old.bus.chips { controller = controller }) = ap (λ bus. bus.chips) writes.bus ∙ chips_are in
-    let soon = begun_soon scene.disk.words_per_track old.bus.chips scene.sent task (record fdc { command = kept whole bytes }) is gated in (
-      subst (IsSoonOver scene.disk.words_per_track) (sym at) (subst (λ c. IsSoonOver scene.disk.words_per_track (shown_again (record old.bus.chips { controller = c }))) (sym after) soon),
-      λ short. subst (λ chips. AreShort chips.holding) (sym at) (shown_short (asks controller) (holds_of old) short),
+    let (has, at) = begun_at order.Read scene byte old between writes can.last in
+    let is = subst (order.May order.Read scene new_past) has.after has.may in
+    let soon = begun_soon scene.disk.words_per_track old.bus.chips scene.sent has.task (record (controller_of old) { command = [] }) is gated in (
+      subst (IsSoonOver scene.disk.words_per_track) (sym at) (subst (λ c. IsSoonOver scene.disk.words_per_track (shown_again (record old.bus.chips { controller = c }))) (sym has.after) soon),
+      λ short. subst (λ chips. AreShort chips.holding) (sym at) (shown_short _ (holds_of old) short),
     )
 
 pub begins_soon : (scene : Scene) (byte : ℕ) (old new : Board) → Outputs 0x3F5 byte old new → CanBegin order.Read scene byte old
@@ -68,11 +63,8 @@ pub begins_prompt : (scene : Scene) (byte : ℕ) (old new : Board) → Outputs 0
     → (controller_of old).fifo.on ≡ true → (controller_of old).fifo.threshold ≡ 8 → is_gated (controller_of old) ≡ true
     → ReadPrompt scene new ⊎ Stalled old new
 begins_prompt scene byte old new access can on threshold gated =
-    let timely = begun_in_time scene byte old new access can on threshold gated in
-    elim (runs_until (ReadPrompt scene) (prompting scene) (next_entry access.between.bus.gaps) (gapped access.between) new access.gap.runs (timely.on_time, (between_soon scene byte old access.between access.writes can gated).0)) [
-      | inl on ↦ inl on
-      | inr rose ↦ inr (subst (λ stalls. Rose stalls (holds_of new).stalls) timely.stalls rose)
-    ]
+    let (on_time, stalls) = begun_in_time scene byte old new access can on threshold gated in
+    gap_since (ReadPrompt scene) (prompting scene) old access.between new stalls access.gap (on_time, (between_soon scene byte old access.between access.writes can gated).0)
 
 -- ---- port reads
 
@@ -132,11 +124,7 @@ inputs_soon port value old new access scene (under, soon, short) = elim (read_be
 
 pub inputs_prompt : (port value : ℕ) (old new : Board) → Inputs port old value new → (scene : Scene) → ReadPrompt scene old
     → ReadPrompt scene new ⊎ ((controller_of new).phase ≡ Command) ⊎ Stalled old new
-inputs_prompt port value old new access scene (in_time, soon) = elim (read_in_time port value old new access scene in_time) [
-  | inl on_time ↦ elim (runs_until (ReadPrompt scene) (prompting scene) (next_entry old.bus.gaps) (read_board port old) new access.gap.runs
-      (on_time, read_soon scene.disk.words_per_track old.bus.chips port soon (is_controllers port) (port == 0x3F5))) [
-        | inl on ↦ inl on
-        | inr rose ↦ inr (inr (subst (λ stalls. Rose stalls (holds_of new).stalls) (read_stalls port old) rose))
-      ]
-  | inr over ↦ inr (inl over)
-]
+inputs_prompt port value old new access scene (in_time, soon) = read_since (ReadPrompt scene) (prompting scene) port value old new access (elim (read_in_time port value old new access scene in_time) [
+  | inl on_time ↦ inl (on_time, read_soon scene.disk.words_per_track old.bus.chips port soon (is_controllers port) (port == 0x3F5))
+  | inr over ↦ inr over
+])

@@ -1,13 +1,12 @@
 -- The transfers after the word time of a READ DATA that ends soon.
 use Rattle.std.proofs.Common.{◌≡◌, ◌⊎◌, inl, inr, ℕ, ◌+◌, ◌-◌, ◌*◌, ◌≤◌, ◌==◌, ◌&&◌, ◌||◌, not, nat_le, nat_lt, Bool, true, false, [], length, drop, if◌then◌else◌, refl, sym, ◌∙◌, ap, subst, arith}
-use Rattle.laws_machine.proofs.Common.{Rose, Fifo, room_of, worth_fetching, ReadStage, fifo_told, taken_out, to_memory_of, phase_asks, task_asks, phase_told, is_executing, is_over, is_reading, asks, is_gated, phase_counted, Fdc, Phase, Command, Execute, Result, Task, next_entry, Holds, IsShort, is_due, looked, shown, waited, counted, DmaRequest, Low, High, can_move, moved_to_memory, moved_from_memory, told_if, looked_at, shown_again, Chips, IsRuled, lingers, task_lingers, steps_taken, wait_left, most_steps_of, IsSoonOver, and_from, cases_lt, cond_both, cond-true, eqb-false, false_from_ne_true, false≢true, lt-ltb, grants, moved_up_to}
-use Rattle.fdc_phases.specs.declared.phases.Task.TheVariants.{Read}
-use Rattle.pc_bus.specs.Transfers.{moved, granted, dma_stepped}
+use Rattle.laws_machine.proofs.Common.{Rose, Fifo, room_of, worth_fetching, ReadStage, fifo_told, taken_out, phase_asks, task_asks, phase_told, is_executing, is_over, is_reading, asks, is_gated, phase_counted, Fdc, Phase, Execute, Task, next_entry, Holds, IsShort, is_due, looked, shown, waited, counted, DmaRequest, Low, High, can_move, moved_to_memory, moved_from_memory, told_if, looked_at, shown_again, Chips, IsRuled, lingers, task_lingers, steps_taken, wait_left, most_steps_of, IsSoonOver, and_from, cases_lt, cond-true, eqb-false, false_from_ne_true, false≢true, lt-ltb, grants, moved_up_to, dma_stepped, ReadTask as Read, is_late}
+use Rattle.pc_bus.specs.Transfers.{moved}
 use Rattle.laws_machine.proofs.OnSteps.Stalls.{up_to_holding}
-use Rattle.laws_machine.proofs.OnSteps.Transfers.{up_to}
+use Rattle.laws_machine.proofs.OnSteps.Transfers.{up_to, by_request}
 use Rattle.laws_machine.proofs.OnReads.Served.{served, left_reading}
-use Rattle.laws_machine.specs.OnReads.Ends.{is_late}
 use Rattle.laws_machine.proofs.OnReads.EndWords.{IsReadingAt, HasEnded}
+use Rattle.laws_machine.proofs.OnSteps.Controllers.{by_bytes}
 
 -- ---- how a request is dealt with
 
@@ -17,9 +16,7 @@ pub data Dealt (chips : Chips) : Chips → Type 0 where
   Moves : Dealt chips (shown_again (moved_up_to 16 (looked_at chips)))
 
 pub dealt : (chips : Chips) → Dealt chips (dma_stepped chips)
-unfolding dma_stepped granted
-dealt chips = cond_both (is_due (looked_at chips).holding.request) _ _ (Dealt chips)
-    (λ due. cond_both (grants chips.channel) _ _ (Dealt chips) (λ granting. Moves) (λ masked. Waits (inr masked))) (λ idle. Waits (inl idle))
+dealt chips = by_request (Dealt chips) chips (λ idle. Waits (inl idle)) (λ masked. Waits (inr masked)) (λ granting. Moves)
 
 -- ---- DMA latencies are bytes
 
@@ -71,17 +68,10 @@ idle_told : (phase : Phase) → is_executing phase ≡ false → phase_told phas
 idle_told (Execute execution) idle = absurd (false≢true (sym idle))
 idle_told _ idle = refl
 
-idle_moved : (phase : Phase) → is_executing phase ≡ false → (chips : Chips) → chips.controller.phase ≡ phase → (moved chips).controller.phase ≡ phase
-unfolding moved
-idle_moved phase idle chips was = cond_both (to_memory_of chips.controller) _ _ (λ (c : Chips). c.controller.phase ≡ phase) (λ _. by_last (chips.channel.count == 0) _ was) (λ _. by_last (chips.channel.count == 0) _ was)
-  where
-    by_last : (last : Bool) (fdc : Fdc) → fdc.phase ≡ phase → (told_if last fdc).phase ≡ phase
-    by_last true fdc is = ap phase_told is ∙ idle_told phase idle
-    by_last false fdc is = is
-
 dealt_idle : (chips new : Chips) → Dealt chips new → is_executing chips.controller.phase ≡ false → new.controller.phase ≡ chips.controller.phase
 dealt_idle chips new (Waits why) idle = refl
-dealt_idle chips new Moves idle = up_to (λ c. c.controller.phase ≡ chips.controller.phase) (idle_moved chips.controller.phase idle) 16 (looked_at chips) refl
+dealt_idle chips new Moves idle = up_to (λ c. c.controller.phase ≡ chips.controller.phase)
+    (by_bytes (λ fdc. fdc.phase ≡ chips.controller.phase) (λ fdc is. ap phase_told is ∙ idle_told chips.controller.phase idle) (λ fdc is. is) (λ byte fdc is. is)).one 16 (looked_at chips) refl
 
 -- a READ DATA stays at its stage
 told_none : (b : Bool) (fifo : Fifo) → b ≡ true → (fifo_told b fifo).bytes ≡ []
@@ -111,13 +101,12 @@ asks_some none true over worth is ended = rw is refl
 asks_some none false over worth is ended = rw (is, ended) refl
 
 asks_over : (phase : Phase) (asking : Bool) (fifo : Fifo) → lingers phase ≡ true → (length fifo.bytes == 0) ≡ false → phase_asks phase asking fifo ≡ true
-asks_over Command asking fifo over some = absurd (false≢true over)
-asks_over (Result answer) asking fifo over some = absurd (false≢true over)
 asks_over (Execute execution) asking fifo over some = in_task execution.task over
   where
     in_task : (task : Task) → task_lingers task ≡ true → task_asks task asking fifo ≡ true
     in_task (Read reading) over = asks_some (length fifo.bytes == 0) asking (is_over reading.stage) (nat_le (worth_fetching fifo) (length fifo.bytes)) some over
     in_task _ over = absurd (false≢true over)
+asks_over _ asking fifo over some = absurd (false≢true over)
 
 pub asks_up : (fdc : Fdc) → is_gated fdc ≡ true → IsRuled fdc → lingers fdc.phase ≡ true → (length fdc.fifo.bytes == 0) ≡ false → asks fdc ≡ true
 asks_up fdc gated ruled over some = and_from (is_gated fdc) fdc.asking gated (ruled.rule ∙ asks_over fdc.phase fdc.asking fdc.fifo over some)

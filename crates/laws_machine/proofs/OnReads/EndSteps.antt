@@ -1,8 +1,7 @@
 -- A READ DATA that ends soon, through device steps.
 use Rattle.std.proofs.Common.{◌≡◌, ◌⊎◌, inl, inr, ℕ, ◌+◌, ◌*◌, ◌%◌, ◌≤◌, ◌==◌, bit_and, Bool, true, false, List, length, refl, sym, ◌∙◌, ap, subst, arith}
-use Rattle.laws_machine.proofs.Common.{Rose, DriveState, gate, Past, phase_asks, Sent, MayReadIn, MayReadTask, is_executing, is_over, asks, is_gated, polled, RestsIn, phase_counted, task_counted, Fdc, Phase, Execute, Task, IsShort, Board, controller_of, drive_in, holds_of, Works, Step, looked_at, Chips, Steady, Keeping, Scene, IsScene, track_met, IsHearing, lingers, steps_taken, wait_left, most_steps, most_steps_of, IsSoonOver, ReadSoon, ReadPrompt, cases_Bool, false≢true, grants, paced}
+use Rattle.laws_machine.proofs.Common.{Rose, DriveState, gate, Past, phase_asks, Sent, MayReadIn, MayReadTask, is_executing, is_over, asks, is_gated, polled, RestsIn, phase_counted, task_counted, Fdc, Phase, Execute, Task, IsShort, Board, controller_of, drive_in, holds_of, Works, Step, looked_at, Chips, Steady, Keeping, Scene, IsScene, track_met, IsHearing, lingers, steps_taken, wait_left, most_steps, most_steps_of, IsSoonOver, ReadSoon, ReadPrompt, cases_Bool, false≢true, grants, paced, ReadTask as Read}
 use Rattle.laws_machine.proofs.Facts.{polled_phase}
-use Rattle.fdc_phases.specs.declared.phases.Task.TheVariants.{Read}
 use Rattle.laws_machine.proofs.OnSteps.Short.{holds_stay_short, looked_short}
 use Rattle.laws_machine.proofs.OnSteps.Stalls.{dma_stalls}
 use Rattle.laws_machine.proofs.OnSteps.Words.{selected}

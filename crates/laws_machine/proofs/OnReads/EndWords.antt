@@ -1,12 +1,10 @@
 -- The word time of a READ DATA that ends soon.
 use Rattle.std.proofs.Common.{◌≡◌, ◌⊎◌, inl, inr, ℕ, ◌+◌, ◌*◌, ◌≤◌, ◌==◌, Bool, true, false, List, [], ◌∷◌, ◌++◌, length, refl, sym, ◌∙◌, ap, subst, arith, length-append}
-use Rattle.laws_machine.proofs.Common.{Chrn, content_size, room_of, Past, heard, words_heard, words_in, ReadOutcome, Ending, Late, ReadStage, Sent, MayReadIn, MayReadTask, stepped, is_executing, ExecutesIn, PacedIn, IsPaced, is_hearing, is_over, after_heard, gone_on_reading, at_stage, pushed, is_full, RestsIn, phase_counted, Fdc, Phase, Command, Execute, Result, Reading, Task, IsHeardFrom, lingers, task_lingers, steps_taken, most_steps, cond_both, eqb-false, false≢true, not_from_false, HasFewTurns, gone_on, StageHears, ending_over, same_stage}
+use Rattle.laws_machine.proofs.Common.{Chrn, content_size, room_of, Past, heard, words_heard, words_in, ReadOutcome, Ending, Late, ReadStage, Sent, MayReadIn, MayReadTask, stepped, is_executing, ExecutesIn, PacedIn, IsPaced, is_hearing, is_over, after_heard, gone_on_reading, at_stage, pushed, is_full, RestsIn, phase_counted, Fdc, Phase, Command, Execute, Result, Reading, Task, IsHeardFrom, lingers, task_lingers, steps_taken, most_steps, cond_both, eqb-false, false≢true, not_from_false, HasFewTurns, gone_on, StageHears, ending_over, same_stage, ReadTask as Read, ends_late, is_late}
 use Rattle.fdc_stages.specs.Readings.{IsReading, IsFailure}
 use Rattle.fdc_stages.specs.Readings as given
 use Rattle.fdc_stages.specs.declared.reading.ReadStage.TheVariants as stages
 use Rattle.fdc_stages.proofs.Lawful.{over_full, reading_told, told_most}
-use Rattle.fdc_phases.specs.declared.phases.Task.TheVariants.{Read}
-use Rattle.laws_machine.specs.OnReads.Ends.{ends_late, is_late}
 
 -- ---- words heard
 

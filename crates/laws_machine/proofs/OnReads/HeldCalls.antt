@@ -1,14 +1,14 @@
 -- A READ DATA in time, through waits and port reads.
 use Rattle.std.proofs.Common.{◌≡◌, ◌⊎◌, inl, inr, ℕ, ◌-◌, ◌≤◌, ◌==◌, Bool, true, false, length, if◌then◌else◌, refl, sym, ◌∙◌, ap, subst}
-use Rattle.laws_machine.proofs.Common.{Rose, phase_asks, is_executing, is_overrun, is_reading, given, phase_after, asks, is_gated, Fdc, Phase, Command, Result, next_entry, rest_of, Holds, IsReady, shown, Board, controller_of, holds_of, is_controllers, Inputs, shown_again, Chips, StandsStill, Scene, slack_of, IsPunctualRead, ReadInTime, read_from, Stalled, false≢true, after_read, controller_after, IsEmptiedInTime}
+use Rattle.laws_machine.proofs.Common.{phase_asks, is_executing, is_overrun, is_reading, given, phase_after, asks, is_gated, Fdc, Phase, Command, Result, Holds, IsReady, shown, Board, controller_of, holds_of, is_controllers, Inputs, shown_again, Chips, StandsStill, Scene, slack_of, IsPunctualRead, ReadInTime, read_from, Stalled, false≢true, after_read, controller_after, IsEmptiedInTime, Keeping}
 use Rattle.laws_machine.proofs.Facts.{given_down, shown_stalls}
 use Rattle.laws_machine.proofs.OnReads.InTime.{in_time}
-use Rattle.laws_machine.proofs.OnSteps.Stalls.{runs_until}
-use Rattle.laws_machine.proofs.OnReads.Accesses.{read_board, grants_read, busy_before}
+use Rattle.laws_machine.proofs.OnSteps.Stalls.{gap_since}
+use Rattle.laws_machine.proofs.OnReads.Accesses.{grants_read, busy_before}
 use Rattle.laws_machine.proofs.OnReads.Steps.{reads_there}
 use Rattle.laws_machine.specs.OnOrders.Orders as order
 use Rattle.laws_machine.proofs.OnOrders.Accesses.{read_between}
-use Rattle.laws_machine.proofs.OnOrders.Steps.{still_keeps, underway}
+use Rattle.laws_machine.proofs.OnOrders.Steps.{still_keeps}
 use Rattle.laws_machine.proofs.OnReads.Timely.{slack_low}
 use Rattle.laws_machine.proofs.OnSteps.Controllers.{gated_same}
 
@@ -83,24 +83,27 @@ port_stalls chips port false = refl
 
 -- before the gap
 pub read_in_time : (port value : ℕ) (old new : Board) → Inputs port old value new → (scene : Scene) → ReadInTime scene old
-    → ReadInTime scene (read_board port old) ⊎ ((controller_of new).phase ≡ Command)
+    → ReadInTime scene (read_from port old) ⊎ ((controller_of new).phase ≡ Command)
 read_in_time port value old new access scene ((past, was), punctual) =
     let chips = old.bus.chips in
     let still = read_punctual chips port (reads_there past scene.sent chips.controller.phase chips.controller.asking chips.controller.fifo.bytes was.chips.may) punctual (is_controllers port) (port == 0x3F5) in
     elim (read_between order.Read scene port value old new access (past, was)) [
-      | inl under ↦ inl ((underway order.Read scene).idle (read_from port old) (rest_of old.bus.gaps) false under, still)
+      | inl under ↦ inl (under, still)
       | inr over ↦ inr over
     ]
 
-pub read_stalls : (port : ℕ) (old : Board) → (holds_of (read_board port old)).stalls ≡ (holds_of old).stalls
+pub read_stalls : (port : ℕ) (old : Board) → (holds_of (read_from port old)).stalls ≡ (holds_of old).stalls
 read_stalls port old = port_stalls old.bus.chips port (is_controllers port)
+
+-- after a read of a port: the command is over, or it was so before the gap and each device step keeps it so
+pub read_since : (P : Board → Type 0) → Keeping P → (port value : ℕ) (old new : Board) → Inputs port old value new → P (read_from port old) ⊎ ((controller_of new).phase ≡ Command)
+    → P new ⊎ ((controller_of new).phase ≡ Command) ⊎ Stalled old new
+read_since P keeps port value old new access (inr over) = inr (inl over)
+read_since P keeps port value old new access (inl on) = elim (gap_since P keeps old (read_from port old) new (read_stalls port old) access.gap on) [
+  | inl still ↦ inl still
+  | inr rose ↦ inr (inr rose)
+]
 
 pub inputs_in_time : (port value : ℕ) (old new : Board) → Inputs port old value new → (scene : Scene) → ReadInTime scene old
     → ReadInTime scene new ⊎ ((controller_of new).phase ≡ Command) ⊎ Stalled old new
-inputs_in_time port value old new access scene was = elim (read_in_time port value old new access scene was) [
-  | inl under ↦ elim (runs_until (ReadInTime scene) (in_time scene) (next_entry old.bus.gaps) (read_board port old) new access.gap.runs under) [
-    | inl on_time ↦ inl on_time
-    | inr rose ↦ inr (inr (subst (λ stalls. Rose stalls (holds_of new).stalls) (read_stalls port old) rose))
-  ]
-  | inr over ↦ inr (inl over)
-]
+inputs_in_time port value old new access scene was = read_since (ReadInTime scene) (in_time scene) port value old new access (read_in_time port value old new access scene was)

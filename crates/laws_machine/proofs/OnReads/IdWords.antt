@@ -1,5 +1,5 @@
 -- The word time of a READ ID.
-use Rattle.std.proofs.Common.{◌≡◌, inl, inr, ℕ, ◌+◌, ◌<◌, ◌==◌, Bool, true, false, refl, ◌∙◌, ap, subst, arith}
+use Rattle.std.proofs.Common.{◌≡◌, inl, inr, ℕ, ◌+◌, ◌<◌, ◌==◌, Bool, true, false, refl, ◌∙◌, ap, subst, arith, ◌*◌, ◌≤◌}
 use Rattle.laws_machine.proofs.Common.{DriveState, at_index, Fifo, Past, heard, SearchOutcome, Ending, Late, phase_asks, stepped, is_executing, StepHears, StepsOn, ExecutesTask, PacedIn, IsPaced, is_hearing, is_listening, after_searched, polled, RestsIn, FlowsIn, Fdc, Phase, Command, Execute, Result, Task, ReadId, Works, Chips, Scene, IsScene, track_met, IsHearing, ends_late, is_late, Identify, IsDoneBy, IsMiss, MissesWell, MayReadIdIn, MayReadIdTask, paced_id}
 use Rattle.laws_machine.proofs.Facts.{polled_asking, polled_phase}
 use Rattle.fdc_stages.specs.Searches as searched
@@ -10,12 +10,8 @@ use Rattle.laws_machine.proofs.OnOrders.Behind.{IsDoing, IsBehind, Listening}
 
 -- ---- the task
 
-sent_task : (past : Past) (sent head_drive steps : ℕ) (task : Task) → MayReadIdTask past sent head_drive steps task → head_drive ≡ sent
-sent_task past sent head_drive steps (ReadId search) was = was.sent_is
-sent_task past sent head_drive steps _ was = absurd was
-
-pub listens_id : (past : Past) (sent head_drive steps : ℕ) (task : Task) → MayReadIdTask past sent head_drive steps task → is_listening task ≡ true
-listens_id past sent head_drive steps (ReadId search) was = refl
+pub listens_id : (past : Past) (sent head_drive steps : ℕ) (task : Task) → MayReadIdTask past sent head_drive steps task → (head_drive ≡ sent) × (is_listening task ≡ true) × (is_hearing task ≡ true)
+listens_id past sent head_drive steps (ReadId search) was = (was.sent_is, refl, refl)
 listens_id past sent head_drive steps _ was = absurd was
 
 -- a READ ID never asks for DMA
@@ -30,12 +26,12 @@ low_in past sent _ asking fifo was = refl
 
 -- ---- how long it takes
 
-few_task : (scene : Scene) (past : Past) (steps : ℕ) (executes : Bool) (drive : DriveState) → IsScene scene → IsHearing scene past executes drive
-    → IsPaced past steps true → steps < 65535
-few_task scene past steps executes drive whole hears pace =
+-- it hears two revolutions at most
+pub id_few : (scene : Scene) (past : Past) (steps : ℕ) (executes : Bool) (drive : DriveState) → IsScene scene → IsHearing scene past executes drive
+    → IsPaced past steps true → steps ≤ 2 * scene.disk.words_per_track
+id_few scene past steps executes drive whole hears pace =
     let words = words_few (track_met scene) scene.from past.turns past.seen hears.heard (pace.few refl) in
     let long = length-met scene whole.disk in
-    let size = whole.disk.words_per_track.1 in
     let heard = pace.heard_are in
     omega arith
 
@@ -55,10 +51,6 @@ late_task past sent head_drive steps (ReadId search) index word polls new was fe
 ]
 late_task past sent head_drive steps _ index word polls new was few does = absurd was
 
-hearing_id : (past : Past) (sent head_drive steps : ℕ) (task : Task) → MayReadIdTask past sent head_drive steps task → is_hearing task ≡ true
-hearing_id past sent head_drive steps (ReadId search) was = refl
-hearing_id past sent head_drive steps _ was = absurd was
-
 -- ---- the word time
 
 -- such a command in execution has steps left
@@ -67,7 +59,7 @@ IsBrief P = (past : Past) (steps : ℕ) (drive : DriveState) → P past true dri
 
 id_hearkens : (scene : Scene) (past : Past) (phase : Phase) → MayReadIdIn past scene.sent.head_drive phase → Hearkens scene phase
 id_hearkens scene past (Execute execution) was =
-    (sent_task past scene.sent.head_drive execution.head_drive execution.steps execution.task was, listens_id past scene.sent.head_drive execution.head_drive execution.steps execution.task was)
+    let (head, listens, hears) = listens_id past scene.sent.head_drive execution.head_drive execution.steps execution.task was in (head, listens)
 id_hearkens scene past _ was = tt
 
 shows_id : (scene : Scene) (P : Past → Bool → DriveState → Type 0) → IsBrief P → (past : Past) (old between : Fdc) (drive after : DriveState) → old.asking ≡ false → (phase : Phase) → (polled old).phase ≡ phase
@@ -76,8 +68,8 @@ shows_id : (scene : Scene) (P : Past → Bool → DriveState → Type 0) → IsB
 shows_id scene P brief past old between drive after low Command is calm was pace hears steps rests flows = absurd was
 shows_id scene P brief past old between drive after low (Execute execution) is calm was pace hears steps rests flows =
     let sent = scene.sent.head_drive in
-    let listens = listens_id past sent execution.head_drive execution.steps execution.task was in
-    let few = brief past execution.steps drive hears (subst (IsPaced past execution.steps) (hearing_id past sent execution.head_drive execution.steps execution.task was) pace) in (
+    let (head, listens, hearing) = listens_id past sent execution.head_drive execution.steps execution.task was in
+    let few = brief past execution.steps drive hears (subst (IsPaced past execution.steps) hearing pace) in (
       flows ∙ low_in (heard (at_index drive) steps.word (stepped past)) sent between.phase old.asking between.fifo (steps.follows.identifies past sent was),
       late_task past sent execution.head_drive execution.steps execution.task (at_index drive) steps.word (polled old) between was few
           (subst (λ b. ExecutesTask b execution.head_drive execution.steps execution.task (at_index drive) steps.word (polled old) between) listens steps.follows.executes),
@@ -98,4 +90,5 @@ listened scene P listening brief past chips drive between after known hears work
 pub word_time : (scene : Scene) (past : Past) (chips : Chips) (drive : DriveState) (between : Fdc) (after : DriveState) → IsScene scene → IsDoneBy Identify scene past chips
     → IsHearing scene past (is_executing chips.controller.phase) drive → Works chips.controller drive between after → IsBehind Identify scene (record chips { controller = between }) after
 word_time scene past chips drive between after whole known hears works =
-    listened scene (IsHearing scene) (listening scene whole) (λ past steps drive hears pace. few_task scene past steps true drive whole hears pace) past chips drive between after known hears works
+    listened scene (IsHearing scene) (listening scene whole) (λ past steps drive hears pace.
+    let few = id_few scene past steps true drive whole hears pace in let size = whole.disk.words_per_track.1 in omega arith) past chips drive between after known hears works

@@ -1,15 +1,15 @@
 -- A READ DATA in time, through device steps.
-use Rattle.std.proofs.Common.{◌≡◌, ◌⊎◌, inl, inr, ℕ, ◌%◌, ◌&&◌, Bool, true, false, [], ◌∷◌, ◌++◌, refl, sym, ◌∙◌, ap, subst, arith}
-use Rattle.laws_machine.proofs.Common.{Rose, emptied, kept, Accepted, Ready, ReadData, TakesAs, begun, IsReadingData, Sent, is_gated, Fdc, Task, next_entry, rest_of, Holds, IsReady, shown, Low, Board, controller_of, drive_in, holds_of, selected_of, lines_of, Outputs, Step, shown_again, Chips, CanBegin, Scene, Keeping, Stalled, IsPunctualRead, ReadInTime, and_right, false≢true, dma_stepped}
+use Rattle.std.proofs.Common.{◌≡◌, ◌⊎◌, inl, inr, ℕ, ◌%◌, ◌&&◌, Bool, true, false, [], refl, sym, ◌∙◌, ap, subst, arith}
+use Rattle.laws_machine.proofs.Common.{Rose, emptied, begun, IsReadingData, Sent, is_gated, Fdc, Task, Holds, IsReady, shown, Low, Board, controller_of, drive_in, holds_of, selected_of, Outputs, Step, shown_again, Chips, CanBegin, Scene, Keeping, Stalled, IsPunctualRead, ReadInTime, and_right, false≢true, dma_stepped, new_past}
 use Rattle.laws_machine.proofs.Facts.{quiet_task, shown_stalls}
 use Rattle.laws_machine.specs.OnOrders.Orders as order
 use Rattle.laws_machine.proofs.OnSteps.Words.{selected}
-use Rattle.laws_machine.proofs.OnSteps.Stalls.{runs_until}
-use Rattle.laws_machine.proofs.OnReads.Accesses.{gapped}
+use Rattle.laws_machine.proofs.OnSteps.Stalls.{gap_since}
 use Rattle.laws_machine.proofs.OnOrders.Accesses.{begun_underway}
 use Rattle.laws_machine.proofs.OnOrders.Steps.{underway}
 use Rattle.laws_machine.proofs.OnReads.Steps.{word_time}
 use Rattle.laws_machine.proofs.OnReads.Timely.{in_step}
+use Rattle.laws_machine.proofs.OnOrders.Beginning.{begun_at}
 
 -- ---- one device step
 
@@ -57,45 +57,20 @@ begun_punctual chips sent task old is on threshold gated = record {
 }
 
 -- before the gap
-pub record HasBegun (scene : Scene) (old between : Board) : Type 0 where
-  pub head_drive : ℕ
-  pub task : Task
-  pub was : Fdc
-  pub chips : between.bus.chips ≡ shown_again (record old.bus.chips { controller = begun head_drive task was })
-  pub on_time : ReadInTime scene (gapped between)
-  pub stalls : (holds_of between).stalls ≡ (holds_of old).stalls
-
 pub begun_in_time : (scene : Scene) (byte : ℕ) (old new : Board) → (access : Outputs 0x3F5 byte old new) → CanBegin order.Read scene byte old
     → (controller_of old).fifo.on ≡ true → (controller_of old).fifo.threshold ≡ 8 → is_gated (controller_of old) ≡ true
-    → HasBegun scene old access.between
+    → ReadInTime scene access.between × ((holds_of access.between).stalls ≡ (holds_of old).stalls)
 begun_in_time scene byte old new access can on threshold gated =
-    let (controller, writes, chips_are) = access.writes.writes.controllers refl in
-    let fdc = controller_of old in
-    let bytes = fdc.command ++ byte ∷ [] in
-    let whole : Accepted = Ready (ReadData scene.sent.head_drive scene.sent.key scene.sent.last_sector can.last.gap can.last.length_code) in
-    let takes = subst (λ accepted. TakesAs accepted (lines_of old) (record fdc { command = kept accepted bytes }) controller) can.last.whole ((writes.bytes refl).0 can.last.taking) in
-    let (task, is, waits, after) = (takes.0 can.last.no_seek).1 can.last.dma in
-    let at : access.between.bus.chips ≡ shown_again (record old.bus.chips { controller = controller }) = ap (λ bus. bus.chips) access.writes.bus ∙ chips_are in
+    let (has, at) = begun_at order.Read scene byte old access.between access.writes can.last in
+    let is = subst (order.May order.Read scene new_past) has.after has.may in
     let punctual : IsPunctualRead access.between.bus.chips = subst IsPunctualRead (sym at)
-    (subst (λ c. IsPunctualRead (shown_again (record old.bus.chips { controller = c }))) (sym after) (begun_punctual old.bus.chips scene.sent task (record fdc { command = kept whole bytes }) is on threshold gated)) in
-    record {
-      head_drive = scene.sent.head_drive;
-      task = task;
-      was = record fdc { command = kept whole bytes };
-      chips = at ∙ ap (λ c. shown_again (record old.bus.chips { controller = c })) after;
-      on_time = (
-        (underway order.Read scene).idle access.between (rest_of access.between.bus.gaps) access.between.bus.fresh (begun_underway order.Read scene byte old access.between access.writes can),
-        punctual,
-      );
-      stalls = ap (λ chips. chips.holding.stalls) at ∙ shown_stalls _ old.bus.chips.holding;
-    }
+    (subst (λ c. IsPunctualRead (shown_again (record old.bus.chips { controller = c }))) (sym has.after)
+    (begun_punctual old.bus.chips scene.sent has.task (record (controller_of old) { command = [] }) is on threshold gated)) in
+    ((begun_underway order.Read scene byte old access.between access.writes can, punctual), ap (λ chips. chips.holding.stalls) at ∙ shown_stalls _ old.bus.chips.holding)
 
 pub begins_in_time : (scene : Scene) (byte : ℕ) (old new : Board) → Outputs 0x3F5 byte old new → CanBegin order.Read scene byte old
     → (controller_of old).fifo.on ≡ true → (controller_of old).fifo.threshold ≡ 8 → is_gated (controller_of old) ≡ true
     → ReadInTime scene new ⊎ Stalled old new
 begins_in_time scene byte old new access can on threshold gated =
-    let has = begun_in_time scene byte old new access can on threshold gated in
-    elim (runs_until (ReadInTime scene) (in_time scene) (next_entry access.between.bus.gaps) (gapped access.between) new access.gap.runs has.on_time) [
-      | inl on_time ↦ inl on_time
-      | inr rose ↦ inr (subst (λ stalls. Rose stalls (holds_of new).stalls) has.stalls rose)
-    ]
+    let (on_time, stalls) = begun_in_time scene byte old new access can on threshold gated in
+    gap_since (ReadInTime scene) (in_time scene) old access.between new stalls access.gap on_time

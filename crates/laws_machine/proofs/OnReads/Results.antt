@@ -1,9 +1,7 @@
 -- From the words that were heard to the track.
 use Rattle.std.proofs.Common.{◌≡◌, inl, inr, ℕ, ◌+◌, ◌*◌, ◌<◌, ◌≤◌, Bool, true, false, List, Some, length, refl, sym, ◌∙◌, subst, arith}
-use Rattle.laws_machine.proofs.Common.{NoData, BadCrc, IsSizeCode, content_size, content_at, HasAddressMark, IsIntact, HasDataField, Past, HasNoClear, IsFoundAt, FindsNoSector, Ending, Done, NoMark, NoSector, NoField, BadCheck, NoCount, Protected, ReadMeansIn, Long, Phase, Result, IsHeardFrom, IsWholeFrom, intact_of, Scene, track_met, HasBytes, IsMoved, Channel, ReadEndedIn, StaysOutside, false≢true, HasLook, ReadMeans, FindsUncounted, mark_heard, address_heard, data_mark_heard, field_heard, found_on, lone_found, IsCalm, between_is, turn_heard}
-use Rattle.fdc_stages.specs.Findings.{FindsBadCheck, FindsNoField, FindsNoMark}
+use Rattle.laws_machine.proofs.Common.{NoData, BadCrc, IsSizeCode, content_size, content_at, HasAddressMark, IsIntact, HasDataField, Past, HasNoClear, IsFoundAt, FindsNoSector, Ending, Done, NoMark, NoSector, NoField, BadCheck, NoCount, Protected, ReadMeansIn, Long, Phase, Result, IsHeardFrom, IsWholeFrom, intact_of, Scene, track_met, HasBytes, IsMoved, Channel, ReadEndedIn, StaysOutside, false≢true, HasLook, ReadMeans, FindsUncounted, mark_heard, address_heard, data_mark_heard, field_heard, found_on, lone_found, IsCalm, between_is, turn_heard, FindsBadCheck, FindsNoField, FindsNoMark, FindsField, ReadEndsAs}
 use Rattle.fdc_core.proofs.drives.Looks.{bad_met, no_field_met}
-use Rattle.laws_machine.specs.OnReads.Results.{FindsField, ReadEndsAs}
 
 -- ---- the endings
 

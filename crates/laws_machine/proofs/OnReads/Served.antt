@@ -1,11 +1,8 @@
 -- A request that is served falls.
 use Rattle.std.proofs.Common.{◌≡◌, ℕ, zero, suc, ◌+◌, ◌-◌, ◌≤◌, ◌==◌, ◌&&◌, ◌||◌, not, nat_le, Bool, true, false, List, [], ◌∷◌, ◌++◌, length, drop, if◌then◌else◌, refl, sym, ◌∙◌, subst, arith, length-append}
-use Rattle.laws_machine.proofs.Common.{Fifo, room_of, worth_fetching, taken_out, taken_in, with_byte, fifo_told, asking_told, task_asks, phase_asks, task_told, phase_told, is_reading, is_read, is_moving, is_over, asks, is_gated, Fdc, Phase, Execute, Task, ReadId, Format, can_move, moved_to_memory, moved_from_memory, byte_read, told_if, Chips, IsRuled, and_parts, false≢true, grants}
+use Rattle.laws_machine.proofs.Common.{Fifo, room_of, worth_fetching, taken_out, taken_in, with_byte, fifo_told, asking_told, task_asks, phase_asks, task_told, phase_told, is_reading, is_read, is_moving, is_over, asks, is_gated, Fdc, Phase, Execute, Task, ReadId, Format, can_move, moved_to_memory, moved_from_memory, byte_read, told_if, Chips, IsRuled, and_parts, false≢true, grants, low_level, ReadTask as Read, WriteTask as Write, GoesByRule, moves_left}
 use Rattle.laws_machine.proofs.Facts.{different}
-use Rattle.fdc_registers.specs.Fifo.{low_level}
-use Rattle.fdc_phases.specs.declared.phases.Task.TheVariants.{Read, Write}
 use Rattle.pc_bus.specs.Transfers.{moved, moved_up_to}
-use Rattle.laws_machine.specs.OnReads.Served.{GoesByRule, moves_left}
 use Rattle.laws_machine.proofs.OnSteps.Transfers.{up_to_moves}
 
 -- ---- tests

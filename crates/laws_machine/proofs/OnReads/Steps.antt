@@ -1,24 +1,16 @@
 -- The word time of a READ DATA.
 use Rattle.std.proofs.Common.{◌≡◌, inl, inr, ℕ, ◌/◌, ◌%◌, ◌≤◌, ◌==◌, Bool, true, false, List, Option, Some, None, if◌then◌else◌, refl, sym, ◌∙◌, ap, subst, arith}
-use Rattle.laws_machine.proofs.Common.{DriveState, at_index, Fifo, Past, phase_asks, Sent, MayReadIn, MayReadTask, is_executing, StepHears, SeesUnder, is_listening, is_reading, polled, RestsIn, Moves, MovesTask, MovesIn, FlowsIn, Fdc, Phase, Command, Execute, Result, Task, Works, Chips, place_in, IsHeardFrom, IsWholeFrom, Scene, IsScene, head_sent, track_met, IsHearing, IsMoved, IsDoneBy, Order, May, Shows, false≢true, past_after, SeesTask, Moved}
+use Rattle.laws_machine.proofs.Common.{DriveState, at_index, Fifo, Past, phase_asks, Sent, MayReadIn, MayReadTask, is_executing, StepHears, SeesUnder, is_listening, is_reading, polled, RestsIn, Moves, MovesTask, MovesIn, FlowsIn, Fdc, Phase, Execute, Task, Works, Chips, place_in, IsHeardFrom, IsWholeFrom, Scene, IsScene, head_sent, track_met, IsHearing, IsMoved, IsDoneBy, Order, May, Shows, false≢true, past_after, SeesTask, Moved, ReadTask as Read}
 use Rattle.laws_machine.proofs.Facts.{polled_asking, polled_phase}
-use Rattle.fdc_phases.specs.declared.phases.Task.TheVariants.{Read}
 use Rattle.laws_machine.proofs.OnReads.Words.{hearing_on, hearing_over}
 use Rattle.laws_machine.specs.OnOrders.Orders as order
 use Rattle.laws_machine.proofs.OnOrders.Behind.{IsDoing, IsBehind, Listening}
 
--- ---- the poll
-
 -- ---- the word time
 
-sent_task : (past : Past) (sent : Sent) (head_drive steps : ℕ) (task : Task) (asking : Bool) (fifo : List ℕ) → MayReadTask past sent head_drive steps task asking fifo
-    → head_drive ≡ sent.head_drive
-sent_task past sent head_drive steps (Read reading) asking fifo (asks, (told, underway)) = ap (λ s. s.head_drive) underway.sent_is
-sent_task past sent head_drive steps _ asking fifo was = absurd was
-
 pub listens_task : (past : Past) (sent : Sent) (head_drive steps : ℕ) (task : Task) (asking : Bool) (fifo : List ℕ) → MayReadTask past sent head_drive steps task asking fifo
-    → is_listening task ≡ true
-listens_task past sent head_drive steps (Read reading) asking fifo was = refl
+    → (head_drive ≡ sent.head_drive) × (is_listening task ≡ true)
+listens_task past sent head_drive steps (Read reading) asking fifo (asks, (told, underway)) = (ap (λ s. s.head_drive) underway.sent_is, refl)
 listens_task past sent head_drive steps _ asking fifo was = absurd was
 
 pub asks_busy : (phase : Phase) (asking : Bool) (fifo : Fifo) → phase_asks phase asking fifo ≡ true → is_executing phase ≡ true
@@ -52,8 +44,7 @@ Hearkens scene (Execute execution) = (execution.head_drive ≡ scene.sent.head_d
 Hearkens scene _ = Unit {0}
 
 read_hearkens : (scene : Scene) (past : Past) (phase : Phase) (asking : Bool) (fifo : List ℕ) → MayReadIn past scene.sent phase asking fifo → Hearkens scene phase
-read_hearkens scene past (Execute execution) asking fifo was =
-    (sent_task past scene.sent execution.head_drive execution.steps execution.task asking fifo was, listens_task past scene.sent execution.head_drive execution.steps execution.task asking fifo was)
+read_hearkens scene past (Execute execution) asking fifo was = listens_task past scene.sent execution.head_drive execution.steps execution.task asking fifo was
 read_hearkens scene past _ asking fifo was = tt
 
 -- what the command hears goes on, and rests once the command is over
@@ -107,14 +98,13 @@ word_time scene past chips drive between after whole known hears works = listene
 
 -- a READ DATA in execution reads
 pub reads_there : (past : Past) (sent : Sent) (phase : Phase) (asking : Bool) (fifo : List ℕ) → MayReadIn past sent phase asking fifo → is_executing phase ≡ true → is_reading phase ≡ true
-reads_there past sent Command asking fifo was busy = absurd was
-reads_there past sent (Result answer) asking fifo was busy = absurd cc
 reads_there past sent (Execute execution) asking fifo was busy = in_task execution.task execution.head_drive execution.steps was
   where
     in_task : (task : _) (head_drive steps : ℕ) → MayReadIn past sent (Execute (record { head_drive = head_drive; steps = steps; task = task })) asking fifo
         → is_reading (Execute (record { head_drive = head_drive; steps = steps; task = task })) ≡ true
     in_task (Read reading) head_drive steps was = refl
     in_task _ head_drive steps was = absurd was
+reads_there past sent _ asking fifo was busy = absurd (false≢true busy)
 
 -- the same words were heard
 pub record SameWords (past now : Past) : Type 0 where

@@ -1,8 +1,7 @@
 -- A READ DATA in time, step by step.
 use Rattle.std.proofs.Common.{◌≡◌, ◌⊎◌, inl, inr, ℕ, ◌+◌, ◌<◌, ◌≤◌, ◌==◌, ◌&&◌, ◌||◌, not, nat_le, Bool, true, false, List, length, refl, sym, ◌∙◌, ap, subst, arith}
-use Rattle.laws_machine.proofs.Common.{Rose, DriveState, Fifo, room_of, worth_fetching, Past, task_asks, phase_asks, Sent, MayReadIn, MayReadTask, is_executing, is_reading, is_read, is_overrun, is_over, is_full, asks, is_gated, polled, RestsIn, FlowsIn, Fdc, Phase, Command, Execute, Result, Task, Holds, IsReady, IsInTime, is_due, shown, DmaRequest, Low, High, in_time, Works, looked_at, shown_again, Chips, Scene, IsDoneBy, IsRuled, slack_of, IsPunctualRead, false_from_ne_true, false≢true, nat_tests, grants, OverrunsIn, OverrunsTask, moved_up_to, dma_stepped, IsEmptiedInTime}
+use Rattle.laws_machine.proofs.Common.{Rose, DriveState, Fifo, room_of, worth_fetching, Past, task_asks, phase_asks, Sent, MayReadIn, MayReadTask, is_executing, is_reading, is_read, is_overrun, is_over, is_full, asks, is_gated, polled, RestsIn, FlowsIn, Fdc, Phase, Command, Execute, Result, Task, Holds, IsReady, IsInTime, is_due, shown, DmaRequest, Low, High, in_time, Works, looked_at, shown_again, Chips, Scene, IsDoneBy, IsRuled, slack_of, IsPunctualRead, false_from_ne_true, false≢true, nat_tests, grants, OverrunsIn, OverrunsTask, moved_up_to, dma_stepped, IsEmptiedInTime, ReadTask as Read}
 use Rattle.laws_machine.proofs.Facts.{number_is, polled_phase, some_of}
-use Rattle.fdc_phases.specs.declared.phases.Task.TheVariants.{Read}
 use Rattle.laws_machine.specs.OnOrders.Orders as order
 use Rattle.laws_machine.proofs.OnReads.Steps.{reads_there, IsBetween}
 use Rattle.laws_machine.proofs.OnSteps.Stalls.{dma_stalls}
@@ -92,10 +91,6 @@ ready_one (High left) slack enough = let some = enough.0 in let all = enough.1 i
 
 -- ---- the transfers
 
--- if the channel doesn't grant, the request is looked at alone
-idle_dma : (chips : Chips) → grants chips.channel ≡ false → dma_stepped chips ≡ looked_at chips
-idle_dma chips masked = by_request (λ c. c ≡ looked_at chips) chips (λ _. refl) (λ _. refl) (λ granting. absurd (false≢true (sym masked ∙ granting)))
-
 pub first_low : (a b : Bool) → (a && b) ≡ false → b ≡ true → a ≡ false
 first_low true b h is = absurd (false≢true (sym h ∙ is))
 first_low false b h is = refl
@@ -120,30 +115,24 @@ timely_served chips mode ruled reading room =
           ready_low (asks then_chips.controller) then_chips.holding (slack_of then_chips.controller) low (slack_low then_chips then_mode falls.ruled.rule then_reading low);
     }
 
+-- a request that was only looked at
+timely_looked : (chips : Chips) → HasMode chips.controller → chips.controller.asking ≡ phase_asks chips.controller.phase chips.controller.asking chips.controller.fifo
+    → (grants chips.channel ≡ true → IsReady (looked_at chips).holding.request (slack_of chips.controller)) → IsEmptiedInTime (looked_at chips)
+timely_looked chips mode rule ready = record { on = mode.on; threshold = mode.threshold; gated = mode.gated; rule = rule; ready = ready }
+
 timely_dma : (chips : Chips) → grants chips.channel ≡ true → HasMode chips.controller → IsRuled chips.controller → is_reading chips.controller.phase ≡ true
     → length chips.controller.fifo.bytes ≤ 16
     → IsInTime (looked_at chips).holding.request (slack_of chips.controller) → IsEmptiedInTime (dma_stepped chips)
 timely_dma chips granting mode ruled reading room enough = by_request IsEmptiedInTime chips
-    (λ is. record {
-      on = mode.on;
-      threshold = mode.threshold;
-      gated = mode.gated;
-      rule = ruled.rule;
-      ready = λ _. not_due (looked_at chips).holding.request
-          (slack_of chips.controller) enough is;
-    })
+    (λ is. timely_looked chips mode ruled.rule (λ _. not_due (looked_at chips).holding.request (slack_of chips.controller) enough is))
     (λ masked. absurd (false≢true (sym masked ∙ granting))) (λ _. timely_served (looked_at chips) mode ruled reading room)
 
 -- a READ DATA in time, if the channel doesn't grant
 timely_idle : (chips : Chips) → grants chips.channel ≡ false → HasMode chips.controller
     → chips.controller.asking ≡ phase_asks chips.controller.phase chips.controller.asking chips.controller.fifo → IsEmptiedInTime (dma_stepped chips)
-timely_idle chips masked mode rule = subst IsEmptiedInTime (sym (idle_dma chips masked)) (record {
-  on = mode.on;
-  threshold = mode.threshold;
-  gated = mode.gated;
-  rule = rule;
-  ready = λ granting. absurd (false≢true (sym masked ∙ granting));
-})
+timely_idle chips masked mode rule =
+    let looked = timely_looked chips mode rule (λ granting. absurd (false≢true (sym masked ∙ granting))) in
+    by_request IsEmptiedInTime chips (λ _. looked) (λ _. looked) (λ granting. absurd (false≢true (sym masked ∙ granting)))
 
 -- ---- the device step
 

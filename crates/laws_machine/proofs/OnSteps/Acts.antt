@@ -1,7 +1,7 @@
 -- What is done in no device step, at the controller.
-use Rattle.std.proofs.Common.{◌≡◌, ℕ, ◌==◌, Bool, true, false, refl, sym, ◌∙◌, ap, subst}
-use Rattle.laws_machine.proofs.Common.{given, Fdc, Lines, Board, controller_of, lines_of, WritesPort, is_controllers, port_read, Acts}
-use Rattle.fdc_core.specs.Ports.{Writes}
+use Rattle.std.proofs.Common.{◌≡◌, ℕ, ◌==◌, Bool, true, false, refl, sym, ◌∙◌, ap, subst, [], ◌∷◌, ◌++◌, if◌then◌else◌}
+use Rattle.laws_machine.proofs.Common.{given, Fdc, Lines, Board, controller_of, lines_of, WritesPort, is_controllers, port_read, Acts, PortWrites as Writes, DataRate, Dor, TakesAs, answer, kept, dsr_resets, is_taking, rate_chosen, reset}
+use Rattle.laws_machine.proofs.Facts.{number_is}
 
 -- nothing, a read of the data port, or a write
 pub data Touches (old : Fdc) : Fdc → Type 0 where
@@ -28,3 +28,25 @@ at_controller old new (Acts.Writes port value last writes) = at_write port value
 at_controller old new Acts.Takes = Touches.Leaves (controller_of old) refl
 at_controller old new (Acts.Sets address value) = Touches.Leaves (controller_of old) refl
 at_controller old new (Acts.Handles bay last touches) = Touches.Leaves (controller_of last) (ap (λ bus. bus.chips.controller) touches.bus)
+
+-- ---- a write, by its port
+
+-- what holds if DOR and the rate are set, with a reset or without one, and if a byte of a command is taken
+pub by_write : (P : Fdc → Type 0) (port value : ℕ) (lines : Lines) (old new : Fdc) → Writes port value lines old new
+    → ((resets : Bool) (dor : Dor) (rate : DataRate) → P (if resets then reset (record old { dor = dor; rate = rate }) else record old { dor = dor; rate = rate }))
+    → (TakesAs (answer (old.command ++ value ∷ [])) lines (record old { command = kept (answer (old.command ++ value ∷ [])) (old.command ++ value ∷ []) }) new → P new) → P new
+by_write P port value lines old new writes set takes = by_port (port == 0x3F2) (port == 0x3F4) (port == 0x3F5) (port == 0x3F7) refl refl refl refl
+  where
+    same : new ≡ old → P new
+    same is = subst P (sym is) (set false old.dor old.rate)
+
+    by_taking : port ≡ 0x3F5 → (b : Bool) → is_taking old ≡ b → P new
+    by_taking is true taking = takes ((writes.bytes is).0 taking)
+    by_taking is false taking = same ((writes.bytes is).1 taking)
+
+    by_port : (a b c d : Bool) → (port == 0x3F2) ≡ a → (port == 0x3F4) ≡ b → (port == 0x3F5) ≡ c → (port == 0x3F7) ≡ d → P new
+    by_port true b c d p q r s = subst P (sym (writes.output (number_is port 0x3F2 p))) (set _ (record { 0 = value }) old.rate)
+    by_port false true c d p q r s = subst P (sym (writes.select (number_is port 0x3F4 q))) (set (dsr_resets value) old.dor (rate_chosen value))
+    by_port false false true d p q r s = by_taking (number_is port 0x3F5 r) (is_taking old) refl
+    by_port false false false true p q r s = subst P (sym (writes.control (number_is port 0x3F7 s))) (set false old.dor (rate_chosen value))
+    by_port false false false false p q r s = same (writes.others p q r s)

@@ -1,10 +1,9 @@
 -- What a poll and transfers leave of the controller.
-use Rattle.std.proofs.Common.{◌≡◌, ℕ, ◌==◌, bit_and, Bool, true, false, List, if◌then◌else◌, refl, ◌∙◌, ap, ◌&&◌, sym, subst}
-use Rattle.laws_machine.proofs.Common.{Fifo, gate, Dor, taken_in, taken_out, to_memory_of, told_count, phase_told, task_told, is_executing, is_overrun, is_read, is_reading, is_gated, polled, Fdc, Phase, Command, Execute, Result, Task, ReadId, Format, moved_to_memory, moved_from_memory, byte_read, told_if, Chips, Transferred, dor_of, asks, is_due, looked, Low, RestsIn, Board, controller_of, Step, granted, and_right, false≢true}
-use Rattle.laws_machine.proofs.Facts.{polled_keeps, told_busy, polled_phase}
-use Rattle.fdc_phases.specs.declared.phases.Task.TheVariants.{Read, Write}
+use Rattle.std.proofs.Common.{◌≡◌, ℕ, ◌==◌, bit_and, Bool, true, false, if◌then◌else◌, refl, ◌∙◌, ap, ◌&&◌, sym, subst, length, ◌++◌, ◌∷◌, []}
+use Rattle.laws_machine.proofs.Common.{Fifo, gate, Dor, taken_in, taken_out, to_memory_of, told_count, phase_told, task_told, is_executing, is_overrun, is_read, is_reading, is_gated, polled, Fdc, Phase, Command, moved_to_memory, moved_from_memory, byte_read, told_if, Chips, Transferred, asks, is_due, looked, Low, RestsIn, Board, controller_of, Step, granted, and_right, false≢true, fifo_told, room_of, moved_up_to, seek_stepped, Execute}
+use Rattle.laws_machine.proofs.Facts.{polled_keeps, told_busy, polled_phase, each_task, told_keeps, if_both}
 use Rattle.pc_bus.specs.Transfers.{moved, dma_stepped}
-use Rattle.laws_machine.proofs.OnSteps.Transfers.{served, after_step}
+use Rattle.laws_machine.proofs.OnSteps.Transfers.{served, after_step, up_to}
 use Rattle.laws_machine.proofs.OnSteps.Words.{controller}
 
 -- ---- a poll
@@ -64,46 +63,42 @@ controller_dma F told out into chips =
 
 -- ---- phases after TC
 
-told_overrun : (phase : Phase) → is_overrun (phase_told phase) ≡ is_overrun phase
-told_overrun Command = refl
-told_overrun (Result answer) = refl
-told_overrun (Execute execution) = refl
-
 pub told_reading : (phase : Phase) → is_reading (phase_told phase) ≡ is_reading phase
-told_reading Command = refl
-told_reading (Result answer) = refl
-told_reading (Execute execution) = in_task execution.task
-  where
-    in_task : (task : Task) → is_read (task_told task) ≡ is_read task
-    in_task (ReadId search) = refl
-    in_task (Read reading) = refl
-    in_task (Write writing) = refl
-    in_task (Format formatting) = refl
+told_reading = told_keeps is_reading (λ execution. each_task (λ task. is_read (task_told task) ≡ is_read task) (λ _. refl) (λ _. refl) (λ _. refl) (λ _. refl) execution.task)
 
 pub dma_executing : (value : Bool) (chips : Chips) → is_executing chips.controller.phase ≡ value → is_executing (dma_stepped chips).controller.phase ≡ value
 dma_executing value chips was = phase_dma is_executing told_busy chips ∙ was
 
 pub dma_overrun : (value : Bool) (chips : Chips) → is_overrun chips.controller.phase ≡ value → is_overrun (dma_stepped chips).controller.phase ≡ value
-dma_overrun value chips was = phase_dma is_overrun told_overrun chips ∙ was
-
--- ---- the mode of the FIFO after TC and after a byte
-
-pub byte_on : (full : Bool) (fifo : Fifo) (bytes : List ℕ) → (if full then fifo else record fifo { bytes = bytes }).on ≡ fifo.on
-byte_on true fifo bytes = refl
-byte_on false fifo bytes = refl
-
-pub byte_threshold : (full : Bool) (fifo : Fifo) (bytes : List ℕ) → (if full then fifo else record fifo { bytes = bytes }).threshold ≡ fifo.threshold
-byte_threshold true fifo bytes = refl
-byte_threshold false fifo bytes = refl
+dma_overrun value chips was = phase_dma is_overrun (told_keeps is_overrun (λ _. refl)) chips ∙ was
 
 -- ---- what transfers leave
 
-pub dma_controller : {V : Type 0} (F : Fdc → V) → ((fdc : Fdc) → F (told_count fdc) ≡ F fdc) → ((fdc : Fdc) → F (taken_out fdc) ≡ F fdc) → ((byte : ℕ) (fdc : Fdc) → F (taken_in byte fdc) ≡ F fdc)
-    → (value : V) (chips : Chips) → F chips.controller ≡ value → F (dma_stepped chips).controller ≡ value
-dma_controller F told out into value chips was = controller_dma F told out into chips ∙ was
+-- a controller with the phase, DRQ and the bytes of another one
+abbrev pub with_moved : Fdc → Fdc → Fdc
+with_moved old new = record old { phase = new.phase; asking = new.asking; fifo = record old.fifo { bytes = new.fifo.bytes } }
 
-pub dma_dor : (value : ℕ) (chips : Chips) → dor_of chips.controller ≡ value → dor_of (dma_stepped chips).controller ≡ value
-dma_dor value chips was = dma_controller dor_of (λ fdc. refl) (λ fdc. refl) (λ byte fdc. refl) value chips was
+told_fifo : (reading : Bool) (fifo : Fifo) → fifo_told reading fifo ≡ record fifo { bytes = (fifo_told reading fifo).bytes }
+told_fifo true fifo = refl
+told_fifo false fifo = refl
+
+told_only : (fdc : Fdc) → told_count fdc ≡ with_moved fdc (told_count fdc)
+told_only fdc = ap (λ (fifo : Fifo). record (told_count fdc) { fifo = fifo }) (told_fifo (is_reading fdc.phase) fdc.fifo)
+
+pub into_only : (byte : ℕ) (fdc : Fdc) → taken_in byte fdc ≡ with_moved fdc (taken_in byte fdc)
+into_only byte fdc = ap (λ (fifo : Fifo). record (taken_in byte fdc) { fifo = fifo })
+    (if_both (length fdc.fifo.bytes == room_of fdc.fifo.on) fdc.fifo (record fdc.fifo { bytes = fdc.fifo.bytes ++ byte ∷ [] }) (λ fifo. fifo ≡ record fdc.fifo { bytes = fifo.bytes }) refl refl)
+
+-- transfers change nothing else
+moves_only : (start : Fdc) → Transferred (λ chips. chips.controller ≡ with_moved start chips.controller)
+moves_only start = by_bytes (λ fdc. fdc ≡ with_moved start fdc) (λ fdc is. told_only fdc ∙ ap (λ f. with_moved f (told_count fdc)) is)
+    (λ fdc is. ap (λ f. with_moved f (taken_out fdc)) is) (λ byte fdc is. into_only byte fdc ∙ ap (λ f. with_moved f (taken_in byte fdc)) is)
+
+pub moved_only : (n : ℕ) (chips : Chips) → (moved_up_to n chips).controller ≡ with_moved chips.controller (moved_up_to n chips).controller
+moved_only n chips = up_to (λ c. c.controller ≡ with_moved chips.controller c.controller) (moves_only chips.controller).one n chips refl
+
+pub dma_only : (chips : Chips) → (dma_stepped chips).controller ≡ with_moved chips.controller (dma_stepped chips).controller
+dma_only chips = served (λ c. c.controller ≡ with_moved chips.controller c.controller) (moves_only chips.controller) chips refl
 
 -- if DRQ is low, nothing is moved
 pub idle_dma : (chips : Chips) → chips.controller.asking ≡ false → dma_stepped chips ≡ record chips { holding = record chips.holding { request = Low } }
@@ -115,6 +110,14 @@ idle_dma chips low = by_line (asks chips.controller) (ap (λ b. is_gated chips.c
         ≡ record chips { holding = record chips.holding { request = Low } }
     by_line true is = absurd (false≢true (sym is))
     by_line false is = refl
+
+-- outside execution a word time makes a step of the seek alone, after the poll
+pub rests_as : (phase : Phase) (old new : Fdc) (track0 : Bool) → is_executing phase ≡ false → RestsIn phase track0 old new → new ≡ seek_stepped track0 old
+rests_as (Execute execution) old new track0 idle rests = absurd (false≢true (sym idle))
+rests_as _ old new track0 idle rests = rests
+
+pub rests_polled : (old new : Fdc) (track0 : Bool) → is_executing old.phase ≡ false → RestsIn (polled old).phase track0 (polled old) new → new ≡ seek_stepped track0 (polled old)
+rests_polled old new track0 idle rests = rests_as (polled old).phase (polled old) new track0 (ap is_executing (polled_phase old) ∙ idle) rests
 
 -- ---- while the controller takes commands, device steps keep it so
 

@@ -1,17 +1,15 @@
 -- A data command ends in time, whatever is done in the meantime.
-use Rattle.std.proofs.Common.{◌≡◌, ◌⊎◌, inl, inr, ℕ, suc, ◌+◌, ◌-◌, ◌≤◌, ◌==◌, nat_le, min, Bool, true, false, Option, Some, None, List, [], ◌∷◌, ◌++◌, if◌then◌else◌, refl, sym, ◌∙◌, ap, subst, arith}
-use Rattle.laws_machine.proofs.Common.{last_count, sensed, seek_bits, answer, kept, Accepted, More, Ready, Invalid, after_byte, Obeys, TakesAs, sensing_by, answered, taken_out, taken_in, to_memory_of, phase_told, is_executing, dsr_resets, phase_after, is_taking, rate_chosen, reset, polled, RestsIn, Answer, Short, Long, Fdc, Lines, Phase, Board, controller_of, Step, moved_to_memory, moved_from_memory, byte_read, told_if, Chips, Meets, Goes, Lasting, Marching, false≢true, nat_tests, BeginsData, Begins, ObeysAtRest, Elapses, IsOver}
+use Rattle.std.proofs.Common.{◌≡◌, ◌⊎◌, inl, inr, ℕ, suc, ◌+◌, ◌-◌, ◌≤◌, ◌==◌, min, Bool, true, false, Option, Some, None, List, [], ◌∷◌, ◌++◌, if◌then◌else◌, refl, sym, ◌∙◌, ap, subst, arith}
+use Rattle.laws_machine.proofs.Common.{last_count, sensed, seek_bits, answer, kept, Accepted, More, Ready, Invalid, after_byte, Obeys, TakesAs, sensing_by, answered, phase_told, is_executing, phase_after, reset, polled, RestsIn, Fdc, Lines, Phase, Board, controller_of, Step, Meets, Goes, Lasting, Marching, false≢true, nat_tests, BeginsData, Begins, ObeysAtRest, Elapses, IsOver, Transferred, PortWrites as Writes, steps_left, EndsIn, IsCounted}
 use Rattle.fdc_commands.specs.declared.command.Command.{Command}
 use Rattle.fdc_commands.specs.declared.command.Command.TheVariants as command
-use Rattle.fdc_core.specs.Ports.{Writes}
-use Rattle.fdc_core.specs.Steps.{steps_left, EndsIn, IsCounted}
 use Rattle.fdc_phases.specs.declared.phases.Phase.TheVariants as phase
-use Rattle.pc_bus.specs.Transfers.{moved}
-use Rattle.laws_machine.proofs.OnSteps.Acts.{Touches, at_controller}
-use Rattle.laws_machine.proofs.Facts.{polled_phase}
+use Rattle.laws_machine.proofs.OnSteps.Acts.{Touches, at_controller, by_write}
+use Rattle.laws_machine.proofs.Facts.{polled_phase, told_keeps, idle_after}
 use Rattle.laws_machine.proofs.OnSteps.Moves.{lasts, meets_behind}
 use Rattle.laws_machine.proofs.OnSteps.Transfers.{after_step}
 use Rattle.laws_machine.proofs.OnSteps.Words.{controller}
+use Rattle.laws_machine.proofs.OnSteps.Controllers.{by_bytes}
 
 -- what transfers leave of a controller: the steps that are left, and what is counted
 record Shows (left begun : ℕ) (fdc : Fdc) : Type 0 where
@@ -21,27 +19,14 @@ record Shows (left begun : ℕ) (fdc : Fdc) : Type 0 where
 
 -- ---- the device step
 
-told_left : (p : Phase) → steps_left (phase_told p) ≡ steps_left p
-told_left phase.Command = refl
-told_left (phase.Result answer) = refl
-told_left (phase.Execute execution) = refl
-
 told_counted : (p : Phase) → IsCounted p → IsCounted (phase_told p)
-told_counted phase.Command was = was
-told_counted (phase.Result answer) was = was
 told_counted (phase.Execute execution) was = was
+told_counted _ was = was
 
-shows_moved : (left begun : ℕ) (chips : Chips) → Shows left begun chips.controller → Shows left begun (moved chips).controller
-unfolding moved
-shows_moved left begun chips was = by_way (to_memory_of chips.controller)
-  where
-    by_last : (last : Bool) (fdc : Fdc) → Shows left begun fdc → Shows left begun (told_if last fdc)
-    by_last true fdc is = record { steps = told_left fdc.phase ∙ is.steps; counted = told_counted fdc.phase is.counted; count = is.count }
-    by_last false fdc is = is
-
-    by_way : (b : Bool) → Shows left begun (if b then moved_to_memory chips else moved_from_memory chips).controller
-    by_way true = by_last (chips.channel.count == 0) (taken_out chips.controller) (record { steps = was.steps; counted = was.counted; count = was.count })
-    by_way false = by_last (chips.channel.count == 0) (taken_in (byte_read chips.channel chips.memory) chips.controller) (record { steps = was.steps; counted = was.counted; count = was.count })
+showing : (left begun : ℕ) → Transferred (λ chips. Shows left begun chips.controller)
+showing left begun = by_bytes (Shows left begun)
+    (λ fdc is. record { steps = told_keeps steps_left (λ _. refl) fdc.phase ∙ is.steps; counted = told_counted fdc.phase is.counted; count = is.count })
+    (λ fdc is. record { steps = is.steps; counted = is.counted; count = is.count }) (λ byte fdc is. record { steps = is.steps; counted = is.counted; count = is.count })
 
 -- a step is over, and after it the count of a data command in execution is below 65,536
 record Falls (old new : Phase) : Type 0 where
@@ -52,9 +37,8 @@ falls_none : (old new : Phase) → new ≡ old → steps_left old ≡ 0 → IsCo
 falls_none old new same none counted = let left = ap steps_left same in record { steps = omega arith; counted = subst IsCounted (sym same) counted }
 
 ends_in : (p : Phase) (polls between : Fdc) (track0 : Bool) → EndsIn p between.phase → RestsIn p track0 polls between → polls.phase ≡ p → Falls p between.phase
-ends_in phase.Command polls between track0 ends rests same = falls_none phase.Command between.phase (ap (λ fdc. fdc.phase) rests ∙ same) refl tt
-ends_in (phase.Result answer) polls between track0 ends rests same = falls_none (phase.Result answer) between.phase (ap (λ fdc. fdc.phase) rests ∙ same) refl tt
 ends_in (phase.Execute execution) polls between track0 ends rests same = let less = ends.0 in record { steps = omega arith; counted = ends.1 }
+ends_in p polls between track0 ends rests same = falls_none p between.phase (ap (λ fdc. fdc.phase) rests ∙ same) refl tt
 
 word_ends : (old between : Fdc) (track0 : Bool) → EndsIn old.phase between.phase → RestsIn (polled old).phase track0 (polled old) between → Falls old.phase between.phase
 word_ends old between track0 ends rests =
@@ -69,7 +53,7 @@ step_ticks old new step =
     let word : Ticks (controller_of old) step.between = controller (Ticks (controller_of old) step.between) old new step
     (λ before after works. record { falls = word_ends (controller_of old) step.between (before.cylinder == 0) works.ends works.rests; count = works.stays.data_commands })
     (λ works. record { falls = word_ends (controller_of old) step.between false works.ends works.rests; count = works.stays.data_commands }) in
-    let shows = after_step (λ c. Shows (steps_left step.between.phase) step.between.data_commands c.controller) (record { one = shows_moved _ _; held = λ chips holding was. was }) old new step
+    let shows = after_step (λ c. Shows (steps_left step.between.phase) step.between.data_commands c.controller) (showing _ _) old new step
     (record { steps = refl; counted = word.falls.counted; count = refl }) in
     let fewer = word.falls.steps in let same = shows.steps in
     record { falls = record { steps = omega arith; counted = shows.counted }; count = shows.count ∙ word.count }
@@ -165,45 +149,23 @@ took More lines old new is = same_fdc old new is
 took (Ready c) lines old new does = obeys c lines old new does
 took Invalid lines old new is = answered_idle 0x80 None old new is
 
-sent : (value : ℕ) (lines : Lines) (old new : Fdc) → (port : ℕ) → port ≡ 0x3F5 → Writes port value lines old new → Holds old new
-sent value lines old new port is writes = by_taking (is_taking old) refl
-  where
-    by_taking : (b : Bool) → is_taking old ≡ b → Holds old new
-    by_taking true takes =
-        let bytes = old.command ++ value ∷ [] in
-        with_command (kept (answer bytes) bytes) (took (answer bytes) lines (record old { command = kept (answer bytes) bytes }) new ((writes.bytes is).0 takes))
-      where
-        with_command : (command : List ℕ) → Holds (record old { command = command }) new → Holds old new
-        with_command command (Holds.Same count keeps) = Holds.Same count keeps
-        with_command command (Holds.Began count) = Holds.Began count
-    by_taking false ignores = same_fdc old new ((writes.bytes is).1 ignores)
-
 pub port_is : (port at : ℕ) → (port == at) ≡ true → port ≡ at
 port_is port at is = grind (arith, nat_tests)
 
+same_command : (command : List ℕ) (old new : Fdc) → Holds (record old { command = command }) new → Holds old new
+same_command command old new (Holds.Same count keeps) = Holds.Same count keeps
+same_command command old new (Holds.Began count) = Holds.Began count
+
 writes_hold : (port value : ℕ) (lines : Lines) (old new : Fdc) → Writes port value lines old new → Holds old new
-writes_hold port value lines old new writes = by_port (port == 0x3F2) (port == 0x3F4) (port == 0x3F5) (port == 0x3F7) refl refl refl refl
-  where
-    by_port : (a b c d : Bool) → (port == 0x3F2) ≡ a → (port == 0x3F4) ≡ b → (port == 0x3F5) ≡ c → (port == 0x3F7) ≡ d → Holds old new
-    by_port true b c d p q r s = subst (Holds old) (sym (writes.output (port_is port 0x3F2 p))) (resets _ (record old { dor = record { 0 = value } }) old refl refl)
-    by_port false true c d p q r s = subst (Holds old) (sym (writes.select (port_is port 0x3F4 q))) (resets (dsr_resets value) (record old { rate = rate_chosen value }) old refl refl)
-    by_port false false true d p q r s = sent value lines old new port (port_is port 0x3F5 r) writes
-    by_port false false false true p q r s = subst (Holds old) (sym (writes.control (port_is port 0x3F7 s))) (same_phase old _ refl refl)
-    by_port false false false false p q r s = same_fdc old new (writes.others p q r s)
+writes_hold port value lines old new writes =
+    let bytes = old.command ++ value ∷ [] in
+    by_write (Holds old) port value lines old new writes (λ b dor rate. resets b (record old { dor = dor; rate = rate }) old refl refl)
+    (λ takes. same_command (kept (answer bytes) bytes) old new (took (answer bytes) lines (record old { command = kept (answer bytes) bytes }) new takes))
 
 -- a read of the data port
-pub idle_answer : (answer : Answer) → is_executing (after_byte answer) ≡ false
-idle_answer (Short next None) = refl
-idle_answer (Short next (Some last)) = refl
-idle_answer (Long ending results taken) = by_last (nat_le 6 taken)
-  where
-    by_last : (b : Bool) → is_executing (if b then phase.Command else phase.Result (Long ending results (taken + 1))) ≡ false
-    by_last true = refl
-    by_last false = refl
-
 given_keeps : (p : Phase) → Keeps p (phase_after p)
 given_keeps phase.Command = keeps_idle phase.Command phase.Command refl
-given_keeps (phase.Result answer) = keeps_idle (phase.Result answer) (after_byte answer) (idle_answer answer)
+given_keeps (phase.Result answer) = keeps_idle (phase.Result answer) (after_byte answer) (idle_after answer)
 given_keeps (phase.Execute execution) = keeps_same (phase.Execute execution) (phase.Execute execution) refl
 
 touches_hold : (old new : Fdc) → Touches old new → Holds old new
@@ -246,9 +208,8 @@ over_of (phase.Execute execution) counted none = absurd (omega arith)
 over_of _ counted none = refl
 
 most_left : (p : Phase) → steps_left p ≤ 65536
-most_left phase.Command = omega arith
-most_left (phase.Result answer) = omega arith
 most_left (phase.Execute execution) = omega arith
+most_left _ = omega arith
 
 ends_by : (old new : Board) (n : ℕ) → Goes old n new → IsCounted (controller_of old).phase ⊎ (1 ≤ n) → steps_left (controller_of old).phase ≤ n → IsOver old new
 ends_by old new n goes why many = elim (elapses old new n goes).left [

@@ -1,9 +1,8 @@
 -- The word time of a device step, at both drives. What holds of a drive over a word that passes after a pulse or
 -- without one, over a word that is heard, and over a word time of a command that records.
 use Rattle.std.proofs.Common.{ℕ, ◌/◌, ◌%◌, Bool, Option, None, subst}
-use Rattle.laws_machine.proofs.Common.{Becomes, DriveState, Fifo, let_pass, is_listening, polled, Moves, MovesIn, MovesTask, WordTime, IsTime, WritesIn, WritesTask, Fdc, Phase, Execute, Task, ReadId, DataRate, Board, controller_of, Works, Step}
+use Rattle.laws_machine.proofs.Common.{Becomes, DriveState, Fifo, let_pass, is_listening, polled, Moves, MovesIn, MovesTask, WordTime, IsTime, WritesIn, WritesTask, Fdc, Phase, Execute, Task, ReadId, DataRate, Board, controller_of, Works, Step, ReadTask as Read}
 use Rattle.laws_machine.proofs.Facts.{polled_phase}
-use Rattle.fdc_phases.specs.declared.phases.Task.TheVariants.{Read}
 use Rattle.laws_machine.proofs.OnSteps.Words.{drives}
 
 module _ (D : DriveState → DriveState → Type 0) (moved : (pulse : Option Bool) (before after : DriveState) → Moves pulse before after → D before after)

@@ -1,20 +1,19 @@
 -- A seek ends in time, whatever is done in the meantime.
-use Rattle.std.proofs.Common.{◌≡◌, ℕ, zero, suc, ◌+◌, ◌-◌, ◌^◌, ◌≤◌, ◌==◌, ◌&&◌, nat_lt, not, Bool, true, false, Option, Some, None, IsSomeAnd, List, [], ◌∷◌, ◌++◌, if◌then◌else◌, refl, sym, ◌∙◌, ap, subst, arith}
+use Rattle.std.proofs.Common.{◌≡◌, ℕ, suc, ◌+◌, ◌-◌, ◌≤◌, ◌==◌, ◌&&◌, nat_lt, not, Bool, true, false, Option, Some, None, IsSomeAnd, List, [], ◌∷◌, ◌++◌, if◌then◌else◌, refl, sym, ◌∙◌, ap, subst, arith}
 use Rattle.std.specs.Option.{ForSome, option_map_or}
-use Rattle.laws_machine.proofs.Common.{Seeking, with_polls, is_seeking, sensed, seek_bits, Seek, answer, kept, Accepted, More, Ready, Invalid, Obeys, TakesAs, sensing_by, answered, taken_out, taken_in, to_memory_of, phase_told, is_executing, dsr_resets, phase_after, is_taking, rate_chosen, reset, polled, RestsIn, seek_stepped, Fdc, Lines, Phase, Board, controller_of, Step, moved_to_memory, moved_from_memory, byte_read, told_if, Chips, Meets, Acts, Goes, false≢true, nat_tests, IsMotion, with_motion, ended, recalibrated, sought, neighbour, stepped_seek, has_ended, first_pending, without_result, released, IsInRange, motion_left, seek_left, pulses_left, seeks, RunsNoSeek, Recalibrates}
-use Rattle.fdc_commands.specs.Seeking.{stepped}
+use Rattle.laws_machine.proofs.Common.{Seeking, is_seeking, sensed, seek_bits, Seek, answer, kept, Accepted, More, Ready, Invalid, Obeys, TakesAs, sensing_by, answered, is_executing, reset, polled, RestsIn, Fdc, Lines, Board, controller_of, Step, Meets, Acts, Goes, false≢true, nat_tests, IsMotion, with_motion, ended, recalibrated, sought, neighbour, stepped_seek, has_ended, first_pending, without_result, released, IsInRange, motion_left, seek_left, pulses_left, seeks, RunsNoSeek, Recalibrates, Transferred, stepped_seeks as stepped, PortWrites as Writes}
 use Rattle.fdc_commands.specs.declared.motion.Motion.{Motion}
 use Rattle.fdc_commands.specs.declared.motion.Motion.TheVariants.{Outward, Toward, Ended}
 use Rattle.fdc_commands.specs.declared.command.Command.{Command}
 use Rattle.fdc_commands.specs.declared.command.Command.TheVariants as command
-use Rattle.fdc_core.specs.Ports.{Writes}
-use Rattle.fdc_phases.specs.declared.phases.Phase.TheVariants as phase
-use Rattle.pc_bus.specs.Transfers.{moved}
-use Rattle.laws_machine.proofs.OnSteps.Acts.{Touches, at_controller}
-use Rattle.laws_machine.proofs.OnSteps.DataEnds.{idle_answer, port_is, zero_of}
+use Rattle.laws_machine.proofs.OnSteps.Acts.{Touches, at_controller, by_write}
+use Rattle.laws_machine.proofs.OnSteps.DataEnds.{zero_of}
 use Rattle.laws_machine.proofs.OnSteps.Moves.{lasts, meets_act, meets_here, meets_step, meets_within}
 use Rattle.laws_machine.proofs.OnSteps.Transfers.{after_step}
 use Rattle.laws_machine.proofs.OnSteps.Words.{controller}
+use Rattle.laws_machine.proofs.Facts.{told_busy, idle_read, polled_phase, polled_keeps}
+use Rattle.laws_machine.proofs.OnSteps.Controllers.{by_bytes, polled_seek, rests_polled}
+use Rattle.laws_machine.proofs.OnWrites.Stillness.{no_bits}
 
 -- ---- the seek itself
 
@@ -68,52 +67,21 @@ record Has (left : ℕ) (fdc : Fdc) : Type 0 where
   left_is : seek_left fdc.seeks.seek ≤ left
   idle : is_executing fdc.phase ≡ false
 
-told_idle : (p : Phase) → is_executing (phase_told p) ≡ is_executing p
-told_idle phase.Command = refl
-told_idle (phase.Result answer) = refl
-told_idle (phase.Execute execution) = refl
-
-has_moved : (left : ℕ) (chips : Chips) → Has left chips.controller → Has left (moved chips).controller
-unfolding moved
-has_moved left chips was = by_way (to_memory_of chips.controller)
-  where
-    by_last : (last : Bool) (fdc : Fdc) → Has left fdc → Has left (told_if last fdc)
-    by_last true fdc is = record { left_is = is.left_is; idle = told_idle fdc.phase ∙ is.idle }
-    by_last false fdc is = is
-
-    by_way : (b : Bool) → Has left (if b then moved_to_memory chips else moved_from_memory chips).controller
-    by_way true = by_last (chips.channel.count == 0) (taken_out chips.controller) (record { left_is = was.left_is; idle = was.idle })
-    by_way false = by_last (chips.channel.count == 0) (taken_in (byte_read chips.channel chips.memory) chips.controller) (record { left_is = was.left_is; idle = was.idle })
-
--- the controller after the poll
-record Polls (old polls : Fdc) : Type 0 where
-  phase_is : polls.phase ≡ old.phase
-  seek : polls.seeks.seek ≡ old.seeks.seek
-  runs : is_seeking polls.seeks ≡ is_seeking old.seeks
-
-polls_of : (old : Fdc) → Polls old (polled old)
-polls_of old = by_poll _
-  where
-    by_poll : (b : Bool) → Polls old (if b then record old { poll_due = false; interrupt = true; seeks = with_polls old.seeks } else old)
-    by_poll true = record { phase_is = refl; seek = refl; runs = refl }
-    by_poll false = record { phase_is = refl; seek = refl; runs = refl }
-
-idle_rests : (p : Phase) (track0 : Bool) (polls new : Fdc) → is_executing p ≡ false → RestsIn p track0 polls new → new ≡ seek_stepped track0 polls
-idle_rests (phase.Execute execution) track0 polls new idle rests = absurd (false≢true (sym idle))
-idle_rests _ track0 polls new idle rests = rests
+keeps_has : (left : ℕ) → Transferred (λ chips. Has left chips.controller)
+keeps_has left = by_bytes (Has left) (λ fdc is. record { left_is = is.left_is; idle = told_busy fdc.phase ∙ is.idle })
+    (λ fdc is. record { left_is = is.left_is; idle = is.idle }) (λ byte fdc is. record { left_is = is.left_is; idle = is.idle })
 
 word_has : (old new : Fdc) (track0 : Bool) → is_executing old.phase ≡ false → is_seeking old.seeks ≡ true → RestsIn (polled old).phase track0 (polled old) new → Has (seek_left old.seeks.seek - 1) new
 word_has old new track0 idle runs rests =
-    let polls = polls_of old in
-    let is = idle_rests (polled old).phase track0 (polled old) new (ap is_executing polls.phase_is ∙ idle) rests in
-    let fewer = seeking_left (polled old).seeks track0 (polls.runs ∙ runs) in
-    let before = ap seek_left polls.seek in
+    let is = rests_polled old new track0 idle rests in
+    let fewer = seeking_left (polled old).seeks track0 (polled_keeps (λ fdc. is_seeking fdc.seeks) old refl ∙ runs) in
+    let before = ap seek_left (polled_seek old) in
     let after : seek_left new.seeks.seek ≡ seek_left (stepped (polled old).seeks track0).seek = ap (λ fdc. seek_left fdc.seeks.seek) is in
-    record { left_is = omega arith; idle = ap (λ fdc. is_executing fdc.phase) is ∙ (ap is_executing polls.phase_is ∙ idle) }
+    record { left_is = omega arith; idle = ap (λ fdc. is_executing fdc.phase) is ∙ (ap is_executing (polled_phase old) ∙ idle) }
 
 step_has : (old new : Board) → Step old new → is_executing (controller_of old).phase ≡ false → seeks old → Has (pulses_left old - 1) (controller_of new)
 step_has old new step idle runs =
-    after_step (λ c. Has (pulses_left old - 1) c.controller) (record { one = has_moved (pulses_left old - 1); held = λ chips holding was. was }) old new step
+    after_step (λ c. Has (pulses_left old - 1) c.controller) (keeps_has (pulses_left old - 1)) old new step
     (controller (Has (pulses_left old - 1) step.between) old new step
     (λ before after works. word_has (controller_of old) step.between (before.cylinder == 0) idle runs works.rests)
     (λ works. word_has (controller_of old) step.between false idle runs works.rests))
@@ -125,16 +93,9 @@ pub data Goes_on (old new : Fdc) : Type 0 where
   Same : new.seeks.seek ≡ old.seeks.seek → is_executing new.phase ≡ false → Goes_on old new
   Forgets : is_seeking new.seeks ≡ false → Goes_on old new
 
-power_some : (n : ℕ) → 1 ≤ 2 ^ n
-power_some zero = omega arith
-power_some (suc n) = let less = power_some n in omega arith
-
 bits_some : (seeking : Seeking) → is_seeking seeking ≡ true → seek_bits seeking ≡ 0 → ⊥
-bits_some seeking runs = by_seek seeking.seek runs
-  where
-    by_seek : (seek : Option Seek) → is_seeking (record seeking { seek = seek }) ≡ true → seek_bits (record seeking { seek = seek }) ≡ 0 → ⊥
-    by_seek None is none = absurd (false≢true is)
-    by_seek (Some seek) is none = let some = power_some seek.drive in absurd (omega arith)
+bits_some seeking runs none =
+    let free : is_seeking seeking ≡ false = (let at = no_bits seeking none in rw at refl) in false≢true (sym free ∙ runs)
 
 released_same : (drive : ℕ) (seeking : Seeking) → is_seeking seeking ≡ true → released drive seeking.seek ≡ seeking.seek
 released_same drive seeking runs = by_seek seeking.seek runs
@@ -177,41 +138,23 @@ took Invalid lines old new idle runs is = Goes_on.Same (ap (λ fdc. fdc.seeks.se
 same_fdc : (old new : Fdc) → is_executing old.phase ≡ false → new ≡ old → Goes_on old new
 same_fdc old new idle is = Goes_on.Same (ap (λ fdc. fdc.seeks.seek) is) (ap (λ fdc. is_executing fdc.phase) is ∙ idle)
 
-sent : (value : ℕ) (lines : Lines) (old new : Fdc) → is_executing old.phase ≡ false → is_seeking old.seeks ≡ true → (port : ℕ) → port ≡ 0x3F5 → Writes port value lines old new → Goes_on old new
-sent value lines old new idle runs port is writes = by_taking (is_taking old) refl
-  where
-    with_command : (command : List ℕ) → Goes_on (record old { command = command }) new → Goes_on old new
-    with_command command (Goes_on.Same seek rest) = Goes_on.Same seek rest
-    with_command command (Goes_on.Forgets none) = Goes_on.Forgets none
-
-    by_taking : (b : Bool) → is_taking old ≡ b → Goes_on old new
-    by_taking true takes =
-        let bytes = old.command ++ value ∷ [] in
-        with_command (kept (answer bytes) bytes) (took (answer bytes) lines (record old { command = kept (answer bytes) bytes }) new idle runs ((writes.bytes is).0 takes))
-    by_taking false ignores = same_fdc old new idle ((writes.bytes is).1 ignores)
-
 resets : (b : Bool) (set old : Fdc) → set.seeks ≡ old.seeks → is_executing set.phase ≡ false → Goes_on old (if b then reset set else set)
 resets true set old seeks idle = Goes_on.Forgets refl
 resets false set old seeks idle = Goes_on.Same (ap (λ s. s.seek) seeks) idle
 
-writes_go : (port value : ℕ) (lines : Lines) (old new : Fdc) → is_executing old.phase ≡ false → is_seeking old.seeks ≡ true → Writes port value lines old new → Goes_on old new
-writes_go port value lines old new idle runs writes = by_port (port == 0x3F2) (port == 0x3F4) (port == 0x3F5) (port == 0x3F7) refl refl refl refl
-  where
-    by_port : (a b c d : Bool) → (port == 0x3F2) ≡ a → (port == 0x3F4) ≡ b → (port == 0x3F5) ≡ c → (port == 0x3F7) ≡ d → Goes_on old new
-    by_port true b c d p q r s = subst (Goes_on old) (sym (writes.output (port_is port 0x3F2 p))) (resets _ (record old { dor = record { 0 = value } }) old refl idle)
-    by_port false true c d p q r s = subst (Goes_on old) (sym (writes.select (port_is port 0x3F4 q))) (resets (dsr_resets value) (record old { rate = rate_chosen value }) old refl idle)
-    by_port false false true d p q r s = sent value lines old new idle runs port (port_is port 0x3F5 r) writes
-    by_port false false false true p q r s = subst (Goes_on old) (sym (writes.control (port_is port 0x3F7 s))) (Goes_on.Same refl idle)
-    by_port false false false false p q r s = same_fdc old new idle (writes.others p q r s)
+same_command : (command : List ℕ) (old new : Fdc) → Goes_on (record old { command = command }) new → Goes_on old new
+same_command command old new (Goes_on.Same seek rest) = Goes_on.Same seek rest
+same_command command old new (Goes_on.Forgets none) = Goes_on.Forgets none
 
-idle_given : (p : Phase) → is_executing p ≡ false → is_executing (phase_after p) ≡ false
-idle_given phase.Command idle = refl
-idle_given (phase.Result answer) idle = idle_answer answer
-idle_given (phase.Execute execution) idle = absurd (false≢true (sym idle))
+writes_go : (port value : ℕ) (lines : Lines) (old new : Fdc) → is_executing old.phase ≡ false → is_seeking old.seeks ≡ true → Writes port value lines old new → Goes_on old new
+writes_go port value lines old new idle runs writes =
+    let bytes = old.command ++ value ∷ [] in
+    by_write (Goes_on old) port value lines old new writes (λ b dor rate. resets b (record old { dor = dor; rate = rate }) old refl idle)
+    (λ takes. same_command (kept (answer bytes) bytes) old new (took (answer bytes) lines (record old { command = kept (answer bytes) bytes }) new idle runs takes))
 
 touches_go : (old new : Fdc) → is_executing old.phase ≡ false → is_seeking old.seeks ≡ true → Touches old new → Goes_on old new
 touches_go old new idle runs (Touches.Leaves last is) = same_fdc old last idle is
-touches_go old new idle runs (Touches.Gives last is) = Goes_on.Same (ap (λ fdc. fdc.seeks.seek) is) (ap (λ fdc. is_executing fdc.phase) is ∙ idle_given old.phase idle)
+touches_go old new idle runs (Touches.Gives last is) = Goes_on.Same (ap (λ fdc. fdc.seeks.seek) is) (ap (λ fdc. is_executing fdc.phase) is ∙ idle_read old.phase idle)
 touches_go old new idle runs (Touches.Takes port value lines last writes) = writes_go port value lines old last idle runs writes
 
 -- ---- courses

@@ -1,9 +1,9 @@
 -- DMA latencies stay bytes.
-use Rattle.std.proofs.Common.{ℕ, suc, ◌≤◌, Bool, true, false, List, [], ◌∷◌, if◌then◌else◌, sym, ap, subst, arith}
+use Rattle.std.proofs.Common.{ℕ, suc, ◌≤◌, Bool, true, false, List, [], ◌∷◌, sym, ap, subst, arith}
 use Rattle.std.specs.List.{All}
-use Rattle.laws_machine.proofs.Common.{next_entry, rest_of, Holds, AreShort, IsShort, is_due, looked, shown, waited, DmaRequest, Low, High, holds_of, looked_at, shown_again, Chips, Steady, grants, moved_up_to}
-use Rattle.pc_bus.specs.Transfers.{dma_stepped, granted}
+use Rattle.laws_machine.proofs.Common.{next_entry, rest_of, Holds, AreShort, IsShort, looked, shown, waited, DmaRequest, Low, High, holds_of, looked_at, Chips, Steady, moved_up_to, dma_stepped}
 use Rattle.laws_machine.proofs.OnSteps.Stalls.{up_to_holding}
+use Rattle.laws_machine.proofs.OnSteps.Transfers.{by_request}
 
 next_short : (entries : List ℕ) → All (λ entry. entry ≤ 255) entries → next_entry entries ≤ 255
 next_short [] short = omega arith
@@ -26,15 +26,10 @@ shown_short false old short = record { entries = short.entries; request = tt }
 shown_short true old short = short
 
 dma_short : (chips : Chips) → AreShort chips.holding → AreShort (dma_stepped chips).holding
-unfolding dma_stepped granted
-dma_short chips short = by_due (is_due (looked_at chips).holding.request) (grants chips.channel)
-  where
-    look : AreShort (looked_at chips).holding
-    look = looked_short _ chips.holding short
-
-    by_due : (due granting : Bool) → AreShort (if due then (if granting then shown_again (moved_up_to 16 (looked_at chips)) else looked_at chips) else looked_at chips).holding
-    by_due true true = shown_short _ (moved_up_to 16 (looked_at chips)).holding (subst AreShort (sym (up_to_holding 16 (looked_at chips))) look)
-    by_due _ _ = look
+dma_short chips short =
+    let look = looked_short _ chips.holding short in
+    by_request (λ c. AreShort c.holding) chips (λ _. look) (λ _. look)
+    (λ _. shown_short _ (moved_up_to 16 (looked_at chips)).holding (subst AreShort (sym (up_to_holding 16 (looked_at chips))) look))
 
 pub holds_stay_short : Steady (λ board. AreShort (holds_of board))
 holds_stay_short = record {

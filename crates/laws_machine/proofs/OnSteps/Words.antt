@@ -54,17 +54,8 @@ some_drive C old new small step works = elim (first_or_second (selected_of old) 
 differs : (n k : ℕ) → n ≡ k → (n == k) ≡ false → ⊥
 differs n k is other = grind (arith, nat_tests)
 
--- a drive that isn't selected
-pub first_passes : (old new : Board) → (step : Step old new) → (selected_of old == 0) ≡ false → Passes old.first new.first
-first_passes old new step other = elim (first_second_or_none (selected_of old)) [
-  | inl at ↦ absurd (differs (selected_of old) 0 at other)
-  | inr (inl at) ↦ (step.word_time.at_second at).1
-  | inr (inr at) ↦ (step.word_time.at_none at).1
-]
-
-pub second_passes : (old new : Board) → (step : Step old new) → (selected_of old == 1) ≡ false → Passes old.second new.second
-second_passes old new step other = elim (first_second_or_none (selected_of old)) [
-  | inl at ↦ (step.word_time.at_first at).1
-  | inr (inl at) ↦ absurd (differs (selected_of old) 1 at other)
-  | inr (inr at) ↦ (step.word_time.at_none at).2
-]
+-- the drives that aren't selected
+pub others_pass : (old new : Board) → Step old new
+    → ((selected_of old == 0) ≡ false → Passes old.first new.first) × ((selected_of old == 1) ≡ false → Passes old.second new.second)
+others_pass old new step = bays (λ bay before after. (selected_of old == bay) ≡ false → Passes before after) old new step
+    (λ bay before after at works other. absurd (differs (selected_of old) bay at other)) (λ bay before after passes other. passes)

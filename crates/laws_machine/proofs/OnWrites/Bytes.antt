@@ -1,9 +1,9 @@
 -- One more byte of the range, and the channel after it.
-use Rattle.std.proofs.Common.{◌≡◌, ℕ, ◌+◌, ◌-◌, ◌%◌, ◌<◌, ◌≤◌, ◌==◌, Bool, true, false, List, [], ◌∷◌, ◌++◌, length, slice_index, take, drop, if◌then◌else◌, refl, sym, ◌∙◌, ap, subst, arith, add-one}
+use Rattle.std.proofs.Common.{◌≡◌, ℕ, ◌+◌, ◌-◌, ◌<◌, ◌≤◌, ◌==◌, Bool, true, false, List, [], ◌∷◌, ◌++◌, length, slice_index, take, drop, if◌then◌else◌, refl, sym, ◌∙◌, ap, subst, arith, add-one}
 use Rattle.std.proofs.Math.Seq.{take-suc}
-use Rattle.laws_machine.proofs.Common.{Channel, after_transfer, place_of, byte_read, Scene, IsTaken, get_or-drop, length-drop, false≢true, grants, reads_memory}
-use Rattle.laws_machine.proofs.Facts.{length_more, not_granting, same_grants, set_over, some_of, zero_is}
-use Rattle.laws_machine.specs.OnWrites.Underway.{IsReadSet}
+use Rattle.laws_machine.proofs.Common.{Channel, after_transfer, place_of, byte_read, Scene, IsTaken, get_or-drop, length-drop, false≢true, grants, reads_memory, IsReadSet}
+use Rattle.laws_machine.proofs.Facts.{length_more, not_granting, same_grants, set_over, some_of, number_is}
+use Rattle.laws_machine.proofs.OnReads.Bytes.{behind_byte}
 
 -- one element more
 pub take_one : (list : List ℕ) (n : ℕ) → n < length list → take (n + 1) list ≡ take n list ++ slice_index list n ∷ []
@@ -11,18 +11,11 @@ take_one list n below = rw add-one (take-suc list n 0 below)
 
 -- ---- the channel
 
--- the channel goes on behind the byte
 set_more : (channel : Channel) (address left : ℕ) → IsReadSet channel address left → (channel.count == 0) ≡ false
     → IsReadSet (after_transfer channel) (address + 1) (left - 1)
-set_more channel address left set more = record {
-  granting = same_grants channel more ∙ set.granting;
-  reading = set.reading;
-  place = let some = some_of channel.count more in let room = set.room in let is = set.count in let at = set.place in
-      let next : (channel.address + 1) % 65536 ≡ channel.address + 1 = omega arith in rw next (omega arith);
-  count = let is = set.count in rw more (omega arith);
-  room = let some = some_of channel.count more in let room = set.room in let is = set.count in
-      let next : (channel.address + 1) % 65536 ≡ channel.address + 1 = omega arith in rw next (omega arith);
-}
+set_more channel address left set more =
+    let (place, count, room) = behind_byte channel address left set.place set.count set.room more in
+    record { granting = same_grants channel more ∙ set.granting; reading = set.reading; place = place; count = count; room = room }
 
 -- ---- a byte that came from memory
 
@@ -60,7 +53,7 @@ taken_more scene taken memory channel fits was last is =
         (let some = some_of channel.count on in let count = set.count in omega arith),
         subst (λ address. IsReadSet (after_transfer channel) address (left - 1)) (omega arith) (set_more channel (scene.address + length taken) left set on),
       );
-      over = λ counted. let none = zero_is channel.count (is ∙ counted) in let count = set.count in
+      over = λ counted. let none = number_is channel.count 0 (is ∙ counted) in let count = set.count in
           (set_over channel (is ∙ counted), omega arith);
     }
 

@@ -1,12 +1,11 @@
 -- What transfers leave of a command that takes bytes from memory.
-use Rattle.std.proofs.Common.{◌≡◌, ℕ, ◌≤◌, ◌<◌, ◌==◌, Bool, true, false, List, [], ◌∷◌, ◌++◌, length, if◌then◌else◌, refl, sym, ◌∙◌, ap, subst, arith, length-append}
-use Rattle.laws_machine.proofs.Common.{Channel, after_transfer, Fifo, room_of, asking_told, fifo_told, taken_in, told_count, with_byte, phase_asks, phase_told, task_asks, task_told, is_moving, is_read, is_reading, asks, PhaseWaits, phase_counted, task_counted, Phase, Command, Execute, Result, Task, ReadId, Format, Holds, byte_read, moved_from_memory, moved_to_memory, told_if, Chips, fills, fills_task, IsFilling, false≢true, nat_tests, grants}
-use Rattle.laws_machine.proofs.Facts.{same_grants}
-use Rattle.fdc_phases.specs.Waiting.{TaskWaits}
-use Rattle.fdc_phases.specs.declared.phases.Task.TheVariants.{Read, Write}
+use Rattle.std.proofs.Common.{◌≡◌, ℕ, ◌≤◌, ◌<◌, ◌==◌, Bool, true, false, [], ◌∷◌, ◌++◌, length, if◌then◌else◌, refl, sym, ◌∙◌, ap, subst, arith, length-append}
+use Rattle.laws_machine.proofs.Common.{Channel, after_transfer, Fifo, room_of, asking_told, fifo_told, taken_in, told_count, with_byte, phase_asks, phase_told, task_asks, task_told, is_moving, is_read, is_reading, asks, PhaseWaits, phase_counted, task_counted, Phase, Execute, Task, ReadId, Format, Holds, byte_read, moved_from_memory, moved_to_memory, told_if, Chips, fills, fills_task, IsFilling, false≢true, nat_tests, grants, TaskWaits, ReadTask as Read, WriteTask as Write}
+use Rattle.laws_machine.proofs.Facts.{same_grants, each_task, told_keeps}
 use Rattle.fdc_core.proofs.Feeding.{in_waits, told_waits, low_waits}
 use Rattle.pc_bus.specs.Transfers.{moved}
 use Rattle.laws_machine.proofs.OnReads.Served.{phase_again}
+use Rattle.laws_machine.proofs.OnSteps.Controllers.{into_only}
 
 -- ---- the rule
 
@@ -26,38 +25,21 @@ not_reading _ is = refl
 
 -- the command after the terminal count
 told_fills : (phase : Phase) → fills (phase_told phase) ≡ fills phase
-told_fills Command = refl
-told_fills (Result answer) = refl
-told_fills (Execute execution) = in_task execution.task
-  where
-    in_task : (task : Task) → fills_task (task_told task) ≡ fills_task task
-    in_task (ReadId search) = refl
-    in_task (Read reading) = refl
-    in_task (Write writing) = refl
-    in_task (Format formatting) = refl
+told_fills = told_keeps fills (λ execution. each_task (λ task. fills_task (task_told task) ≡ fills_task task) (λ _. refl) (λ _. refl) (λ _. refl) (λ _. refl) execution.task)
 
 told_counted : (phase : Phase) → phase_counted (phase_told phase) ≡ true
-told_counted Command = refl
-told_counted (Result answer) = refl
-told_counted (Execute execution) = in_task execution.task
-  where
-    in_task : (task : Task) → task_counted (task_told task) ≡ true
-    in_task (ReadId search) = refl
-    in_task (Read reading) = refl
-    in_task (Write writing) = refl
-    in_task (Format formatting) = refl
+told_counted (Execute execution) = each_task (λ task. task_counted (task_told task) ≡ true) (λ _. refl) (λ _. refl) (λ _. refl) (λ _. refl) execution.task
+told_counted _ = refl
 
 told_low : (phase : Phase) (asking : Bool) (fifo : Fifo) → fills phase ≡ true → asking_told (is_moving phase) asking ≡ phase_asks (phase_told phase) (asking_told (is_moving phase) asking) fifo
-told_low Command asking fifo is = absurd (false≢true is)
-told_low (Result answer) asking fifo is = absurd (false≢true is)
 told_low (Execute execution) asking fifo is = in_task execution.task is
   where
     in_task : (task : Task) → fills_task task ≡ true
         → asking_told (is_moving (Execute (record execution { task = task }))) asking ≡ task_asks (task_told task) (asking_told (is_moving (Execute (record execution { task = task }))) asking) fifo
-    in_task (ReadId search) is = absurd (false≢true is)
-    in_task (Read reading) is = absurd (false≢true is)
     in_task (Write writing) is = refl
     in_task (Format formatting) is = refl
+    in_task _ is = absurd (false≢true is)
+told_low _ asking fifo is = absurd (false≢true is)
 
 -- after the terminal count the command can wait for ever
 counted_task : (slack : ℕ) (task : Task) (fifo : Fifo) → fills_task task ≡ true → task_counted task ≡ true → TaskWaits slack task fifo
@@ -84,10 +66,6 @@ room_more byte fifo on room = by_full (length fifo.bytes == room_of fifo.on) ref
         let less = unlike (length fifo.bytes) (room_of fifo.on) is (omega arith) in
         let more = length-append fifo.bytes (byte ∷ []) in omega arith
 
-kept_mode : (byte : ℕ) (full : Bool) (fifo : Fifo) (bytes : List ℕ) → ((if full then fifo else record fifo { bytes = bytes }).on ≡ fifo.on) × ((if full then fifo else record fifo { bytes = bytes }).threshold ≡ fifo.threshold)
-kept_mode byte true fifo bytes = (refl, refl)
-kept_mode byte false fifo bytes = (refl, refl)
-
 told_mode : (b : Bool) (fifo : Fifo) → b ≡ false → fifo_told b fifo ≡ fifo
 told_mode true fifo is = absurd (false≢true (sym is))
 told_mode false fifo is = refl
@@ -97,10 +75,10 @@ into : (slack : ℕ) (chips : Chips) (byte : ℕ) (channel : Channel) → IsFill
     → IsFilling slack (record chips { controller = taken_in byte chips.controller; channel = channel })
 into slack chips byte channel was granting =
     let fdc = chips.controller in
-    let mode = kept_mode byte (length fdc.fifo.bytes == room_of fdc.fifo.on) fdc.fifo (fdc.fifo.bytes ++ byte ∷ []) in
+    let only = into_only byte fdc in
     record {
-      on = mode.0 ∙ was.on;
-      threshold = mode.1 ∙ was.threshold;
+      on = ap (λ f. f.fifo.on) only ∙ was.on;
+      threshold = ap (λ f. f.fifo.threshold) only ∙ was.threshold;
       gated = was.gated;
       fills_it = was.fills_it;
       rule = sym (phase_again fdc.phase fdc.asking (with_byte byte fdc.fifo));

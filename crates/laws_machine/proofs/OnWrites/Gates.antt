@@ -1,15 +1,12 @@
 -- The write gates, step by step.
-use Rattle.std.proofs.Common.{◌≡◌, ◌⊎◌, inl, inr, ℕ, ◌+◌, ◌<◌, ◌/◌, ◌%◌, ◌&&◌, not, Bool, true, false, Option, Some, None, if◌then◌else◌, refl, sym, ◌∙◌, ap, subst}
-use Rattle.laws_machine.proofs.Common.{Becomes, DriveState, Writes, at_speed, can_write, rewritten, Fifo, FormatNext, WriteNext, FormatDoes, after_laid, is_listening, let_pass, polled, Moves, MovesIn, MovesTask, WordTime, Saw, KeptOut, Wrote, Stopped, IsTime, Closes, WritesIn, WritesTask, WriteDoes, after_next, is_ended, Fdc, Phase, Execute, Task, Format, DataRate, Formatting, Writing, Board, controller_of, selected_of, Works, Step, Marching, and_parts, false≢true, GatesDrives, HoldsGates, IsGated, IsGateOf, IsGivenIn, MakesTask, MakesTime, PassesClosed, is_recording, closes_same, opens_same}
+use Rattle.std.proofs.Common.{◌≡◌, ◌⊎◌, inl, inr, ℕ, ◌<◌, ◌/◌, ◌%◌, ◌&&◌, not, Bool, true, false, Option, Some, None, if◌then◌else◌, refl, sym, ◌∙◌, ap, subst}
+use Rattle.laws_machine.proofs.Common.{Becomes, DriveState, Writes, at_speed, can_write, rewritten, Fifo, is_listening, let_pass, polled, Moves, MovesIn, MovesTask, WordTime, Saw, KeptOut, Wrote, Stopped, IsTime, Closes, WritesIn, WritesTask, Fdc, Phase, Execute, Task, Format, DataRate, Board, controller_of, selected_of, Works, Step, Marching, and_parts, false≢true, GatesDrives, HoldsGates, IsGated, IsGateOf, IsGivenIn, MakesTask, MakesTime, PassesClosed, is_recording, closes_same, opens_same, fills_task, WriteTask as Write}
 use Rattle.laws_machine.proofs.Facts.{polled_phase}
-use Rattle.fdc_stages.specs.declared.formatting.FormatNext.TheVariants as format_next
-use Rattle.fdc_stages.specs.declared.writing.WriteNext.TheVariants as write_next
-use Rattle.fdc_phases.specs.Formatting as laying
-use Rattle.fdc_phases.specs.declared.phases.Task.TheVariants.{Write}
 use Rattle.laws_machine.proofs.OnQuiet.Steps.{listens_told}
 use Rattle.laws_machine.proofs.OnWrites.Guards.{moves_same, step_leaves}
-use Rattle.laws_machine.proofs.OnSteps.Controllers.{dma_controller}
+use Rattle.laws_machine.proofs.OnSteps.Controllers.{phase_dma}
 use Rattle.laws_machine.proofs.OnSteps.Words.{bays}
+use Rattle.laws_machine.proofs.OnSteps.Outcomes.{ClosesIf, HasTime, Outcome, Written, has_time}
 
 -- ---- a drive
 
@@ -64,36 +61,24 @@ time_gates Makes (Wrote opened closed index word) rate head before after is make
 })
 time_gates Makes Stopped rate head before after is makes = inl (moves_closed None before after is)
 
-closes_gate : (closed : Bool) (mid after : DriveState) → Closes closed mid after → closed ≡ true → after.gate ≡ false
-closes_gate true mid after closed is = ap (λ s. s.gate) closed
-closes_gate false mid after same wrong = absurd cc
+-- the gate is closed after the word time in which a command ends
+closes_gate : (time : WordTime) (rate : DataRate) (head : ℕ) (before after : DriveState) → IsTime time rate head before after → ClosesIf true time → after.gate ≡ false
+closes_gate (Saw index word) rate head before after is over = ap (λ s. s.gate) is.passes.becomes
+closes_gate (KeptOut index word) rate head before after (other, is) over = ap (λ s. s.gate) is.passes.becomes
+closes_gate (Wrote opened closed index word) rate head before after is over = ap (λ s. s.gate) (subst (λ b. Closes b is.mid after) over is.closes)
+closes_gate Stopped rate head before after is over = ap (λ s. s.gate) is
 
--- if a word leaves the gate open, the write goes on
-next_records : (next : WriteNext) (head_drive steps : ℕ) (writing : Writing) (old new : Fdc) (closed : Bool) (mid after : DriveState) → new ≡ after_next head_drive steps writing next old
-    → closed ≡ is_ended next → Closes closed mid after → after.gate ≡ true → is_recording new.phase ≡ true
-next_records (write_next.On stage) head_drive steps writing old new closed mid after is goes closes on = ap (λ f. is_recording f.phase) is
-next_records (write_next.Ended ending) head_drive steps writing old new closed mid after is over closes on = absurd (not_closed after (closes_gate closed mid after closes over) on)
+fills_none : (task : Task) → fills_task task ≡ true → is_listening task ≡ false
+fills_none (Write writing) fills_on = refl
+fills_none (Format formatting) fills_on = refl
+fills_none _ fills_on = absurd (false≢true fills_on)
 
-laid_records : (next : FormatNext) (head_drive steps : ℕ) (formatting : Formatting) (old new : Fdc) (closed : Bool) (mid after : DriveState)
-    → new ≡ after_laid head_drive steps formatting next old → closed ≡ laying.is_ended next → Closes closed mid after → after.gate ≡ true → is_recording new.phase ≡ true
-laid_records (format_next.On stage) head_drive steps formatting old new closed mid after is goes closes on = ap (λ f. is_recording f.phase) is
-laid_records (format_next.Ended ending key) head_drive steps formatting old new closed mid after is over closes on = absurd (not_closed after (closes_gate closed mid after closes over) on)
-
-write_goes : (time : WordTime) (rate : DataRate) (head head_drive steps : ℕ) (writing : Writing) (old : Fdc) (before after : DriveState) (new : Fdc) → IsTime time rate head before after
-    → WriteDoes time head_drive steps writing old before new → after.gate ≡ true → is_recording new.phase ≡ true
-write_goes (Saw index word) rate head head_drive steps writing old before after new is does on = absurd (not_closed after (ap (λ s. s.gate) is.passes.becomes) on)
-write_goes (KeptOut index word) rate head head_drive steps writing old before after new (other, is) does on = absurd (not_closed after (ap (λ s. s.gate) is.passes.becomes) on)
-write_goes (Wrote opened closed index word) rate head head_drive steps writing old before after new is does on =
-    next_records does.next head_drive (steps + 1) writing _ new closed is.mid after does.after_is does.closed_is is.closes on
-write_goes Stopped rate head head_drive steps writing old before after new is does on = absurd (not_closed after (ap (λ s. s.gate) is) on)
-
-format_goes : (time : WordTime) (rate : DataRate) (head head_drive steps : ℕ) (formatting : Formatting) (old : Fdc) (before after : DriveState) (new : Fdc) → IsTime time rate head before after
-    → FormatDoes time head_drive steps formatting old before new → after.gate ≡ true → is_recording new.phase ≡ true
-format_goes (Saw index word) rate head head_drive steps formatting old before after new is does on = absurd (not_closed after (ap (λ s. s.gate) is.passes.becomes) on)
-format_goes (KeptOut index word) rate head head_drive steps formatting old before after new (other, is) does on = absurd (not_closed after (ap (λ s. s.gate) is.passes.becomes) on)
-format_goes (Wrote opened closed index word) rate head head_drive steps formatting old before after new is does on =
-    laid_records does.next head_drive (steps + 1) formatting _ new closed is.mid after does.after_is does.closed_is is.closes on
-format_goes Stopped rate head head_drive steps formatting old before after new is does on = absurd (not_closed after (ap (λ s. s.gate) is) on)
+-- if a word leaves the gate open, the command goes on
+still_records : (time : WordTime) (rate : DataRate) (head steps : ℕ) (before after : DriveState) (old new : Fdc) → IsTime time rate head before after → Written time steps before old new
+    → after.gate ≡ true → is_recording new.phase ≡ true
+still_records time rate head steps before after old new is (Outcome.Continues head_drive later task bytes (fills_on, few, closes) next_is) on =
+    ap (λ fdc. is_recording fdc.phase) next_is ∙ ap not (fills_none task fills_on)
+still_records time rate head steps before after old new is (Outcome.Finishes ending head_drive key (closes, well) next_is) on = absurd (not_closed after (closes_gate time rate head before after is closes) on)
 
 -- ---- the selected drive
 
@@ -109,19 +94,20 @@ recording : {A B : Type 0} → A ⊎ B → A ⊎ ((true ≡ true) × B)
 recording (inl closed) = inl closed
 recording (inr given) = inr (refl, given)
 
+records : (task : Task) (head_drive steps : ℕ) (polls : Fdc) (before after : DriveState) (new : Fdc) → HasTime task head_drive steps polls before after new
+    → IsWorked true (λ time. MakesTask task head_drive steps time polls before new) before after new
+records task head_drive steps polls before after new does = record {
+  time = recording (time_gates (λ time. MakesTask task head_drive steps time polls before new) does.time polls.rate (head_drive / 4 % 2) before after does.is does.does);
+  goes_on = still_records does.time polls.rate (head_drive / 4 % 2) steps before after polls new does.is does.outcome;
+}
+
 by_task : (task : Task) (head_drive steps : ℕ) (asking : Bool) (fifo : Fifo) (polls : Fdc) (before after : DriveState) (new : Fdc) → MovesTask (is_listening task) before after
     → WritesTask task head_drive steps asking fifo polls before after new
     → IsWorked (not (is_listening task)) (λ time. MakesTask task head_drive steps time polls before new) before after new
 by_task (Write writing) head_drive steps asking fifo polls before after new moves writes =
-    let does = writes.step.does in record {
-      time = recording (time_gates (λ time. WriteDoes time head_drive steps writing polls before new) does.time polls.rate (head_drive / 4 % 2) before after does.is does.does);
-      goes_on = write_goes does.time polls.rate (head_drive / 4 % 2) head_drive steps writing polls before after new does.is does.does;
-    }
+    records (Write writing) head_drive steps polls before after new (has_time (Write writing) head_drive steps asking fifo polls before after new refl writes)
 by_task (Format formatting) head_drive steps asking fifo polls before after new moves writes =
-    let does = writes.step.does in record {
-      time = recording (time_gates (λ time. FormatDoes time head_drive steps formatting polls before new) does.time polls.rate (head_drive / 4 % 2) before after does.is does.does);
-      goes_on = format_goes does.time polls.rate (head_drive / 4 % 2) head_drive steps formatting polls before after new does.is does.does;
-    }
+    records (Format formatting) head_drive steps polls before after new (has_time (Format formatting) head_drive steps asking fifo polls before after new refl writes)
 by_task _ head_drive steps asking fifo polls before after new moves writes = worked_closed false _ before after new (heard_closed before after moves)
 
 by_phase : (phase : Phase) (asking : Bool) (fifo : Fifo) (polls : Fdc) (before after : DriveState) (new : Fdc) → MovesIn phase polls before after
@@ -157,7 +143,7 @@ step_gates old new step =
 recording_after : (old new : Board) → (step : Step old new) → is_recording step.between.phase ≡ true → is_recording (controller_of new).phase ≡ true
 recording_after old new step is =
     ap (λ bus. is_recording bus.chips.controller.phase) step.bus
-    ∙ dma_controller (λ fdc. is_recording fdc.phase) (λ fdc. ap not (listens_told fdc.phase)) (λ fdc. refl) (λ byte fdc. refl) true (record old.bus.chips { controller = step.between }) is
+    ∙ (phase_dma is_recording (λ phase. ap not (listens_told phase)) (record old.bus.chips { controller = step.between }) ∙ is)
 
 step_holds : (old new : Board) → Step old new → HoldsGates new
 step_holds old new step =

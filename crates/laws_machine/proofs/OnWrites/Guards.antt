@@ -1,10 +1,9 @@
 -- A device step writes one word at most.
 use Rattle.std.proofs.Common.{◌≡◌, inl, inr, ℕ, ◌%◌, ◌==◌, ◌&&◌, not, Bool, true, false, Option, Some, None, if◌then◌else◌, refl, sym, ◌∙◌, ap, subst}
-use Rattle.laws_machine.proofs.Common.{Disk, DriveState, Writes, can_write, has_track, is_protected, rewritten, dor_of, Moves, WordTime, Saw, KeptOut, Wrote, Stopped, IsTime, DataRate, Board, controller_of, drive_in, selected_of, Step, LeavesOthers, Steady, Progress, false≢true, closes_same, opens_same, GuardsMedia}
-use Rattle.raw_image.specs.Disk.{with_word}
+use Rattle.laws_machine.proofs.Common.{Disk, DriveState, Writes, can_write, has_track, is_protected, rewritten, dor_of, Moves, WordTime, Saw, KeptOut, Wrote, Stopped, IsTime, DataRate, Board, controller_of, drive_in, selected_of, Step, LeavesOthers, Steady, Progress, false≢true, closes_same, opens_same, GuardsMedia, with_disk_word as with_word}
 use Rattle.laws_machine.specs.OnWrites.Guards.{IsGuarded}
-use Rattle.laws_machine.proofs.OnSteps.Words.{controller, first_passes, second_passes}
-use Rattle.laws_machine.proofs.OnSteps.Controllers.{dma_dor}
+use Rattle.laws_machine.proofs.OnSteps.Words.{controller, others_pass}
+use Rattle.laws_machine.proofs.OnSteps.Controllers.{dma_only}
 use Rattle.laws_machine.proofs.OnSteps.Drives.{both}
 
 -- ---- one word
@@ -81,14 +80,14 @@ guarding bay medium covered = record {
 -- ---- the other media
 
 dor_on : (old new : Board) → (step : Step old new) → dor_of step.between ≡ dor_of (controller_of old) → dor_of (controller_of new) ≡ dor_of (controller_of old)
-dor_on old new step same = ap (λ bus. dor_of bus.chips.controller) step.bus ∙ dma_dor (dor_of (controller_of old)) (record old.bus.chips { controller = step.between }) same
+dor_on old new step same = ap (λ bus. dor_of bus.chips.controller) step.bus ∙ (ap dor_of (dma_only (record old.bus.chips { controller = step.between })) ∙ same)
 
 pub step_leaves : (old new : Board) → Step old new → LeavesOthers old new
 step_leaves old new step = record {
   dor = dor_on old new step (controller (dor_of step.between ≡ dor_of (controller_of old)) old new step
       (λ before after works. ap (λ dor. dor.0) works.stays.dor) (λ works. ap (λ dor. dor.0) works.stays.dor));
-  first = λ other. ap (λ s. s.medium) (first_passes old new step other);
-  second = λ other. ap (λ s. s.medium) (second_passes old new step other);
+  first = λ other. ap (λ s. s.medium) ((others_pass old new step).0 other);
+  second = λ other. ap (λ s. s.medium) ((others_pass old new step).1 other);
 }
 
 pub leaves_on : (old between new : Board) → LeavesOthers old between → LeavesOthers between new → LeavesOthers old new

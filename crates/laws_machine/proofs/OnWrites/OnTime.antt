@@ -1,10 +1,7 @@
 -- A command that takes bytes from memory, on time through device steps.
 use Rattle.std.proofs.Common.{◌≡◌, ◌⊎◌, inl, inr, ℕ, ◌+◌, ◌-◌, ◌%◌, ◌≤◌, ◌==◌, Bool, true, false, length, if◌then◌else◌, refl, sym, ◌∙◌, ap, subst, arith}
-use Rattle.laws_machine.proofs.Common.{Rose, DriveState, Fifo, emptied, room_of, FormatNext, WriteNext, begun, WaitsAtFirst, asked, FormatDoes, after_laid, is_executing, is_overrun, is_reading, asks, is_gated, polled, WordTime, Saw, KeptOut, Wrote, Stopped, PhaseWaits, phase_counted, WritesIn, WritesTask, WriteDoes, after_next, without_byte, Fdc, Phase, Execute, Task, Format, Formatting, Writing, IsInTime, IsReady, looked, DmaRequest, Low, in_time, IsRuled, Stalled, drive_in, Board, selected_of, Works, Step, can_move, looked_at, shown_again, Chips, fills, fills_task, IsFilling, IsFedInTime, IsOnTime, Keeping, false≢true, length-drop, grants, moved_up_to, dma_stepped, IsPunctualWrite}
-use Rattle.fdc_stages.specs.declared.formatting.FormatNext.TheVariants as format_next
-use Rattle.fdc_stages.specs.declared.writing.WriteNext.TheVariants as write_next
+use Rattle.laws_machine.proofs.Common.{Rose, DriveState, Fifo, emptied, room_of, begun, WaitsAtFirst, asked, is_executing, is_overrun, is_reading, asks, is_gated, polled, WordTime, PhaseWaits, phase_counted, WritesIn, Fdc, Phase, Execute, Task, IsInTime, IsReady, looked, DmaRequest, Low, in_time, IsRuled, Stalled, drive_in, Board, selected_of, Works, Step, can_move, looked_at, shown_again, Chips, fills, fills_task, IsFilling, IsFedInTime, IsOnTime, Keeping, false≢true, grants, moved_up_to, dma_stepped, IsPunctualWrite}
 use Rattle.fdc_core.specs.Waiting.{Lasts, LastsIn}
-use Rattle.fdc_phases.specs.declared.phases.Task.TheVariants.{Write}
 use Rattle.laws_machine.proofs.OnWrites.Filling.{counted_waits, filling_held, filling_low, filling_moved, not_reading, ruled_by}
 use Rattle.laws_machine.proofs.OnWrites.Guards.{step_leaves}
 use Rattle.laws_machine.proofs.OnSteps.Words.{some_drive}
@@ -14,6 +11,7 @@ use Rattle.laws_machine.proofs.OnSteps.Stalls.{dma_stalls, shown_low}
 use Rattle.laws_machine.proofs.OnQuiet.Standing.{rested}
 use Rattle.laws_machine.proofs.OnReads.Served.{phase_again, served}
 use Rattle.laws_machine.proofs.OnReads.Timely.{first_low, flows_in, not_due, ready_low, ready_one}
+use Rattle.laws_machine.proofs.OnSteps.Outcomes.{Outcome, Written, has_time}
 
 -- ---- the word time
 
@@ -22,50 +20,17 @@ pub record GoesOnFilling (fifo : Fifo) (new : Fdc) : Type 0 where
   pub fills_it : is_executing new.phase ≡ true → fills new.phase ≡ true
   pub fewer : is_executing new.phase ≡ true → length new.fifo.bytes ≤ length fifo.bytes
 
-without_fewer : (needs : Bool) (old : Fdc) → length (without_byte needs old).fifo.bytes ≤ length old.fifo.bytes
-without_fewer true old = let less = length-drop 1 old.fifo.bytes in omega arith
-without_fewer false old = omega arith
-
-next_fills : (head_drive steps : ℕ) (writing : Writing) (after : WriteNext) (old : Fdc) (fifo : Fifo) → length old.fifo.bytes ≤ length fifo.bytes → GoesOnFilling fifo (after_next head_drive steps writing after old)
-next_fills head_drive steps writing (write_next.On stage) old fifo few = record { fills_it = λ _. refl; fewer = λ _. few }
-next_fills head_drive steps writing (write_next.Ended ending) old fifo few = record { fills_it = λ busy. absurd (false≢true busy); fewer = λ busy. absurd (false≢true busy) }
-
-laid_fills : (head_drive steps : ℕ) (formatting : Formatting) (after : FormatNext) (old : Fdc) (fifo : Fifo) → length old.fifo.bytes ≤ length fifo.bytes → GoesOnFilling fifo (after_laid head_drive steps formatting after old)
-laid_fills head_drive steps formatting (format_next.On stage) old fifo few = record { fills_it = λ _. refl; fewer = λ _. few }
-laid_fills head_drive steps formatting (format_next.Ended ending key) old fifo few = record { fills_it = λ busy. absurd (false≢true busy); fewer = λ busy. absurd (false≢true busy) }
-
-over_fills : (fifo : Fifo) (new : Fdc) → is_executing new.phase ≡ false → GoesOnFilling fifo new
-over_fills fifo new idle = record { fills_it = λ busy. absurd (false≢true (sym idle ∙ busy)); fewer = λ busy. absurd (false≢true (sym idle ∙ busy)) }
-
-write_fills : (time : WordTime) (head_drive steps : ℕ) (writing : Writing) (old : Fdc) (before : DriveState) (new : Fdc) → WriteDoes time head_drive steps writing old before new → GoesOnFilling old.fifo new
-write_fills (Saw index word) head_drive steps writing old before new (due, does) =
-    subst (GoesOnFilling old.fifo) (sym does.after_is) (next_fills head_drive (steps + 1) writing does.next old old.fifo (omega arith))
-write_fills (KeptOut index word) head_drive steps writing old before new (opening, does) =
-    subst (GoesOnFilling old.fifo) (sym does.after_is) (next_fills head_drive (steps + 1) writing does.next old old.fifo (omega arith))
-write_fills (Wrote opened closed index word) head_drive steps writing old before new does =
-    subst (GoesOnFilling old.fifo) (sym does.after_is) (next_fills head_drive (steps + 1) writing does.next (without_byte _ old) old.fifo (without_fewer _ old))
-write_fills Stopped head_drive steps writing old before new does = over_fills old.fifo new (ap (λ fdc. is_executing fdc.phase) does.after_is)
-
-format_fills : (time : WordTime) (head_drive steps : ℕ) (formatting : Formatting) (old : Fdc) (before : DriveState) (new : Fdc) → FormatDoes time head_drive steps formatting old before new → GoesOnFilling old.fifo new
-format_fills (Saw index word) head_drive steps formatting old before new (due, does) =
-    subst (GoesOnFilling old.fifo) (sym does.after_is) (laid_fills head_drive (steps + 1) formatting does.next old old.fifo (omega arith))
-format_fills (KeptOut index word) head_drive steps formatting old before new (opening, does) =
-    subst (GoesOnFilling old.fifo) (sym does.after_is) (laid_fills head_drive (steps + 1) formatting does.next old old.fifo (omega arith))
-format_fills (Wrote opened closed index word) head_drive steps formatting old before new does =
-    subst (GoesOnFilling old.fifo) (sym does.after_is) (laid_fills head_drive (steps + 1) formatting does.next (without_byte does.needs old) old.fifo (without_fewer does.needs old))
-format_fills Stopped head_drive steps formatting old before new does = over_fills old.fifo new (ap (λ fdc. is_executing fdc.phase) does.after_is)
-
-task_fills : (task : Task) (head_drive steps : ℕ) (asking : Bool) (fifo : Fifo) (polls : Fdc) (before after : DriveState) (new : Fdc) → fills_task task ≡ true
-    → WritesTask task head_drive steps asking fifo polls before after new → GoesOnFilling polls.fifo new
-task_fills (Write writing) head_drive steps asking fifo polls before after new is writes = write_fills writes.step.does.time head_drive steps writing polls before new writes.step.does.does
-task_fills (Format formatting) head_drive steps asking fifo polls before after new is writes = format_fills writes.step.does.time head_drive steps formatting polls before new writes.step.does.does
-task_fills _ head_drive steps asking fifo polls before after new is writes = absurd (false≢true is)
+goes_filling : (time : WordTime) (steps : ℕ) (before : DriveState) (old new : Fdc) → Written time steps before old new → GoesOnFilling old.fifo new
+goes_filling time steps before old new (Outcome.Continues head_drive later task bytes (fills_on, few, closes) is) =
+    record { fills_it = λ _. ap (λ fdc. fills fdc.phase) is ∙ fills_on; fewer = λ _. subst (λ fdc. length fdc.fifo.bytes ≤ length old.fifo.bytes) (sym is) few }
+goes_filling time steps before old new (Outcome.Finishes ending head_drive key over is) =
+    let idle = ap (λ fdc. is_executing fdc.phase) is in record { fills_it = λ busy. absurd (false≢true (sym idle ∙ busy)); fewer = λ busy. absurd (false≢true (sym idle ∙ busy)) }
 
 phase_fills : (phase : Phase) (asking : Bool) (fifo : Fifo) (polls : Fdc) (before after : DriveState) (new : Fdc) → fills phase ≡ true → WritesIn phase asking fifo polls before after new → GoesOnFilling polls.fifo new
-phase_fills (Execute execution) asking fifo polls before after new is writes = task_fills execution.task execution.head_drive execution.steps asking fifo polls before after new is writes
+phase_fills (Execute execution) asking fifo polls before after new is writes =
+    let does = has_time execution.task execution.head_drive execution.steps asking fifo polls before after new is writes in
+    goes_filling does.time execution.steps before polls new does.outcome
 phase_fills _ asking fifo polls before after new is writes = absurd (false≢true is)
-
--- ---- the request
 
 -- ---- the transfers
 

@@ -1,6 +1,6 @@
 -- From the words that were written to the medium.
 use Rattle.std.proofs.Common.{true, false, ◌≡◌, ◌⊎◌, inl, inr, ℕ, ◌+◌, ◌*◌, ◌≤◌, Bool, List, [], ◌∷◌, ◌++◌, Some, length, get_or, take, drop, refl, sym, ◌∙◌, ap, subst, arith, length-append}
-use Rattle.laws_machine.proofs.Common.{Disk, HasTrack, IsWithTrack, track_of, Chrn, IsAddressAt, content_size, HasAddressMark, length-track_of, Channel, DriveState, Fifo, Past, IsTurnIn, IsAmong, HasNoClear, Ending, Done, NoMark, NoSector, NoField, BadCheck, Overrun, NoCount, Protected, Late, IsFirstOf, IsWhole, IsWriting, WriteStage, Results, is_overrun, IsContent, MayWriteIn, MayWriteTask, Short, Long, Phase, Command, Execute, Result, Task, content_of, start_of, IsHeard, AreHeard, IsHeardFrom, IsCalm, Scene, IsScene, head_sent, track_met, IsAtWindow, IsTaken, range_of, refuses, refuses_as, get_or-append, false≢true, append-nil, ext_get_or, get_or-take, length-take, with_items, IsMissed, HasBegun, HasNoWindow, HasWritten, overran, address_heard, mark_heard, ChangesTo, ChangesWhole, WriteEndedIn, WriteEndsAs, HasChanged, IsUnchanged, WritesWell, window_in, written_in, heard_met, outset_of, between_is}
+use Rattle.laws_machine.proofs.Common.{Disk, HasTrack, IsWithTrack, track_of, Chrn, IsAddressAt, content_size, HasAddressMark, length-track_of, Channel, DriveState, Fifo, Past, IsTurnIn, IsAmong, HasNoClear, Ending, Done, NoMark, NoSector, NoField, BadCheck, Overrun, NoCount, Protected, Late, IsFirstOf, IsWhole, IsWriting, WriteStage, Results, is_overrun, IsContent, MayWriteIn, MayWriteTask, Long, Phase, Execute, Result, Task, content_of, start_of, AreHeard, IsCalm, Scene, IsScene, head_sent, track_met, IsAtWindow, IsTaken, range_of, refuses, refuses_as, get_or-append, false≢true, append-nil, ext_get_or, get_or-take, length-take, with_items, IsMissed, HasBegun, HasNoWindow, HasWritten, overran, address_heard, mark_heard, ChangesTo, ChangesWhole, WriteEndedIn, WriteEndsAs, HasChanged, IsUnchanged, WritesWell, window_in, written_in, heard_met, outset_of, between_is, turn_heard, WriteTask as Write}
 use Rattle.track_model.specs.Windows.{IsCuttable, cut_of, window_word}
 use Rattle.track_model.specs.Writing.{window}
 use Rattle.track_model.proofs.Frames.{same_address_at}
@@ -9,7 +9,6 @@ use Rattle.track_model.proofs.Written.{length-window}
 use Rattle.sector_map.specs.Changes.{Change, IsChange}
 use Rattle.fdc_stages.specs.Windows.{words_behind}
 use Rattle.fdc_stages.specs.declared.writing.WriteStage.TheVariants as stage
-use Rattle.fdc_phases.specs.declared.phases.Task.TheVariants.{Write}
 use Rattle.laws_machine.proofs.OnReads.Words.{length-met}
 use Rattle.laws_machine.proofs.OnWrites.Content.{handed_all, handed_rest, not_all}
 
@@ -23,46 +22,32 @@ pub record IsOfWindow (scene : Scene) (deleted : Bool) (past : Past) : Type 0 wh
   pub some : 1 ≤ length past.words
   pub first : IsFirstOf past.words (window_in scene deleted)
 
-first_of_range : (scene : Scene) (deleted : Bool) (words handed rest : List ℕ) → handed ++ rest ≡ range_of scene → IsFirstOf words (window deleted (handed ++ rest)) → IsFirstOf words (window_in scene deleted)
-first_of_range scene deleted words handed rest is first = subst (λ content. IsFirstOf words (window deleted content)) is first
+-- it is so if they are the first of the window of each content that goes on from what was handed in
+of_window : (scene : Scene) (deleted : Bool) (past : Past) (memory : List ℕ) (channel : Channel) (handed : List ℕ) (p : ℕ) → IsScene scene → IsTaken scene past.taken past.counted memory channel
+    → scene.size ≡ content_size scene.sent.key.n → IsContent past.counted past.taken handed → IsAddressAt past.seen p scene.sent.key → length past.seen ≡ window_word p → 1 ≤ length past.words
+    → length handed ≤ content_size scene.sent.key.n → ((rest : List ℕ) → length handed + length rest ≡ content_size scene.sent.key.n → IsFirstOf past.words (window deleted (handed ++ rest))) → IsOfWindow scene deleted past
+of_window scene deleted past memory channel handed p whole taken size content address place some few first =
+    let (all, long) = handed_rest scene past.taken past.counted memory channel whole taken handed content (omega arith) in
+    record { p = p; address = address; place = place; some = some; first = subst (λ bytes. IsFirstOf past.words (window deleted bytes)) all (first (drop (length handed) (range_of scene)) (omega arith)) }
 
 begun_of : (scene : Scene) (deleted : Bool) (past : Past) (memory : List ℕ) (channel : Channel) (handed : List ℕ) → IsScene scene → IsTaken scene past.taken past.counted memory channel
     → scene.size ≡ content_size scene.sent.key.n → IsContent past.counted past.taken handed → HasBegun past scene.sent.key deleted handed → (past.words ≡ []) ⊎ IsOfWindow scene deleted past
 begun_of scene deleted past memory channel handed whole taken size content (inl none) = inl none.0
 begun_of scene deleted past memory channel handed whole taken size content (inr (p, begun)) =
-    let few = begun.few in
-    let rest = drop (length handed) (range_of scene) in
-    let (all, long) = handed_rest scene past.taken past.counted memory channel whole taken handed content (omega arith) in
-    inr (record {
-      p = p;
-      address = begun.address;
-      place = begun.place;
-      some = begun.some;
-      first = first_of_range scene deleted past.words handed rest all (begun.first rest (omega arith));
-    })
+    inr (of_window scene deleted past memory channel handed p whole taken size content begun.address begun.place begun.some begun.few begun.first)
 
 stage_of : (scene : Scene) (deleted : Bool) (past : Past) (memory : List ℕ) (channel : Channel) (handed : List ℕ) → IsScene scene → IsTaken scene past.taken past.counted memory channel
     → scene.size ≡ content_size scene.sent.key.n → IsContent past.counted past.taken handed → (now : WriteStage) → IsWriting past scene.sent.key deleted handed now
     → (past.words ≡ []) ⊎ IsOfWindow scene deleted past
 stage_of scene deleted past memory channel handed whole taken size content (stage.Window window) (at, ((p, within), some)) =
-    let bytes = within.bytes in
-    let rest = drop (length handed) (range_of scene) in
-    let (all, long) = handed_rest scene past.taken past.counted memory channel whole taken handed content (omega arith) in
-    inr (record {
-      p = p;
-      address = within.address;
-      place = within.place;
-      some = some;
-      first = first_of_range scene deleted past.words handed rest all (words_behind (Some window) rest, sym (within.goes_on rest (omega arith)));
-    })
+    inr (of_window scene deleted past memory channel handed p whole taken size content within.address within.place some (let few = within.bytes in omega arith)
+    (λ rest all. let bytes = within.bytes in (words_behind (Some window) rest, sym (within.goes_on rest (omega arith)))))
 stage_of scene deleted past memory channel handed whole taken size content _ was = inl was.1.1.0
 
 -- what the command has written, whatever its phase is
 pub words_of : (scene : Scene) (deleted : Bool) (past : Past) (memory : List ℕ) (channel : Channel) → IsScene scene → IsTaken scene past.taken past.counted memory channel
     → scene.size ≡ content_size scene.sent.key.n → (phase : Phase) (asking : Bool) (fifo : Fifo) → MayWriteIn past scene.sent deleted phase asking fifo
     → (past.words ≡ []) ⊎ IsOfWindow scene deleted past
-words_of scene deleted past memory channel whole taken size Command asking fifo was = absurd was
-words_of scene deleted past memory channel whole taken size (Result (Short next last)) asking fifo was = absurd was
 words_of scene deleted past memory channel whole taken size (Result (Long ending results read)) asking fifo (low, are, (handed, has)) =
     begun_of scene deleted past memory channel handed whole taken size has.content has.written.begun
 words_of scene deleted past memory channel whole taken size (Execute execution) asking fifo was = in_task execution.task execution.head_drive execution.steps was
@@ -74,6 +59,7 @@ words_of scene deleted past memory channel whole taken size (Execute execution) 
         stage_of scene deleted past memory channel handed whole taken size content writing.stage
         (subst (λ d. IsWriting past scene.sent.key d handed writing.stage) on.deleted_is (subst (λ k. IsWriting past k writing.deleted handed writing.stage) key on.writes))
     in_task _ head_drive steps was = absurd was
+words_of scene deleted past memory channel whole taken size _ asking fifo was = absurd was
 
 -- ---- the medium
 
@@ -152,19 +138,6 @@ only scene deleted executes past drive whole was (inr of) = inr (made scene dele
 
 -- ---- a revolution that was heard
 
-among_heard : (track : List ℕ) (from : ℕ) (turns : List (List ℕ)) (turn : List ℕ) → AreHeard track from turns → IsAmong turns turn → (start : ℕ) × IsHeard track start turn
-among_heard track from [] turn all among = absurd among
-among_heard track from (last ∷ turns) turn (heard, end, others) among = elim among [
-  | inl is ↦ (start_of from turns, subst (IsHeard track (start_of from turns)) (sym is) heard)
-  | inr earlier ↦ among_heard track from turns turn others earlier
-]
-
-turn_heard : (track : List ℕ) (from : ℕ) (turns : List (List ℕ)) (seen turn : List ℕ) → IsHeardFrom track from turns seen → IsTurnIn turns seen turn → (start : ℕ) × IsHeard track start turn
-turn_heard track from turns seen turn heard among = elim among [
-  | inl is ↦ (start_of from turns, subst (IsHeard track (start_of from turns)) (sym is) heard.now)
-  | inr earlier ↦ among_heard track from turns turn heard.over earlier
-]
-
 among_between : (turns : List (List ℕ)) (seen between first : List ℕ) → turns ≡ between ∷ first ∷ [] → IsTurnIn turns seen between
 among_between turns seen between first is = inr (subst (λ t. IsAmong t between) (sym is) (inl refl))
 
@@ -199,7 +172,7 @@ module _ (scene : Scene) (deleted executes : Bool) (past : Past) (drive : DriveS
 
   sector_ends : past.words ≡ [] → IsMissed past (Some scene.sent.key) NoSector → WriteEndsAs scene deleted drive NoSector
   sector_ends none (missed, (words, among, (p, mark))) =
-      let (start, turned) = turn_heard (track_met scene) scene.from past.turns past.seen words was.at.hears.heard among in (
+      let (start, turned, turned_whole) = turn_heard (track_met scene) scene.from past.turns past.seen words was.at.hears.heard among in (
         was.at.medium.quiet none,
         (p + 16 * start, mark_heard (track_met scene) start words turned p mark),
         λ calm.

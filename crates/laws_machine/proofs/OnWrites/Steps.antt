@@ -1,11 +1,8 @@
 -- The word time of a write.
 use Rattle.std.proofs.Common.{◌≡◌, ◌⊎◌, inl, inr, ℕ, zero, suc, ◌+◌, ◌/◌, ◌%◌, ◌≤◌, Bool, true, false, List, [], ◌∷◌, ◌++◌, length, refl, sym, ◌∙◌, ap, subst, arith, length-append}
-use Rattle.laws_machine.proofs.Common.{Chrn, DriveState, is_protected, rate_of, Fifo, Past, heard, wrote, turns_after, IsWriting, WriteNext, WriteStage, IsAddressAt, with_word, Sent, stepped, is_executing, rate_fits, WordTime, Saw, KeptOut, Wrote, Stopped, IsTime, after_time, WritesTask, WriteDoes, after_next, is_ended, MayWriteIn, MayWriteTask, Fdc, Phase, Command, Execute, Result, Task, Writing, led, Scene, IsRecorded, IsScene, head_sent, IsAtDrive, IsAtWindow, Window, false≢true, HasTurned, opens, IsAtStage, MayWrite, IsWritingOn, address_in, few_led, saw_on, wrote_on, stopped_on, still_unprotected, heard_met, outset_of}
-use Rattle.fdc_stages.specs.Writings.{is_due}
-use Rattle.fdc_stages.specs.declared.writing.WriteNext.TheVariants as next
+use Rattle.laws_machine.proofs.Common.{Chrn, DriveState, is_protected, rate_of, Fifo, Past, heard, wrote, turns_after, IsWriting, WriteStage, IsAddressAt, with_word, Sent, stepped, is_executing, rate_fits, WordTime, Saw, KeptOut, Wrote, Stopped, IsTime, after_time, WritesTask, WriteDoes, MayWriteIn, MayWriteTask, Fdc, Phase, Execute, Task, Writing, led, Scene, IsRecorded, IsScene, head_sent, IsAtDrive, IsAtWindow, Window, false≢true, HasTurned, opens, IsAtStage, MayWrite, IsWritingOn, address_in, few_led, saw_on, wrote_on, stopped_on, still_unprotected, heard_met, outset_of, is_word_due as is_due, WriteTask as Write}
 use Rattle.fdc_stages.specs.declared.writing.WriteStage.TheVariants as stage
-use Rattle.fdc_phases.specs.declared.phases.Task.TheVariants.{Write}
-use Rattle.laws_machine.proofs.OnWrites.Covered.{does_covered}
+use Rattle.laws_machine.proofs.OnSteps.Outcomes.{closes_not, covered as refused, write_outcome}
 use Rattle.laws_machine.proofs.OnOrders.Behind.{IsTimedLed}
 
 -- ---- stages
@@ -50,14 +47,13 @@ pub record IsInExecution (past : Past) : Type 0 where
   pub few : (length past.turns ≤ 1) ⊎ (1 ≤ length past.seen)
 
 in_execution : (past : Past) (sent : Sent) (deleted : Bool) (phase : Phase) (asking : Bool) (fifo : Fifo) → MayWriteIn past sent deleted phase asking fifo → is_executing phase ≡ true → IsInExecution past
-in_execution past sent deleted Command asking fifo was busy = absurd was
-in_execution past sent deleted (Result answer) asking fifo was busy = absurd (false≢true busy)
 in_execution past sent deleted (Execute execution) asking fifo was busy = in_task execution.task execution.head_drive execution.steps was
   where
     in_task : (task : Task) (head_drive steps : ℕ) → MayWriteTask past sent deleted head_drive steps task asking fifo → IsInExecution past
     in_task (Write writing) head_drive steps (asks, (handed, on)) =
         record { place = on.writes.0; few = few_at past.turns past.seen past.words writing.wanted.key writing.deleted handed writing.stage on.writes.1 }
     in_task _ head_drive steps was = absurd was
+in_execution past sent deleted _ asking fifo was busy = absurd (false≢true busy)
 
 few_heard : (index : Bool) (word lead : ℕ) (late : Past) → length late.turns ≤ 1 → IsInExecution (heard index word (stepped (led lead late))) → length (turns_after index late.turns (with_word late.seen word)) ≤ 1
 few_heard true word lead late few is = elim is.few [ inl still ↦ let same = few_led lead late.turns in omega arith | inr some ↦ absurd (omega arith) ]
@@ -72,10 +68,6 @@ no_index false word past is = refl
 abbrev pub is_stopped : WordTime → Bool
 is_stopped Stopped = true
 is_stopped _ = false
-
-ended_rests : (head_drive steps : ℕ) (writing : Writing) (after : WriteNext) (old : Fdc) → is_executing (after_next head_drive steps writing after old).phase ≡ true → is_ended after ≡ false
-ended_rests head_drive steps writing (next.On now) old busy = refl
-ended_rests head_drive steps writing (next.Ended ending) old busy = absurd (false≢true busy)
 
 -- the word time is at the scene's rate, under its head
 pub time_here : (scene : Scene) (time : WordTime) (drive after : DriveState) (polls : Fdc) (head_drive : ℕ) → head_drive ≡ scene.sent.head_drive → polls.rate ≡ scene.rate
@@ -119,7 +111,7 @@ module _ (scene : Scene) (deleted : Bool) (lead : ℕ) (late : Past) (drive afte
       record {
         at = wrote_on (outset_of scene) late drive after opened closed index (is_executing between.phase) word whole.disk (met due).fits was.at unprotected
             (λ yes. due.first (sym does.opened_is ∙ yes)) (λ no. due.later (sym does.opened_is ∙ no)) is
-            (λ busy. does.closed_is ∙ ended_rests head_drive (steps + 1) writing does.next _ (sym (ap (λ fdc. is_executing fdc.phase) does.after_is) ∙ busy))
+            (closes_not (Wrote opened closed index word) steps drive polls between (write_outcome (Wrote opened closed index word) head_drive steps writing polls drive between does))
             (λ busy. no_index index word (led lead late) (in_execution (wrote index word (stepped (led lead late))) scene.sent deleted between.phase between.asking between.fifo then_is busy));
         there = λ _. (met due).has;
         unbarred = was.unbarred;
@@ -141,7 +133,7 @@ in_task scene deleted lead late drive after polls between asking fifo whole rate
     record {
       time = does.time;
       may = then_is;
-      covered = λ is. let (first, covered) = does_covered does.time head_drive steps writing polls drive between does.does is in sym (ap is_protected (was.at.medium.quiet (on.fresh first))) ∙ covered;
+      covered = λ is. let (first, covered) = refused does.time steps drive polls between (write_outcome does.time head_drive steps writing polls drive between does.does) is in sym (ap is_protected (was.at.medium.quiet (on.fresh first))) ∙ covered;
       at = by_time scene deleted lead late drive after polls between head_drive steps writing fifo.bytes handed whole guarded was on does.time
           (time_here scene does.time drive after polls head_drive (ap (λ s. s.head_drive) on.sent_is) rate does.is) does.does writes.step.guards then_is;
     }

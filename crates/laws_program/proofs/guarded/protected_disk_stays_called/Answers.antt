@@ -1,4 +1,4 @@
-use Rattle.laws_program.proofs.ProtectedCalls.{calls_stay}
+use Rattle.laws_program.proofs.Protected.{calls_stay}
 use Rattle.laws_program.proofs.guarded.protected_disk_stays_called.Goals as goal
 
 pub returns : goal.returns
