@@ -1,8 +1,8 @@
 -- The requests that put media in, make bays ready and take media out. They are done when nothing disturbs them. Also
 -- here is what holds after them.
-use Rattle.std.proofs.Common.{arith, ◌≡◌, ◌∙◌, ◌<◌, ◌≤◌, ℕ, Bool, true, false, true≢false, List, length, refl, sym, ap, subst, inl, inr, Option, Some, None, Result, Ok, Err, IsOk, le-leb, unwrap_or}
+use Rattle.std.proofs.Common.{arith, ◌≡◌, ◌∙◌, ◌≤◌, ℕ, Bool, true, false, true≢false, List, refl, sym, ap, subst, inl, inr, Option, Some, None, Result, Ok, Err, IsOk, le-leb, unwrap_or}
 use Rattle.std.specs.Prelude.{◌&&◌, ◌==◌, not, is_some, IsSomeAnd, MatchBool, if◌then◌else◌}
-use Rattle.laws_commands.proofs.Common.{option_map, Files, file_at, Code, BadRequest, Changed, Rate, R500, R250, Disk, image_of, ImageError, Two, in_bay, IsUndisturbed, Request, Reply, Stop, StationState, Bay, Becomes, IsFresh, bay_of, set_bay, fresh_bay, is_bay, is_acknowledged, rate_refusal, AcksDrive, State, Step, StopsAt, IsImageOf, refusal_of, reply_of, is_loaded, unless_bad, is_blank_request, most_image_bytes, is_refusal, IsEndStop, blank_request, Shape, shape_of, Script, carries, no_tracks, shape_at}
+use Rattle.laws_commands.proofs.Common.{option_map, Files, file_at, Code, BadRequest, Changed, Rate, R500, R250, Disk, Two, in_bay, IsUndisturbed, Request, Reply, Stop, StationState, Bay, Becomes, IsFresh, bay_of, set_bay, fresh_bay, is_bay, is_acknowledged, rate_refusal, AcksDrive, State, Step, StopsAt, IsImageOf, refusal_of, reply_of, is_loaded, unless_bad, is_blank_request, is_refusal, IsEndStop, blank_request, Shape, shape_of, Script, carries, no_tracks, shape_at}
 use Rattle.floppy_jobs.specs.declared.request.Request.TheVariants as request
 use Rattle.sector_model.specs.declared.reply.Reason.TheVariants as reason
 use Rattle.sector_model.specs.declared.reply.Stop.TheVariants as stop

@@ -1,6 +1,6 @@
 -- How long whole commands last at most, and how many port accesses they make.
 use Rattle.std.proofs.Common.{arith, ◌≡◌, ◌∙◌, ℕ, ◌+◌, ◌-◌, ◌*◌, ◌≤◌, Bool, true, false, false, get_or, List, [], ◌∷◌, refl, ap, subst, Option, Some, unwrap_or, Result, Ok, Err}
-use Rattle.laws_commands.proofs.Common.{option_map, Two, in_bay, Files, sectors_at, words_at, Rate, Status, Chrn, Disk, key_of, sector_place, Request, Reply, turn_of, StationState, Bay, bay_of, fresh_bay, State, Step, IsImageOf, Stop, is_refusal, stop_lines, stop_status, Taken, World, blank_request, Shape, shape_of, Script, RunsScript, carries, shape_at, no_tracks, acknowledges, formats, record_address, track_address, one_more, write_request, IsFlatFile, IsFlatFound, RequestCosts, ready_cost, format_cost, verify_cost, copy_cost, import_cost, export_cost}
+use Rattle.laws_commands.proofs.Common.{option_map, Two, in_bay, Files, sectors_at, words_at, Rate, Status, Chrn, Disk, key_of, sector_place, Request, Reply, turn_of, StationState, Bay, bay_of, fresh_bay, State, Step, IsImageOf, Stop, is_refusal, stop_lines, stop_status, Taken, World, blank_request, Shape, shape_of, Script, RunsScript, carries, shape_at, no_tracks, acknowledges, formats, record_address, track_address, one_more, write_request, IsFlatFile, RequestCosts, ready_cost, format_cost, verify_cost, copy_cost, import_cost, export_cost}
 use Rattle.flop_base.specs.declared.answers.Status.TheVariants as status
 use Rattle.floppy_jobs.specs.declared.request.Request.TheVariants as request
 use Rattle.sector_model.specs.declared.reply.Reply.TheVariants as reply

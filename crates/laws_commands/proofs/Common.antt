@@ -55,7 +55,7 @@ pub use Rattle.laws_commands.specs.Times.{ArePutShort, PutsShort, RequestCosts, 
 pub use Rattle.laws_commands.specs.Verified.{IsStandardKey, IsUnmistaken, ReadsDisk, all_told_of, refused_read, refused_reads, told_of}
 pub use Rattle.laws_commands.specs.VerifyRuns.{IsEndStatus, TellsFailing, failing_line}
 pub use Rattle.raw_image.specs.Disk.{Disk, HasTrack, IsDisk, blank_disk, track_of}
-pub use Rattle.raw_image.specs.Image.{body_of, disk_of, file_of, image_of, whole_length}
+pub use Rattle.raw_image.specs.Image.{body_of, disk_of, file_of, whole_length}
 pub use Rattle.raw_image.specs.Words.{bytes_of, words_of}
 pub use Rattle.raw_image.specs.declared.error.ImageError.{ImageError}
 pub use Rattle.raw_image.specs.declared.error.ImageError.TheVariants.{BadMagic, TooShort, Trailing}
@@ -80,7 +80,7 @@ pub use Rattle.sector_map.specs.Standard.{key_of, track_keys}
 pub use Rattle.sector_model.specs.Calls.{AcksDrive, IsAcknowledged, SetsRate}
 pub use Rattle.sector_model.specs.Formats.{FormatsDrive, Lays, LaysDisk}
 pub use Rattle.sector_model.specs.Lasting.{format_once_port_accesses, format_steps, format_turns, turn_of}
-pub use Rattle.sector_model.specs.Orders.{IsDeviceRefusal, IsRefusedAtOnce, crosses_page, format_refusal, is_acknowledged, is_bay, is_format_request, is_protected, is_sector_request, most_format_gap, rate_refusal, read_refusal, write_refusal}
+pub use Rattle.sector_model.specs.Orders.{IsDeviceRefusal, IsRefusedAtOnce, crosses_page, format_refusal, is_acknowledged, is_bay, is_protected, is_sector_request, most_format_gap, rate_refusal, read_refusal, write_refusal}
 pub use Rattle.sector_model.specs.Plays.{IsPutFault, Prints, World, whole_status}
 pub use Rattle.sector_model.specs.Reads.{IsRead, IsReadCause, Reads, ReadsDrive, spoilable}
 pub use Rattle.sector_model.specs.Runs.{AtFirst, AtSecond, EndStopsAt, EndsBay, IsEndStop, Left, Run, Stored, Taken, has_refusal, requests_of}

@@ -1,6 +1,6 @@
 -- The opening of a verify isn't refused if bay 0 was empty and nothing disturbs its drive.
 use Rattle.std.proofs.Common.{arith, ◌≡◌, ◌∙◌, ℕ, false, true≢false, List, [], ◌∷◌, refl, ap, subst, Option, Some, None, Result, Ok, Err, inl, inr}
-use Rattle.laws_commands.proofs.Common.{Files, Code, R250, Status, Disk, IsUndisturbed, Reply, StationState, bay_of, rate_refusal, AcksDrive, SetsRate, Reason, State, Step, IsImageOf, refusal_of, reply_of, is_refusal, Taken, World, Shape, shape_of, Script, RunsScript, opens, sets_rate, rate_requests, IsWhole, IsRefused, Passed, Did, joined, joined_did, did_both, carries_passed, sets_rate_passed, opens_passed, verify_opening}
+use Rattle.laws_commands.proofs.Common.{Files, Code, R250, Status, Disk, IsUndisturbed, Reply, StationState, bay_of, AcksDrive, Reason, State, Step, IsImageOf, reply_of, is_refusal, Taken, World, Shape, shape_of, Script, RunsScript, opens, sets_rate, rate_requests, IsWhole, IsRefused, Passed, Did, joined, joined_did, did_both, carries_passed, sets_rate_passed, opens_passed, verify_opening}
 use Rattle.floppy_jobs.specs.declared.request.Request.TheVariants as request
 use Rattle.sector_model.specs.declared.reply.Reply.TheVariants as reply
 use Rattle.commands.specs.Parts.{acknowledges}

@@ -1,7 +1,7 @@
 -- The commands on flat files end well, or the outside failed.
 use Rattle.std.proofs.Common.{arith, ◌≡◌, ◌∙◌, ◌+◌, ◌<◌, ◌≤◌, ℕ, true, false, List, length, refl, sym, ap, subst, Option, Some, None, Result, Ok, Err, le-leb, [], ◌++◌, inl}
 use Rattle.std.specs.Prelude.{nat_le, slice_index}
-use Rattle.laws_commands.proofs.Common.{Files, file_at, sectors_at, Rate, R500, R250, Status, ImageError, user_bytes, bytes_from, sector_place, sectors_told, key_of, Stop, StationState, bay_of, refusal_of, is_loaded, blank_of, IsImageOf, is_refusal, stop_lines, stop_status, Taken, IsEndStop, World, AreUndisturbed, blank_request, RunsScript, Runs, record_address, last_run, script_ties, IsFlatFile, IsFlatFound, IsNotTaken, Imports, import_script, BeginsSound, EndsWellOrOutside, Disk, HasTrack, Counters, IsFaultless, export_script, StoresDisk, StoresImported, StoresExported, StoresFlatOf}
+use Rattle.laws_commands.proofs.Common.{Files, file_at, sectors_at, Rate, R500, R250, Status, ImageError, user_bytes, bytes_from, sector_place, sectors_told, key_of, Stop, StationState, bay_of, refusal_of, is_loaded, blank_of, IsImageOf, is_refusal, Taken, IsEndStop, World, AreUndisturbed, blank_request, RunsScript, Runs, record_address, last_run, script_ties, IsFlatFile, IsFlatFound, IsNotTaken, Imports, import_script, BeginsSound, EndsWellOrOutside, Disk, HasTrack, Counters, IsFaultless, export_script, StoresDisk, StoresImported, StoresExported, StoresFlatOf}
 use Rattle.floppy_jobs.specs.declared.request.Request.TheVariants as request
 use Rattle.sector_model.specs.declared.reply.Stop.TheVariants as stop
 use Rattle.disk_commands.specs.Import.{fills_byte, fills_record, fills_track, writes_record, writes_track, imports_track}

@@ -1,6 +1,6 @@
 -- Address fields on Laid tracks. Formatted disks have them, and so do disks of which one track was replaced by a Laid
 -- one.
-use Rattle.std.proofs.Common.{arith, ◌≡◌, ℕ, List, sym, subst, inl, inr}
+use Rattle.std.proofs.Common.{arith, ◌≡◌, ℕ, sym, subst, inl, inr}
 use Rattle.laws_commands.proofs.Common.{cases_eq, Chrn, Rate, Disk, HasTrack, track_of, IsAddressAt, IsLaid, KeepsTracks, alike_tracks, IsFormattedDisk, HasLaidFields}
 use Rattle.laws_commands.proofs.Sectors.{track_laid}
 

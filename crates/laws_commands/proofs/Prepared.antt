@@ -219,10 +219,6 @@ pub record IsReadied (bay : ℕ) (disk : Disk) (old : State) (told : Option File
   pub later : NeverFell acked.station.counters mid.station.counters
   pub behind : DoesAll rest mid files course new after
 
--- of two values that a bay was given one after the other, the last one stays
-abbrev put_by : Bool → Two Bay → Bay → Two Bay
-put_by first two value = if first then record two { first = value } else record two { second = value }
-
 with_twice : (two : Two Bay) (bay : ℕ) (before value : Bay) → with_bay (with_bay two bay before) bay value ≡ with_bay two bay value
 with_twice two bay before value = grind arith
 

@@ -1,5 +1,5 @@
 -- The ranges of the fields of a disk that an image gives.
-use Rattle.std.proofs.Common.{◌≡◌, ℕ, ◌+◌, ◌*◌, ◌≤◌, Bool, true, false, cond, leb, ltb, ◌&&◌, List, length, get_or, take, drop, refl, subst, arith, Option, Some, None, Result, Ok, Err}
+use Rattle.std.proofs.Common.{◌≡◌, ℕ, ◌+◌, ◌*◌, ◌≤◌, Bool, true, false, cond, leb, ltb, List, length, get_or, take, drop, subst, arith, Option, Some, None, Result, Ok, Err}
 use Rattle.laws_commands.proofs.Common.{ok_or, leb-true, and_parts, Rate, Disk, ImageError, TooShort, BadMagic, Trailing, disk_of, body_of, whole_length, words_of}
 use Rattle.raw_image.specs.Header.{Header, ◌>>=◌, field, version_of, protection_of, rate_of, within, header_of}
 use Rattle.raw_image.specs.Image.{image_of}

@@ -1,7 +1,7 @@
 -- Reads of the standard keys of a disk, one after the other, which nothing disturbs.
-use Rattle.std.proofs.Common.{arith, ◌≡◌, ◌∙◌, ◌≤◌, ℕ, suc, Bool, true, false, All, List, [], ◌∷◌, ◌++◌, refl, sym, ap, subst, inl, Option, Some, None, Result, Ok, Err, le-leb, nat_le}
+use Rattle.std.proofs.Common.{arith, ◌≡◌, ◌∙◌, ◌≤◌, ℕ, suc, Bool, true, false, All, List, [], ◌∷◌, ◌++◌, refl, sym, ap, subst, inl, Option, Some, None, Result, Ok, Err}
 use Rattle.std.specs.Prelude.{MatchOption}
-use Rattle.laws_commands.proofs.Common.{list_all, flat_map-append, Files, standard_code, Chrn, Code, Disk, track_of, Look, Found, NoMark, NoSector, NoData, BadCrc, IsAddressAt, LookFor, IsSector, IsPlain, one_look_for, Counters, IsUndisturbed, faults_of, unless_found, AreFailing, key_of, met_track, Request, Reply, StationState, Bay, bay_of, read_refusal, IsRead, IsReadCause, ReadsDrive, State, Step, Does, read_reply, Taken, Run, requests_of, read_each, IsStandardKey, IsUnmistaken, told_of, all_told_of, refused_read, refused_reads}
+use Rattle.laws_commands.proofs.Common.{list_all, flat_map-append, Files, standard_code, Chrn, Code, Disk, track_of, Look, Found, NoMark, NoSector, NoData, BadCrc, IsAddressAt, LookFor, IsSector, IsPlain, one_look_for, Counters, IsUndisturbed, faults_of, unless_found, AreFailing, key_of, met_track, Request, Reply, StationState, bay_of, read_refusal, IsRead, IsReadCause, ReadsDrive, State, Step, Does, read_reply, Taken, Run, requests_of, read_each, IsStandardKey, IsUnmistaken, told_of, all_told_of, refused_read, refused_reads}
 use Rattle.floppy_jobs.specs.declared.request.Request.TheVariants as request
 use Rattle.laws_commands.proofs.Looks.{found_look, cause_look}
 use Rattle.laws_commands.proofs.Steps.{NeverFell, step_never_fell, run_never_fell, keeps_drives}

@@ -1,6 +1,6 @@
 -- What the reads of a rescue gave. They are intact fields of the disk in bay 0, whatever faults there were, and sectors
 -- if the reads are sure.
-use Rattle.std.proofs.Common.{arith, ◌≡◌, ◌∙◌, ◌+◌, ◌≤◌, ℕ, Bool, List, [], ◌∷◌, length, refl, sym, ap, subst, inl, inr, Option, Some, Result, Ok, Err}
+use Rattle.std.proofs.Common.{arith, ◌≡◌, ◌∙◌, ◌+◌, ◌≤◌, ℕ, Bool, List, [], length, refl, sym, ap, subst, inl, inr, Option, Some, Result, Ok, Err}
 use Rattle.laws_commands.proofs.Common.{AllByRecursion, Files, Chrn, Code, Disk, track_of, Two, in_bay, user_bytes, bytes_from, content_size, IsSector, StationState, Bay, bay_of, read_refusal, write_refusal, Taken, World, with_report, SomeStep, Gave, IsFieldOf, IsSure}
 use Rattle.laws_commands.proofs.DiskRecords.{length-bytes_at, read_sector, sure_parts}
 use Rattle.laws_commands.proofs.Steps.{ok_called, reached}

@@ -1,8 +1,8 @@
 -- The new log of a rescue. Its lines are those of some of the records that were asked for, in their order, so that the
 -- next run finds a log.
-use Rattle.std.proofs.Common.{arith, ◌≡◌, ◌∙◌, ◌+◌, ◌*◌, ◌/◌, ◌%◌, ◌≤◌, ℕ, suc, true, lit<, All, List, [], ◌∷◌, ◌++◌, length, length-append, refl, sym, ap, subst, inl, inr, Option, Some, None, Ok, Err}
-use Rattle.std.specs.Prelude.{◌⊎◌, Contains, IsSomeAnd}
-use Rattle.laws_commands.proofs.Common.{AllByRecursion, AllPairs, mul-le, All-from_recursion, recursion_from_All, All-map, All-contains_itself, Files, file_at, sectors_at, Chrn, Disk, is_refusal, Taken, World, shape_of, with_report, logged_keys, IsBefore, IsLogLine, IsLog, code_text, line_text, log_text, LogLine, IsLogFound, most_log_bytes, asked_keys, line_at, log_of}
+use Rattle.std.proofs.Common.{arith, ◌≡◌, ◌+◌, ◌*◌, ◌≤◌, ℕ, suc, lit<, All, List, [], ◌∷◌, ◌++◌, length, length-append, refl, sym, subst, inl, inr, Option, Some, None}
+use Rattle.std.specs.Prelude.{◌⊎◌, Contains}
+use Rattle.laws_commands.proofs.Common.{AllByRecursion, AllPairs, mul-le, All-from_recursion, recursion_from_All, All-map, All-contains_itself, Files, sectors_at, Chrn, Disk, Taken, World, shape_of, logged_keys, IsBefore, IsLogLine, IsLog, code_text, line_text, log_text, LogLine, IsLogFound, most_log_bytes, asked_keys, log_of}
 use Rattle.std.specs.Fmt.{decimal}
 use Rattle.std.proofs.lemmas.Fmt.{hex_one_digit, length-decimal-le}
 use Rattle.std.proofs.lemmas.List.Kept.{AllPairs-cons}

@@ -1,6 +1,6 @@
 -- What comes before the records of a rescue. Both diskettes are put in, and both bays are made ready.
 use Rattle.std.proofs.Common.{true≢false, ◌↔◌, arith, ◌≡◌, ◌∙◌, ◌≤◌, ℕ, List, ◌∷◌, ◌++◌, refl, ap, Option, Some, Bool, true, false, [], subst, sym, inl, inr, length, ◌<◌}
-use Rattle.laws_commands.proofs.Common.{list_all, Files, Rate, R500, R250, gap_at, words_at, Disk, IsDisk, HasTrack, track_of, Two, in_bay, faults_of, IsFaultless, IsUndisturbed, user_bytes, IsLaid, Request, AreAlike, alike_itself, alike_both, alike_tracks, IsRegularDisk, StationState, Bay, bay_of, rate_refusal, format_refusal, State, Taken, Reply, Step, IsImageOf, blank_of, is_refusal, blank_request, Shape, shape_of, rate_requests, by_track, formats, Script, DoesAll, Track, tracks_of, format_each, HasLaidFields, is_write, HasShapeOf}
+use Rattle.laws_commands.proofs.Common.{list_all, Files, Rate, R500, R250, gap_at, words_at, Disk, IsDisk, HasTrack, track_of, Two, in_bay, faults_of, IsFaultless, IsUndisturbed, user_bytes, IsLaid, Request, AreAlike, alike_itself, alike_both, alike_tracks, IsRegularDisk, StationState, Bay, bay_of, format_refusal, State, Taken, Reply, Step, IsImageOf, blank_of, is_refusal, blank_request, Shape, shape_of, rate_requests, by_track, formats, Script, DoesAll, Track, tracks_of, format_each, HasLaidFields, is_write, HasShapeOf}
 use Rattle.std.specs.Prelude.{if◌then◌else◌}
 use Rattle.floppy_jobs.specs.declared.request.Request.TheVariants as request
 use Rattle.commands.specs.Parts.{carries, sets_rate, acknowledges, through}

@@ -1,8 +1,8 @@
 -- The records of a rescue, one after the other. Either a record is saved and all others on the disk stay, or its line
 -- is in the log.
 use Rattle.std.proofs.Common.{arith, ◌≡◌, ℕ, suc, ◌<◌, ◌≤◌, All, List, [], ◌∷◌, length, get_or, subst, inl, inr, Option, Some, None, ◌≢◌, ◌↔◌, ◌∙◌, ◌+◌, Bool, true, false, ◌++◌, sym, ap, Result, IsOk, refl, Ok, Err}
-use Rattle.std.specs.Prelude.{◌⊎◌, IsSomeAnd, Contains}
-use Rattle.laws_commands.proofs.Common.{AllByRecursion, AllPairs, All-map, All-weaker, recursion_from_All, Contains-append_right, Files, file_at, sectors_at, Chrn, Code, Disk, IsDisk, HasTrack, track_of, user_bytes, bytes_from, IsFaultless, Two, in_bay, IsAddressAt, content_size, IsLaid, HasFieldFor, IsTidy, written_laid, Request, Change, Written, IsChange, Entry, IsOnMap, IsRegularDisk, AreAlike, change_keeps_tracks, key_cylinder, Reply, write_refusal, StationState, bay_of, Bay, State, Step, IsDriverCall, reply_of, is_refusal, ChangesDisk, WritesTo, WritesDrive, written_from, Taken, World, shape_of, with_report, IsStandardKey, SomeStep, Gave, logged_keys, write_of, read_of, IsBefore, IsLogLine, IsLog, log_text, LogLine, IsLogFound, most_log_bytes, asked_keys, IsLogged, IsSaved, WasNotRead, entry_at, is_write, count_writes, line_at, log_of, IsTidyWrite, IsTidyFor, AreTidy, BringsUpNoMark, HasShapeOf, HasLaidFields}
+use Rattle.std.specs.Prelude.{◌⊎◌, Contains}
+use Rattle.laws_commands.proofs.Common.{AllByRecursion, AllPairs, All-map, All-weaker, recursion_from_All, Contains-append_right, Files, sectors_at, Chrn, Code, Disk, IsDisk, HasTrack, track_of, user_bytes, bytes_from, IsFaultless, Two, in_bay, IsAddressAt, content_size, IsLaid, HasFieldFor, IsTidy, written_laid, Request, Change, Written, IsChange, Entry, IsOnMap, IsRegularDisk, AreAlike, change_keeps_tracks, key_cylinder, Reply, write_refusal, StationState, bay_of, Bay, State, Step, IsDriverCall, reply_of, is_refusal, ChangesDisk, WritesTo, WritesDrive, written_from, Taken, World, shape_of, with_report, IsStandardKey, SomeStep, Gave, logged_keys, write_of, read_of, IsBefore, IsLogLine, IsLog, LogLine, IsLogFound, asked_keys, IsLogged, IsSaved, WasNotRead, entry_at, count_writes, line_at, log_of, IsTidyWrite, IsTidyFor, AreTidy, BringsUpNoMark, HasShapeOf, HasLaidFields}
 use Rattle.floppy_jobs.specs.declared.request.Request.TheVariants as request
 use Rattle.sector_map.specs.Standard.{standard_keys as disk_keys}
 use Rattle.laws_commands.proofs.Verified.{standard_all}

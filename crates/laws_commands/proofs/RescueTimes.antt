@@ -1,6 +1,6 @@
 -- How long a rescue to a new disk lasts at most, and how many port accesses it makes.
-use Rattle.std.proofs.Common.{arith, ◌≡◌, ℕ, ◌+◌, ◌*◌, ◌≤◌, Bool, true, false, List, [], ◌∷◌, ◌++◌, length, refl, ap, inl, inr, subst, sym, Option, Some, None, Result, Ok}
-use Rattle.laws_commands.proofs.Common.{length-map, Two, Files, file_at, sectors_at, words_at, Code, NotFound, Overrun, Seek, Status, Chrn, Disk, Request, Reply, Reason, StationState, Step, IsImageOf, Taken, World, shape_of, Script, Asks, Stores, MayStarve, formats, read_of, write_of, after_refusal, logged_keys, outcome_status, standard_keys, log_text, LogLine, after_answer, last_text, outcome_of, Rescues, AreFound, IsLogFound, by_absent, by_rest, RequestCosts, ready_cost, further_rescue_cost, rescue_cost}
+use Rattle.std.proofs.Common.{arith, ◌≡◌, ℕ, ◌+◌, ◌*◌, ◌≤◌, Bool, true, false, List, [], ◌∷◌, length, refl, ap, inl, inr, subst, sym, Option, Some, None, Result, Ok}
+use Rattle.laws_commands.proofs.Common.{length-map, Two, Files, file_at, sectors_at, words_at, Code, NotFound, Overrun, Seek, Status, Chrn, Disk, Request, Reply, Reason, StationState, Step, IsImageOf, Taken, World, shape_of, Script, Asks, MayStarve, formats, read_of, write_of, after_refusal, logged_keys, standard_keys, LogLine, after_answer, Rescues, AreFound, IsLogFound, by_absent, by_rest, RequestCosts, ready_cost, further_rescue_cost, rescue_cost}
 use Rattle.flop_base.specs.declared.answers.Code.TheVariants.{NoMark, BadCrc}
 use Rattle.flop_base.specs.declared.answers.Status.TheVariants as status
 use Rattle.floppy_jobs.specs.declared.request.Request.TheVariants as request

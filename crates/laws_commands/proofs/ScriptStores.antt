@@ -1,7 +1,7 @@
 -- Which stores the scripts of the commands make, however the scripts end.
 use Rattle.std.proofs.Common.{◌≡◌, ◌∙◌, ◌+◌, ◌-◌, ℕ, zero, suc, Bool, true, false, List, [], ◌∷◌, ◌++◌, get_or, Option, Some, Result, Ok, Err, refl, sym, ap, subst, inl, inr}
 use Rattle.std.specs.Prelude.{◌==◌, sum, if◌then◌else◌, slice_index}
-use Rattle.laws_commands.proofs.Common.{Two, in_bay, with_bay, grown, Files, Store, stored, sectors_at, Rate, R500, R250, Status, Chrn, bytes_from, Disk, blank_disk, file_of, key_of, sector_place, Request, Reply, Stop, State, Step, refusal_of, is_refusal, stop_lines, stop_status, Taken, World, blank_request, Shape, Script, Ends, Stores, RunsScript, StoresLast, IsStored, NotStored, Part, asks, needs, shape_at, by_track, formats, with_report, record_address, track_address, AskRun, Answered, Stopped, NeedRun, Done, Refused, Halted, ask_run, need_run, last_run, last_stored, one_more, write_request, Imports, store_of, all_stored, StoresFirst, StoresDiskAlone, StoresFileAlone}
+use Rattle.laws_commands.proofs.Common.{Two, in_bay, with_bay, grown, Files, Store, stored, sectors_at, Rate, R500, R250, Status, Chrn, bytes_from, Disk, blank_disk, file_of, key_of, Request, Reply, Stop, State, Step, refusal_of, is_refusal, stop_lines, stop_status, Taken, World, blank_request, Shape, Script, Ends, Stores, RunsScript, StoresLast, IsStored, NotStored, Part, asks, needs, shape_at, by_track, formats, with_report, record_address, track_address, AskRun, Answered, Stopped, NeedRun, Done, Refused, Halted, ask_run, need_run, last_run, last_stored, one_more, write_request, Imports, store_of, all_stored, StoresFirst, StoresDiskAlone, StoresFileAlone}
 use Rattle.floppy_jobs.specs.declared.request.Request.TheVariants as request
 use Rattle.sector_model.specs.declared.reply.Reply.TheVariants as reply
 use Rattle.commands.specs.Parts.{says, carries, may_starve, opens, sets_rate, acknowledges, through, each}

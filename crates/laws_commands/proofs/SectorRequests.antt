@@ -2,7 +2,7 @@
 -- the formats and writes that make such a disk.
 use Rattle.std.proofs.Common.{arith, ◌≡◌, ◌↔◌, ◌∙◌, ◌+◌, ◌-◌, ◌≤◌, ℕ, nat_le, Bool, true, false, List, refl, sym, ap, subst, Some, None, Result, Ok, Err, le-leb, suc, [], ◌∷◌, ◌≢◌, ◌<◌, inl, inr, Option, IsOk, lit≤}
 use Rattle.std.specs.Prelude.{◌/◌, ◌==◌, not, if◌then◌else◌, All, is_some, IfErr}
-use Rattle.laws_commands.proofs.Common.{sectors_at, standard_code, words_at, gap_at, standard_fill, Chrn, Code, BadRequest, Page, Changed, Protected, Disk, HasTrack, track_of, IsDisk, Two, in_bay, Counters, IsUndisturbed, DisturbedLess, FaultsRoseLess, user_bytes, IsAddressAt, content_size, LookAt, Entry, IsOnMap, IsRegularDisk, LookOn, HasClearAddress, AllFound, key_of, met_track, clear_address, key_cylinder, one_address, StationState, Bay, bay_of, met, Becomes, set_bay, is_sector_request, crosses_page, is_acknowledged, read_refusal, is_bay, is_protected, write_refusal, is_format_request, most_format_gap, format_refusal, ReadsDrive, IsReadCause, spoilable, read_reply, Step, IsDriverCall, reply_of, blank_of, is_refusal, record_address, Rate, Found, AreFailing, IsFormattedDisk, formatted_entry, standard_content, standard_track, IsStandardKey, IsUnmistaken, cases_eq, Files, IsRegular, Request, Written, with_track_keeps, alike_both, alike_itself, stays_regular, Reply, WritesDrive, WritesTo, IsWriteCause, ChangesAlone, written_from, State, copied_entry, option_map_or, R500, R250, format_keys, IsFormattable, formatted, format_at, AreAlike, KeepsTracks, format_fits, Fits, laid_words, FormatsDrive, IsReadable}
+use Rattle.laws_commands.proofs.Common.{sectors_at, standard_code, words_at, gap_at, standard_fill, Chrn, Code, BadRequest, Page, Changed, Protected, Disk, HasTrack, track_of, IsDisk, Two, in_bay, Counters, IsUndisturbed, DisturbedLess, FaultsRoseLess, IsAddressAt, content_size, LookAt, Entry, IsOnMap, IsRegularDisk, LookOn, HasClearAddress, AllFound, key_of, met_track, clear_address, key_cylinder, one_address, StationState, Bay, bay_of, met, Becomes, set_bay, is_sector_request, crosses_page, is_acknowledged, read_refusal, is_bay, is_protected, write_refusal, most_format_gap, format_refusal, ReadsDrive, IsReadCause, spoilable, read_reply, Step, IsDriverCall, reply_of, blank_of, is_refusal, record_address, Rate, Found, AreFailing, IsFormattedDisk, formatted_entry, standard_content, standard_track, IsStandardKey, IsUnmistaken, cases_eq, Files, IsRegular, Request, Written, with_track_keeps, alike_both, alike_itself, stays_regular, Reply, WritesDrive, WritesTo, IsWriteCause, ChangesAlone, written_from, State, copied_entry, option_map_or, R500, R250, format_keys, IsFormattable, formatted, format_at, AreAlike, KeepsTracks, format_fits, Fits, laid_words, FormatsDrive, IsReadable}
 use Rattle.track_model.specs.declared.Look.TheVariants as look
 use Rattle.floppy_jobs.specs.declared.request.Request.TheVariants as request
 use Rattle.sector_map.specs.Standard.{standard_keys}

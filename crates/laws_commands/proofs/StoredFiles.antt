@@ -1,7 +1,7 @@
 -- Files after a store: what is under each name, and when it is the image of a disk, or a log.
-use Rattle.std.proofs.Common.{arith, ◌≡◌, ◌≢◌, ◌∙◌, ◌+◌, ◌*◌, ◌≤◌, ℕ, Bool, true, false, cond, List, length, take, drop, Option, Some, None, Ok, refl, sym, ap, subst, inl}
-use Rattle.std.specs.Prelude.{IfSome, IsSomeAnd}
-use Rattle.laws_commands.proofs.Common.{length-take, length-drop, mul-le, Files, file_at, after_store, stored, Disk, IsDisk, bytes_of, image_of, file_of, IsImageOf, most_image_bytes, IsLog, log_text, LogLine, IsLogFound, most_log_bytes}
+use Rattle.std.proofs.Common.{arith, ◌≡◌, ◌≢◌, ◌∙◌, ◌+◌, ◌*◌, ◌≤◌, ℕ, Bool, true, false, cond, List, length, Option, Some, None, refl, sym, ap, subst, inl}
+use Rattle.std.specs.Prelude.{IfSome}
+use Rattle.laws_commands.proofs.Common.{length-take, length-drop, mul-le, Files, file_at, after_store, stored, Disk, IsDisk, bytes_of, file_of, IsImageOf, most_image_bytes, IsLog, log_text, LogLine, IsLogFound, most_log_bytes}
 use Rattle.std.specs.FinMap as fin
 use Rattle.std.specs.Cmp.Lexicographic.{slice_cmp, nat_list_cmp_total}
 use Rattle.std.specs.Ordering.{nat_cmp, eq_by_cmp}

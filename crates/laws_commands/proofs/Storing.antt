@@ -140,9 +140,6 @@ run_then old mid told between after course run ends =
     subst (λ (s : State). StoresFirst (end_stores s) (all_stored told (stores_of old course)) after) (run_leads old mid told between course run)
     (subst (λ (f : Option Files). StoresFirst (end_stores mid) f after) (run_stores old mid told between course run) ends)
 
-pub run_alone : (old new : State) (told after : Option Files) (course : List Taken) → Run old told course new after → StoresRun old course told after
-run_alone old new told after course run = run_then old new told after after course run (nothing_first (end_stores new) after after refl)
-
 pub no_run : (old : State) (told after : Option Files) (course : List Taken) → course ≡ [] → after ≡ told → StoresRun old course told after
 no_run old told after course nothing same =
     subst (λ (row : List Taken). StoresRun old row told after) (sym nothing) (nothing_first (end_stores old) told after same)

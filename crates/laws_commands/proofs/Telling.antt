@@ -1,7 +1,7 @@
 -- What the reads of a rescue tell, and what its log has, if nothing disturbs the reads and no address field can be
 -- mistaken.
-use Rattle.std.proofs.Common.{arith, ◌≡◌, ◌∙◌, ◌≤◌, ℕ, Bool, true, false, List, [], ◌∷◌, refl, sym, subst, inl, inr, Option, None, Result, Ok, Err, ◌++◌, map, ap}
-use Rattle.laws_commands.proofs.Common.{cases_lt, AllByRecursion, map-append, Files, Chrn, Code, Disk, HasTrack, track_of, IsUndisturbed, faults_of, Look, Found, NoMark, one_look_for, LookOn, HasNothing, by_met, in_is_on, nothing_unrecorded, unless_found, AreFailing, StationState, bay_of, met, read_refusal, write_refusal, Reads, ReadsDrive, IsReadCause, State, read_reply, Taken, is_refusal, World, with_report, IsStandardKey, IsUnmistaken, told_of, refused_read, all_told_of, LogLine, failing_lines, line_at, log_of, IsNotFound}
+use Rattle.std.proofs.Common.{arith, ◌≡◌, ◌∙◌, ◌≤◌, ℕ, Bool, true, false, List, [], ◌∷◌, refl, sym, subst, inl, inr, Option, Result, Ok, Err, ◌++◌, map, ap}
+use Rattle.laws_commands.proofs.Common.{cases_lt, AllByRecursion, map-append, Files, Chrn, Code, Disk, HasTrack, track_of, IsUndisturbed, faults_of, Look, Found, NoMark, one_look_for, LookOn, HasNothing, by_met, in_is_on, nothing_unrecorded, unless_found, AreFailing, StationState, bay_of, met, Reads, ReadsDrive, IsReadCause, read_reply, Taken, World, with_report, IsStandardKey, IsUnmistaken, told_of, refused_read, all_told_of, LogLine, failing_lines, log_of, IsNotFound}
 use Rattle.flop_base.specs.declared.answers.Code.TheVariants as code
 use Rattle.floppy_jobs.specs.declared.request.Request.TheVariants as request
 use Rattle.laws_commands.proofs.Looks.{rose_by}

@@ -1,6 +1,6 @@
 -- Parts of scripts on the tracks and the keys of a disk.
-use Rattle.std.proofs.Common.{◌≡◌, ℕ, List, [], ◌∷◌, false, false, refl, sym, subst}
-use Rattle.laws_commands.proofs.Common.{flat_map, Chrn, Request, key_of, Reply, Step, is_refusal, Taken, World, Script, Part, through, each, by_track, formats, Passes, Did, same_part, carries_passes, through_does, each_named, each_nested, Track, heads_of, format_each, DoesAll}
+use Rattle.std.proofs.Common.{◌≡◌, ℕ, List, [], ◌∷◌, false, false, sym, subst}
+use Rattle.laws_commands.proofs.Common.{flat_map, Chrn, Request, key_of, Reply, Step, is_refusal, Taken, World, Script, Part, through, each, by_track, formats, Passes, Did, same_part, carries_passes, through_does, each_named, each_nested, Track, format_each, DoesAll}
 use Rattle.std.proofs.lemmas.List.Concat.{flat_map_single}
 use Rattle.flop_base.specs.declared.answers.Status.TheVariants as status
 use Rattle.floppy_jobs.specs.declared.request.Request.TheVariants as request

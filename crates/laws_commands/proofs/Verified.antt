@@ -1,7 +1,6 @@
 -- The run that reads a whole disk.
-use Rattle.std.proofs.Common.{arith, ◌≡◌, ◌∙◌, ◌+◌, ◌<◌, ◌≤◌, ℕ, zero, suc, true, false, All, List, [], ◌∷◌, ◌++◌, refl, sym, ap, subst, Option, Some, None, Result, Ok, length}
-use Rattle.std.specs.Prelude.{IsSomeAnd}
-use Rattle.laws_commands.proofs.Common.{list_all, flat_map, range_with_len, flat_map-append, append-nil, All-nil, All-append, Files, file_at, sectors_at, Chrn, Code, Rate, R500, R250, Disk, image_of, ImageError, Look, Counters, IsUndisturbed, faults_of, AreFailing, track_keys, all_track_keys, Request, StationState, bay_of, State, IsImageOf, most_image_bytes, Taken, requests_of, has_refusal, DoesAll, rate_requests, verify_opening, read_each, IsStandardKey, IsUnmistaken, all_told_of, refused_read, refused_reads, ReadsDisk}
+use Rattle.std.proofs.Common.{arith, ◌≡◌, ◌∙◌, ◌+◌, ◌<◌, ◌≤◌, ℕ, zero, suc, true, false, All, List, [], ◌∷◌, ◌++◌, refl, sym, ap, subst, Option, Some}
+use Rattle.laws_commands.proofs.Common.{list_all, flat_map, range_with_len, flat_map-append, append-nil, All-nil, All-append, Files, sectors_at, Chrn, Code, Rate, R500, R250, Disk, Look, Counters, IsUndisturbed, faults_of, AreFailing, track_keys, all_track_keys, Request, StationState, bay_of, State, IsImageOf, Taken, requests_of, has_refusal, DoesAll, rate_requests, verify_opening, read_each, IsStandardKey, IsUnmistaken, all_told_of, refused_read, refused_reads, ReadsDisk}
 use Rattle.sector_map.specs.Standard.{standard_keys, cylinder_keys}
 use Rattle.floppy_jobs.specs.declared.request.Request.TheVariants as request
 use Rattle.laws_commands.proofs.Steps.{begins, ends_there, splits_run, NeverFell, step_never_fell, run_never_fell, keeps_drives}

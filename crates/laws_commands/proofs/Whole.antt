@@ -1,8 +1,8 @@
 -- Rescues, by the status with which they end. This file has what they store and tell, and when the log is exactly the
 -- keys that aren't found.
-use Rattle.std.proofs.Common.{◌≡◌, ◌∙◌, List, [], ◌∷◌, ◌++◌, ℕ, length, ap, subst, inl, inr, append-nil, Option, Some, arith, ◌+◌, Bool, true, false, true≢false, refl, sym, append_assoc, ◌↔◌, None, ◌≢◌, ◌≤◌, ◌-◌}
+use Rattle.std.proofs.Common.{◌≡◌, ◌∙◌, List, [], ◌∷◌, ◌++◌, ℕ, length, ap, subst, inl, inr, append-nil, Option, Some, arith, ◌+◌, Bool, true, false, refl, sym, ◌↔◌, None, ◌≢◌, ◌-◌}
 use Rattle.std.specs.Prelude.{is_some, ◌⊎◌, Contains, IfSome, All}
-use Rattle.laws_commands.proofs.Common.{list_all, All-from_recursion, All-map, All-weaker, Files, stored, file_at, grown, sectors_at, Status, Chrn, Disk, IsDisk, file_of, Two, in_bay, IsFaultless, IsUndisturbed, user_bytes, laid_tidy, Request, IsRegularDisk, Entry, IsOnMap, IsImageOf, Taken, requests_of, has_refusal, Run, World, is_refusal, State, Shape, shape_of, Script, Ends, Fails, RunsScript, StoresLast, IsStored, NotStored, IsStoreFault, carries, through, last_run, last_failed, last_stored, prints_status, Passed, Opened, joined, did_both, opens_passed, DoesAll, IsEndStatus, SomeStep, Gave, IsSure, HaveSameSector, IsUnmistaken, logged_keys, outcome_status, IsLog, log_text, LogLine, IsLogFound, IsFound, most_log_bytes, rescues, asked_keys, outcome_of, last_text, rescue_rest, Rescues, by_rest, HasLaidFields, IsNotStopped, count_writes, IsLogged, IsSaved, IsSettled, WasNotRead, BringsUpNoMark, HasTarget, diskette_for, HasShapeOf, StillHolds, KeepsEntries, outcome_in, IsRescue, IsNotFound, LogsNotFound, WasRefused, log_of, line_at, AreTidy}
+use Rattle.laws_commands.proofs.Common.{list_all, All-from_recursion, All-map, All-weaker, Files, stored, file_at, grown, sectors_at, Status, Chrn, Disk, IsDisk, file_of, Two, in_bay, IsFaultless, IsUndisturbed, user_bytes, laid_tidy, Request, IsRegularDisk, Entry, IsOnMap, IsImageOf, Taken, requests_of, has_refusal, Run, World, is_refusal, State, Shape, shape_of, Script, Ends, Fails, RunsScript, StoresLast, IsStored, NotStored, IsStoreFault, carries, through, last_run, last_failed, last_stored, prints_status, Passed, Opened, joined, did_both, opens_passed, DoesAll, IsEndStatus, SomeStep, Gave, IsSure, HaveSameSector, IsUnmistaken, logged_keys, outcome_status, log_text, LogLine, IsLogFound, IsFound, rescues, asked_keys, outcome_of, last_text, rescue_rest, Rescues, by_rest, HasLaidFields, IsNotStopped, count_writes, IsLogged, IsSaved, IsSettled, WasNotRead, BringsUpNoMark, HasTarget, diskette_for, HasShapeOf, StillHolds, KeepsEntries, outcome_in, IsRescue, IsNotFound, LogsNotFound, WasRefused, log_of, AreTidy}
 use Rattle.flop_base.specs.declared.answers.Status.TheVariants as status
 use Rattle.floppy_jobs.specs.declared.request.Request.TheVariants as request
 use Rattle.commands.specs.Parts.{may_starve}
@@ -10,7 +10,7 @@ use Rattle.commands.proofs.Passed.{Does}
 use Rattle.laws_commands.proofs.VerifyRun.{not_put, end_is_whole}
 use Rattle.laws_commands.proofs.PutIn.{opened_shape}
 use Rattle.laws_commands.proofs.TrackParts.{did_all}
-use Rattle.laws_commands.proofs.Steps.{and_both, or_false, NeverFell, begins, ends_there, never_fell}
+use Rattle.laws_commands.proofs.Steps.{and_both, or_false, begins, ends_there, never_fell}
 use Rattle.laws_commands.proofs.Marks.{some_first, some_second}
 use Rattle.laws_commands.proofs.Reading.{quiet_parts}
 use Rattle.laws_commands.proofs.Verified.{image_ranges}

@@ -1,6 +1,6 @@
 -- What the lemmas of this crate cite of others, and of its own words.
-pub use Rattle.std.proofs.lemmas.Bool.{and_parts, cases_eq, cases_lt, cases_order, false≢true, le-ltb, leb-false, leb-true, lt-ltb, ltb-false, ltb-true}
-pub use Rattle.std.proofs.lemmas.List.{get_or-replicate, get_or_past, length-append, length-drop, length-map, length-replicate, length-take}
+pub use Rattle.std.proofs.lemmas.Bool.{and_parts, cases_eq, cases_order, false≢true, le-ltb, leb-false, leb-true, lt-ltb, ltb-false, ltb-true}
+pub use Rattle.std.proofs.lemmas.List.{length-append, length-drop, length-map, length-replicate, length-take}
 pub use Rattle.std.proofs.lemmas.List.Elements.{All-contains, All-nil, All-weaker, recursion_from_All}
 pub use Rattle.std.specs.Cmp.Lexicographic.{nat_list_cmp_total, slice_cmp}
 pub use Rattle.std.specs.List.{list_all, list_any, range_with_len}
@@ -58,7 +58,7 @@ pub use Rattle.laws_commands.proofs.Order.{stores_in_order}
 pub use Rattle.laws_commands.proofs.RescueEnds.{each_standard, new_rescue_complete}
 pub use Rattle.laws_commands.proofs.Steps.{and_both, done_does}
 pub use Rattle.laws_commands.proofs.StoredFiles.{file_fits, image_there}
-pub use Rattle.laws_commands.proofs.Storing.{all_first, end_stops, ends_store, no_run, nothing_first, run_alone, run_then, step_stores}
+pub use Rattle.laws_commands.proofs.Storing.{all_first, end_stops, ends_store, no_run, nothing_first, run_then, step_stores}
 pub use Rattle.laws_commands.proofs.Turns.{HasTurns, told_short}
 pub use Rattle.laws_commands.proofs.Verified.{one_image}
 pub use Rattle.laws_commands.proofs.VerifyRun.{Tally, not_put, not_stop, verify_tells}
@@ -118,12 +118,12 @@ pub use Rattle.sector_model.specs.Faults.{Blames}
 pub use Rattle.sector_model.specs.Formats.{FormatsDrive, FormatsTo, IsFormatted, IsUnformatted, Lays, LaysDisk}
 pub use Rattle.sector_model.specs.Lasting.{dump_port_accesses, turn_of}
 pub use Rattle.sector_model.specs.Orders.{IsRefusedAtOnce, crosses_page, format_refusal, is_acknowledged, is_bay, is_format_request, is_place, is_protected, is_sector_request, most_format_gap, rate_refusal, read_refusal, write_refusal}
-pub use Rattle.sector_model.specs.Plays.{BrokenOff, EndStopped, Faulty, IsPutFault, IsText, Missing, Part, Part as InPart, Played, Plays, PlaysParsed, PlaysRequests, PlaysText, Prints, Starved, Stopped, TellsAlone, There, TooLong, Whole, World, most_job_bytes, whole_status}
+pub use Rattle.sector_model.specs.Plays.{BrokenOff, EndStopped, Faulty, IsPutFault, IsText, Missing, Part, Part as InPart, Played, Plays, PlaysParsed, PlaysRequests, Prints, Starved, Stopped, TellsAlone, There, TooLong, Whole, World, most_job_bytes, whole_status}
 pub use Rattle.sector_model.specs.Reads.{IsRead, IsReadCause, Reads, ReadsDrive, spoilable}
 pub use Rattle.sector_model.specs.Runs.{AtFirst, AtSecond, EndStopsAt, EndsBay, IsEndStop, Left, Run, Stored, Taken, course_lines, has_refusal, requests_of}
 pub use Rattle.sector_model.specs.States.{ChangesMedium, IsSame, State}
 pub use Rattle.sector_model.specs.Stations.{Bay, Becomes, IsFresh, StationState, Stays, bay_of, fresh_bay, met, set_bay}
-pub use Rattle.sector_model.specs.Steps.{AfterStop, Fills, IsAbsent, IsBadImage, IsDriverCall, IsImageOf, IsLonger, IsRefused, Step, StopCause, StopsAt, blank_of, is_blank_request, is_loaded, most_image_bytes, read_reply, refusal_of, reply_of, spare_refusal, unless_bad}
+pub use Rattle.sector_model.specs.Steps.{AfterStop, Fills, IsAbsent, IsDriverCall, IsImageOf, IsLonger, IsRefused, Step, StopCause, StopsAt, blank_of, is_blank_request, is_loaded, most_image_bytes, read_reply, refusal_of, reply_of, spare_refusal, unless_bad}
 pub use Rattle.sector_model.specs.Texts.{absent_text, bad_line_text, is_refusal, reply_lines, stop_lines, stop_status}
 pub use Rattle.sector_model.specs.Ties.{AreUndisturbed, HasNothingLeft, IsJob, IsSpent, TiesCounts, accesses_of_job, entered_by}
 pub use Rattle.sector_model.specs.Times.{IsWithin, course_port_accesses, course_time, job_port_accesses, job_time, most_port_accesses, most_time, port_accesses_of, time_of}

@@ -130,7 +130,7 @@ stops_first : (ending : Ending) (steps : ℕ) (protects : Bool) (byte : Option �
 stops_first Protected steps protects byte stops is = stops
 stops_first _ steps protects byte stops is = absurd (false≢true is)
 
--- the bytes behind the one that the word needs
+-- the bytes of the FIFO without the one that the word needs
 abbrev left : Bool → Fdc → List ℕ
 left needs old = if needs then drop 1 old.fifo.bytes else old.fifo.bytes
 
