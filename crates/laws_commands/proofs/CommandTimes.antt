@@ -1,6 +1,6 @@
 -- How long whole commands last at most, and how many port accesses they make.
 use Rattle.std.proofs.Common.{arith, ◌≡◌, ◌∙◌, ℕ, ◌+◌, ◌-◌, ◌*◌, ◌≤◌, Bool, true, false, false, get_or, List, [], ◌∷◌, refl, ap, subst, Option, Some, unwrap_or, Result, Ok, Err}
-use Rattle.laws_commands.proofs.Common.{option_map, Two, in_bay, Files, sectors_at, words_at, Rate, Status, Chrn, Disk, key_of, sector_place, Request, Reply, turn_of, StationState, Bay, bay_of, fresh_bay, State, Step, IsImageOf, Stop, is_refusal, stop_lines, stop_status, Taken, World, blank_request, Shape, shape_of, Script, RunsScript, carries, shape_at, no_tracks, acknowledges, formats, record_address, track_address, one_more, write_request, IsFlatFile, RequestCosts, ready_cost, format_cost, verify_cost, copy_cost, import_cost, export_cost}
+use Rattle.laws_commands.proofs.Common.{option_map, Two, in_bay, Files, sectors_at, words_at, Rate, Status, Chrn, Disk, key_of, Request, Reply, turn_of, StationState, Bay, bay_of, fresh_bay, State, Step, IsImageOf, Stop, is_refusal, stop_lines, stop_status, Taken, World, blank_request, Shape, shape_of, Script, RunsScript, carries, shape_at, no_tracks, acknowledges, formats, record_address, track_address, one_more, write_request, IsFlatFile, RequestCosts, ready_cost, format_cost, verify_cost, copy_cost, import_cost, export_cost}
 use Rattle.flop_base.specs.declared.answers.Status.TheVariants as status
 use Rattle.floppy_jobs.specs.declared.request.Request.TheVariants as request
 use Rattle.sector_model.specs.declared.reply.Reply.TheVariants as reply
@@ -196,9 +196,7 @@ module _ (one : Request → StationState → ℕ) (sum : StationState → List T
   track_filled : (bytes : List ℕ) (c h : ℕ)
       → PartCosts sum (IsReady limit 0 rate) (IsReady limit 0 rate) (sectors_at rate * (512 * 0)) (flat.fills_track bytes (sectors_at rate) c h)
   unfolding flat.fills_track
-  track_filled bytes c h =
-      each_cost one sum is (IsReady limit 0 rate) (512 * 0) (λ r. flat.fills_record bytes (sector_place (sectors_at rate) c h r) (record_address r))
-      (λ r. record_filled bytes (sector_place (sectors_at rate) c h r) (record_address r)) 1 (sectors_at rate) tt
+  track_filled bytes c h = search (each_cost, record_filled)
 
   record_written : (c h r : ℕ) (none : Unit {0}) → PartCosts sum (IsReady limit 0 rate) (IsReady limit 0 rate) (costs 0).write (flat.writes_record c h r none)
   unfolding flat.writes_record

@@ -29,14 +29,7 @@ module _ (disk : Disk) (readable : IsReadable disk) (few_cylinders : disk.cylind
   formatted_saving : (stage : Stage) (formatted : IsCopying disk (HasRecordsBut disk few_heads []) stage) → IsSaving disk formatted.second.disk stage
   formatted_saving stage formatted =
       let made = formatted.second in
-      record {
-        first = formatted.first;
-        now = made.disk;
-        second = made_ready 1 disk.rate disk.cylinders (HasRecordsBut disk few_heads []) stage.state.station made;
-        bare = made.alike.protected;
-        regular = made.regular;
-        kept = λ c h r had. had;
-      }
+      search (made_ready 1 disk.rate disk.cylinders (HasRecordsBut disk few_heads []) stage.state.station made)
 
   standard_stand : (made : Disk) → HasRecordsBut disk few_heads [] made → (key : Chrn) → IsStandardKey disk key → StandsOnBoth disk made key
   standard_stand made has key standard =

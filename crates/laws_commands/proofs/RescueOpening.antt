@@ -163,16 +163,7 @@ second_put to shape false old new told after answer step done =
     let fresh = blanks 1 shape.rate to shape.cylinders old new told after answer step done in
     record {
       target = blank_of shape.cylinders shape.rate;
-      such = record {
-        valid = fresh.valid;
-        regular = blank_regular shape.cylinders shape.rate;
-        cylinders = refl;
-        rate = refl;
-        words = refl;
-        shape_is = shape_itself (blank_of shape.cylinders shape.rate);
-        laid = blank_fields shape.cylinders shape.rate;
-        tracks = λ c h. (λ had. had, λ inside. inside);
-      };
+      such = search (blank_regular shape.cylinders shape.rate, shape_itself (blank_of shape.cylinders shape.rate), blank_fields shape.cylinders shape.rate);
       medium = fresh.medium;
       first = ap (λ (s : StationState). bay_of s 0) fresh.becomes;
       memory = ap (λ (s : StationState). s.memory) fresh.becomes;
@@ -279,14 +270,7 @@ pub lays_tracks : (rate : Rate) (source : Disk) (tracks : List Track) (disk : Di
     → IsFaultless 1 old.station.counters new.station.counters → LaysTracks rate source tracks disk old told new after
 lays_tracks rate source [] disk old new told after course all has ready faultless =
     let same = ends_there old new told after course all in
-    record {
-      final = disk;
-      ready = subst (λ (s : State). IsReady rate source disk s) (sym same.0) ready;
-      alike = alike_itself disk ready.valid;
-      laid = λ had. had;
-      names = ap (λ (s : State). s.names) same.0;
-      files = same.1;
-    }
+    search (subst (λ (s : State). IsReady rate source disk s) (sym same.0) ready, alike_itself disk ready.valid, ap (λ (s : State). s.names) same.0)
 lays_tracks rate source (track ∷ later) disk old new told after course all has ready faultless =
     let b = track.0 in
     let g = track.1 in

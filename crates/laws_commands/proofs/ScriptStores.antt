@@ -1,7 +1,7 @@
 -- Which stores the scripts of the commands make, however the scripts end.
 use Rattle.std.proofs.Common.{◌≡◌, ◌∙◌, ◌+◌, ◌-◌, ℕ, zero, suc, Bool, true, false, List, [], ◌∷◌, ◌++◌, get_or, Option, Some, Result, Ok, Err, refl, sym, ap, subst, inl, inr}
-use Rattle.std.specs.Prelude.{◌==◌, sum, if◌then◌else◌, slice_index}
-use Rattle.laws_commands.proofs.Common.{Two, in_bay, with_bay, grown, Files, Store, stored, sectors_at, Rate, R500, R250, Status, Chrn, bytes_from, Disk, blank_disk, file_of, key_of, Request, Reply, Stop, State, Step, refusal_of, is_refusal, stop_lines, stop_status, Taken, World, blank_request, Shape, Script, Ends, Stores, RunsScript, StoresLast, IsStored, NotStored, Part, asks, needs, shape_at, by_track, formats, with_report, record_address, track_address, AskRun, Answered, Stopped, NeedRun, Done, Refused, Halted, ask_run, need_run, last_run, last_stored, one_more, write_request, Imports, store_of, all_stored, StoresFirst, StoresDiskAlone, StoresFileAlone}
+use Rattle.std.specs.Prelude.{◌==◌, if◌then◌else◌, slice_index}
+use Rattle.laws_commands.proofs.Common.{Two, in_bay, with_bay, grown, Files, Store, stored, sectors_at, Rate, R500, R250, Status, Chrn, Disk, blank_disk, file_of, key_of, Request, Reply, Stop, State, Step, refusal_of, is_refusal, stop_lines, stop_status, Taken, World, blank_request, Shape, Script, Ends, Stores, RunsScript, StoresLast, IsStored, NotStored, Part, asks, needs, shape_at, by_track, formats, with_report, record_address, AskRun, Answered, Stopped, NeedRun, Done, Refused, Halted, ask_run, need_run, last_run, last_stored, write_request, Imports, store_of, all_stored, StoresFirst, StoresDiskAlone, StoresFileAlone}
 use Rattle.floppy_jobs.specs.declared.request.Request.TheVariants as request
 use Rattle.sector_model.specs.declared.reply.Reply.TheVariants as reply
 use Rattle.commands.specs.Parts.{says, carries, may_starve, opens, sets_rate, acknowledges, through, each}
@@ -219,9 +219,7 @@ module _ {Kind : Type 0} (stores : Kind → List Store) (some : Kind) where
 
   verified_quiet : (Such : Names → Type 0) (c h r : ℕ) (tally : Tally) → IsQuiet Such (verifies_record c h r tally)
   unfolding verifies_record
-  verified_quiet Such c h r tally rest next =
-      ask_from Such (request.Read 0 (key_of c h r) track_address) _ (read_calm 0 (key_of c h r) track_address)
-      (λ answer after. told_quiet Such (key_of c h r) answer _ (λ none. next (one_more tally (is_refusal answer))))
+  verified_quiet Such c h r tally rest next = search (ask_from, read_calm, told_quiet)
 
   -- the medium of a bay is stored under its name, and nothing else is
   ejected : (bay : ℕ) (name : List ℕ) → ((disk : Disk) → (kind : Kind) × (stores kind ≡ store_of name (file_of disk) ∷ []))
@@ -269,9 +267,7 @@ module _ {Kind : Type 0} (stores : Kind → List Store) (some : Kind) where
 
   exported_quiet : (Such : Names → Type 0) (c h r : ℕ) (bytes : List ℕ) → IsQuiet Such (exports.reads_record c h r bytes)
   unfolding exports.reads_record
-  exported_quiet Such c h r bytes rest next =
-      calm_need Such (request.Read 0 (key_of c h r) (record_address r)) _ (read_calm 0 (key_of c h r) (record_address r))
-      (λ answer after. starved Such _ (next (bytes ++ bytes_from after.station.memory (record_address r) 512)))
+  exported_quiet Such c h r bytes rest next = search (calm_need, read_calm, starved)
 
   exported_track : (Such : Names → Type 0) (sectors c h : ℕ) (bytes : List ℕ) → IsQuiet Such (exports.reads_track sectors c h bytes)
   unfolding exports.reads_track
@@ -279,9 +275,7 @@ module _ {Kind : Type 0} (stores : Kind → List Store) (some : Kind) where
 
   work_read : (Such : Names → Type 0) (key : Chrn) (tally : Worked) → IsQuiet Such (work.reads_work key tally)
   unfolding work.reads_work
-  work_read Such key tally rest next =
-      ask_from Such (request.Read 0 key 0x10000) _ (read_calm 0 key 0x10000)
-      (λ answer after. next (work.counted answer (sum (bytes_from after.station.memory 0x10000 512)) tally))
+  work_read Such key tally rest next = search (ask_from, read_calm)
 
   work_written : (Such : Names → Type 0) (deleted : Bool) (key : Chrn) (byte : ℕ) (tally : Worked) → IsQuiet Such (work.writes_work deleted key byte tally)
   unfolding work.writes_work

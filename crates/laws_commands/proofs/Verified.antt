@@ -91,9 +91,7 @@ opening_tells name disk (one ∷ two ∷ later) all =
     go R500 [] all = refl
     go R500 (taken ∷ later) all = absurd (cc all)
     go R250 [] all = refl
-    go R250 (taken ∷ []) all =
-        let asked : taken.asked ≡ request.SetRate 0 R250 = cc all in
-        ap (λ (q : Request). refused_read q taken.answer ++ []) asked
+    go R250 (taken ∷ []) all = search
     go R250 (taken ∷ next ∷ later) all = absurd (cc all)
 
 -- the reads of a whole disk tell which of its standard keys aren't found

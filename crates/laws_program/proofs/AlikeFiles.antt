@@ -1,12 +1,13 @@
 -- Files that are alike: as images they are of alike disks, or they have the same error.
 use Rattle.std.proofs.Common.{arith, ◌≡◌, ◌∙◌, ◌+◌, ◌*◌, ◌<◌, ◌≤◌, ℕ, Bool, true, false, List, length, cond, refl, sym, ap, subst, inl, inr, Option, Some, None, Result, Ok, Err, take, drop}
 use Rattle.std.specs.Prelude.{◌⊎◌, IsSomeAnd, nat_lt, if◌then◌else◌}
-use Rattle.laws_program.proofs.Common.{lt-ltb, le-ltb, length-take, length-drop, nat_cmp, eq_by_cmp, slice_cmp, nat_list_cmp_total, Files, file_at, after_store, stored, Disk, IsDisk, image_of, file_of, ImageError, image_found, image_again, Request, Stop, IsImageOf, StopCause, most_image_bytes, IsEndStop, AreBytes}
+use Rattle.laws_program.proofs.Common.{of_one, lt-ltb, le-ltb, length-take, length-drop, nat_cmp, eq_by_cmp, slice_cmp, Files, file_at, after_store, stored, Disk, IsDisk, image_of, file_of, ImageError, image_found, image_again, Request, Stop, IsImageOf, StopCause, most_image_bytes, IsEndStop, AreBytes}
 use Rattle.std.specs.FinMap as fin
 use Rattle.raw_image.specs.Words.{bytes_of}
 use Rattle.raw_image.proofs.Pairs.{IsBytes, length-bytes_of}
 use Rattle.floppy_jobs.specs.declared.request.Request.TheVariants as request
 use Rattle.sector_model.specs.declared.reply.Stop.TheVariants as stop
+use Rattle.laws_program.proofs.Inserting.{file_stored}
 use Rattle.laws_program.proofs.AlikeDisks.{AlikeDisks, disk_itself}
 
 abbrev pub AlikeImages : Result Disk ImageError → Result Disk ImageError → Type 0
@@ -78,17 +79,14 @@ disk_files one two same = record {
       (subst (λ (r : Result Disk ImageError). AlikeImages (Ok one) r) (sym (read_again two same.alike.valid)) same);
 }
 
-stored_at : (files : Files) (name bytes other : List ℕ) → file_at (after_store files name bytes) other ≡ cond (eq_by_cmp (slice_cmp nat_cmp) other name) (Some bytes) (file_at files other)
-stored_at files name bytes other = fin.get-insert nat_list_cmp_total files.held name bytes other
-
 stored_on : (a b : Files) (bytes others q : List ℕ) → AlikeTold (Some a) (Some b) → AlikeBytes bytes others → (test : Bool) → AlikeFiles (cond test (Some bytes) (file_at a q)) (cond test (Some others) (file_at b q))
 stored_on a b bytes others q same alike true = alike
 stored_on a b bytes others q same alike false = same q
 
 pub stored_same : (told other : Option Files) (name bytes others : List ℕ) → AlikeTold told other → AlikeBytes bytes others → AlikeTold (stored told name bytes) (stored other name others)
 stored_same (Some a) (Some b) name bytes others same alike = λ q.
-    subst (λ (o : Option (List ℕ)). AlikeFiles o (file_at (after_store b name others) q)) (sym (stored_at a name bytes q))
-    (subst (λ (o : Option (List ℕ)). AlikeFiles (cond (eq_by_cmp (slice_cmp nat_cmp) q name) (Some bytes) (file_at a q)) o) (sym (stored_at b name others q))
+    subst (λ (o : Option (List ℕ)). AlikeFiles o (file_at (after_store b name others) q)) (sym (file_stored a name bytes q))
+    (subst (λ (o : Option (List ℕ)). AlikeFiles (cond (eq_by_cmp (slice_cmp nat_cmp) q name) (Some bytes) (file_at a q)) o) (sym (file_stored b name others q))
     (stored_on a b bytes others q same alike (eq_by_cmp (slice_cmp nat_cmp) q name)))
 stored_same _ _ name bytes others same alike = absurd same
 
@@ -96,9 +94,6 @@ stored_same _ _ name bytes others same alike = absurd same
 
 -- the images of two told files of one name
 pub images_alike : (told other : Option Files) (name : List ℕ) (d e : Disk) → AlikeTold told other → IsImageOf told name d → IsImageOf other name e → AlikeDisks d e
-images_alike None None name d e same is is_too = absurd same
-images_alike None (Some b) name d e same is is_too = absurd same
-images_alike (Some a) None name d e same is is_too = absurd same
 images_alike (Some a) (Some b) name d e same is is_too = go (file_at a name) (file_at b name) (same name) is is_too
   where
     go : (o p : Option (List ℕ)) → AlikeFiles o p → IsSomeAnd o (λ bytes. (length bytes ≤ most_image_bytes) × (image_of bytes ≡ Ok d)) → IsSomeAnd p (λ bytes. (length bytes ≤ most_image_bytes) × (image_of bytes ≡ Ok e)) → AlikeDisks d e
@@ -107,6 +102,7 @@ images_alike (Some a) (Some b) name d e same is is_too = go (file_at a name) (fi
     go (Some bytes) (Some others) x y z =
         subst (λ (r : Result Disk ImageError). AlikeImages (Ok d) r) z.1
         (subst (λ (r : Result Disk ImageError). AlikeImages r (image_of others)) y.1 x.images)
+images_alike _ _ name d e same is is_too = absurd same
 
 -- why a load of an image stops a run, if it does
 abbrev image_stop : List ℕ → Result Disk ImageError → Option Stop
@@ -136,11 +132,9 @@ short_stop name bytes short =
 
 -- a load doesn't stop a run if the file is an image
 pub no_stop : (files : Files) (name : List ℕ) (d : Disk) → IsImageOf (Some files) name d → stop_by name (file_at files name) ≡ None
-no_stop files name d is = go (file_at files name) is
-  where
-    go : (o : Option (List ℕ)) → IsSomeAnd o (λ bytes. (length bytes ≤ most_image_bytes) × (image_of bytes ≡ Ok d)) → stop_by name o ≡ None
-    go None x = absurd x
-    go (Some bytes) x = short_stop name bytes x.0 ∙ ap (image_stop name) x.1
+no_stop files name d is =
+    let one = of_one (file_at files name) is is in
+    ap (stop_by name) one.1 ∙ short_stop name one.0 one.2.0 ∙ ap (image_stop name) one.2.1
 
 -- a stop of a run by a load, which the outside didn't make
 pub record IsLoadStop (files : Files) (asked : Request) (cause : Stop) : Type 0 where
@@ -155,20 +149,13 @@ stop_cases files asked stop.NoMemory is = inl tt
 stop_cases files asked (stop.Absent name) is =
     inr (record { bay = is.0.0; name = name; asked_is = is.0.1; is = ap (stop_by name) is.1 })
 stop_cases files asked (stop.BadImage name error) is =
-    inr (record { bay = is.0.0; name = name; asked_is = is.0.1; is = go (file_at files name) is.1 })
-  where
-    go : (o : Option (List ℕ)) → IsSomeAnd o (λ bytes. (length bytes ≤ most_image_bytes) × (image_of bytes ≡ Err error)) → stop_by name o ≡ Some (stop.BadImage name error)
-    go None x = absurd x
-    go (Some bytes) x = short_stop name bytes x.0 ∙ ap (image_stop name) x.1
+    let one = of_one (file_at files name) is.1 is.1 in
+    let bad = ap (stop_by name) one.1 ∙ short_stop name one.0 one.2.0 ∙ ap (image_stop name) one.2.1 in
+    inr (record { bay = is.0.0; name = name; asked_is = is.0.1; is = bad })
 stop_cases files asked (stop.TooLong name most) is =
-    inr (record { bay = is.0.0; name = name; asked_is = is.0.1; is = go (file_at files name) is.1 is.2 })
-  where
-    longer : (m n : ℕ) → m < n → nat_lt m n ≡ true
-    longer m n below = lt-ltb m n below
-
-    go : (o : Option (List ℕ)) → most ≡ most_image_bytes → IsSomeAnd o (λ bytes. most < length bytes) → stop_by name o ≡ Some (stop.TooLong name most)
-    go None same x = absurd x
-    go (Some bytes) same x =
-        let long : most_image_bytes < length bytes = subst (λ (m : ℕ). m < length bytes) same x in
-        ap (λ (b : Bool). if b then Some (stop.TooLong name most_image_bytes) else image_stop name (image_of bytes)) (longer most_image_bytes (length bytes) long)
-        ∙ ap (λ (m : ℕ). Some (stop.TooLong name m)) (sym same)
+    let one = of_one (file_at files name) is.2 is.2 in
+    let long : most_image_bytes < length one.0 = subst (λ (m : ℕ). m < length one.0) is.1 one.2 in
+    let longer = ap (stop_by name) one.1
+    ∙ ap (λ (b : Bool). if b then Some (stop.TooLong name most_image_bytes) else image_stop name (image_of one.0)) (lt-ltb most_image_bytes (length one.0) long)
+    ∙ ap (λ (m : ℕ). Some (stop.TooLong name m)) (sym is.1) in
+    inr (record { bay = is.0.0; name = name; asked_is = is.0.1; is = longer })

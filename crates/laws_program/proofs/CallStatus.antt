@@ -1,7 +1,7 @@
 -- How a text of calls of INT 13h ends, where each file that is put in is the file of a disk.
 use Rattle.std.proofs.Common.{◌≡◌, ◌∙◌, ℕ, Bool, true, false, List, [], ◌∷◌, ◌++◌, map, Option, Some, None, Result, Ok, refl, ap, sym, subst}
 use Rattle.std.specs.Prelude.{MatchBool, length}
-use Rattle.laws_program.proofs.Common.{list_all, range_with_len, Files, Status, Chrn, both, DriveCounts, calls_of, CallLine, Request, Stop, State, is_acknowledged, StopsAt, Taken, IsEndStop, World, IsText, Round, AreRounds, lines_of, has_refused, Breaks, AtStop, AtPut, ServesCalls, ServesParsed, ServesLines, Through, Broken, world, DoesOrStarves, AsAsked, StarvesWords, Stand, RanOver, and_both, AnswersCalls, EndsAnswered, IsDiskFile, Names, named_by, HoldsBy, InsertsDisks, requests_among, IsEndStatus}
+use Rattle.laws_program.proofs.Common.{list_all-append, list_all, range_with_len, Files, Status, Chrn, both, DriveCounts, calls_of, CallLine, Request, Stop, State, is_acknowledged, StopsAt, Taken, IsEndStop, World, IsText, Round, AreRounds, lines_of, has_refused, Breaks, AtStop, AtPut, ServesCalls, ServesParsed, ServesLines, Through, Broken, world, DoesOrStarves, AsAsked, StarvesWords, Stand, RanOver, and_both, AnswersCalls, EndsAnswered, IsDiskFile, Names, named_by, HoldsBy, InsertsDisks, requests_among, IsEndStatus}
 use Rattle.flop_base.specs.declared.answers.Status.TheVariants as status
 use Rattle.floppy_jobs.specs.declared.calls.CallLine.TheVariants as call
 use Rattle.floppy_jobs.specs.declared.request.Request.TheVariants as request
@@ -38,24 +38,17 @@ puts_keep : (address : ℕ) (bytes : List ℕ) → list_all keeps_media (put_req
 unfolding put_requests
 puts_keep address bytes = all_keep (put_request address bytes) (λ i. refl) (range_with_len 0 (length bytes))
 
-first_keep : (one : List Request) (next : Request) (two : List Request) → list_all keeps_media (one ++ next ∷ two) ≡ true
-    → (list_all keeps_media one ≡ true) × (keeps_media next ≡ true)
-first_keep [] next two e = (refl, (and_both (keeps_media next) (list_all keeps_media two) e).0)
-first_keep (asked ∷ one) next two e =
-    let both = and_both (keeps_media asked) (list_all keeps_media (one ++ next ∷ two)) e in
-    let rest = first_keep one next two both.1 in
-    (rw (both.0, rest.0) refl, rest.1)
-
 module _ (Holds : List ℕ → Type 0) (names : Names) where
   moved_kept : (asked : List Request) (old new : State) (told : Option Files) (course : List Taken) (code moved : ℕ) → list_all keeps_media asked ≡ true
       → MovesRecords asked old told course code moved new → IsKept Holds names old told → IsKept Holds names new told
   moved_kept asked old new told course code moved all (All done many fine) kept =
       course_kept Holds names old new told told course (ap (λ (row : List Request). list_all keeps_media row) done.asked ∙ all) done.run kept
   moved_kept asked old new told course code moved all (UpToOne is) kept =
-      let parts = first_keep is.done is.next is.later (ap (λ (row : List Request). list_all keeps_media row) (sym is.parts) ∙ all) in
+      let whole = ap (λ (row : List Request). list_all keeps_media row) (sym is.parts) ∙ all in
+      let parts = and_both _ _ (sym (list_all-append keeps_media is.done (is.next ∷ is.later)) ∙ whole) in
       let mid = course_kept Holds names old is.mid told told is.before
       (ap (λ (row : List Request). list_all keeps_media row) is.done_well.asked ∙ parts.0) is.done_well.run kept in
-      media_kept Holds names is.mid told mid is.next _ new told parts.1 is.step
+      media_kept Holds names is.mid told mid is.next _ new told (and_both _ _ parts.1).0 is.step
 
   in_kept : (kind : Kind) (address : ℕ) (asked : List Request) (old new : State) (told : Option Files) (course : List Taken) (code moved : ℕ)
       → list_all keeps_media asked ≡ true → MovesIn kind address asked old told course code moved new → IsKept Holds names old told

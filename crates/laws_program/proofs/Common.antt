@@ -1,7 +1,11 @@
 -- What the lemmas of this crate cite of others, and of its own words.
+pub use Rattle.std.proofs.Math.Bool.{or-false, or-true, or_assoc}
 pub use Rattle.std.proofs.lemmas.Bool.{and_parts, cases_eq, cases_order, false≢true, le-ltb, leb-false, leb-true, lt-ltb, ltb-false, ltb-true}
-pub use Rattle.std.proofs.lemmas.List.{length-append, length-drop, length-map, length-replicate, length-take}
-pub use Rattle.std.proofs.lemmas.List.Elements.{All-contains, All-nil, All-weaker, recursion_from_All}
+pub use Rattle.std.proofs.lemmas.List.{nil_from_length, length-append, length-drop, length-map, length-replicate, length-take}
+pub use Rattle.std.proofs.lemmas.Map.Made.{Contains-tail}
+pub use Rattle.std.proofs.Math.Seq.{take-append_seam}
+pub use Rattle.std.proofs.lemmas.List.Folds.{list_all-append}
+pub use Rattle.std.proofs.lemmas.List.Elements.{All-take, All-contains, All-nil, All-weaker, recursion_from_All}
 pub use Rattle.std.specs.Cmp.Lexicographic.{nat_list_cmp_total, slice_cmp}
 pub use Rattle.std.specs.List.{list_all, list_any, range_with_len}
 pub use Rattle.std.specs.Option.{option_map_or}
@@ -18,7 +22,7 @@ pub use Rattle.commands.specs.Parts.{by_track, carries, formats, no_tracks, shap
 pub use Rattle.commands.specs.Scripts.{Asks, Ends, Fails, IsStoreFault, IsStored, MayStarve, NotStored, RunsScript, Says, Script, Stores, StoresLast, unless_refused}
 pub use Rattle.disk_commands.proofs.RescueRests.{by_absent, by_log, by_rest}
 pub use Rattle.disk_commands.specs.FlatFiles.{IsFlatFile, IsFlatFound, IsNotTaken}
-pub use Rattle.disk_commands.specs.Logs.{IsFound, IsLogFound, most_log_bytes}
+pub use Rattle.disk_commands.specs.Logs.{IsFound, IsLogFound}
 pub use Rattle.disk_commands.specs.Rescue.{Rescues, asked_keys, last_text, outcome_of, rescue_rest, rescues}
 pub use Rattle.fdc_commands.specs.Seeking.{Seeking, has_ended, is_seeking, seek_bits, sensed}
 pub use Rattle.fdc_commands.specs.declared.motion.Seek.{Seek}
@@ -55,6 +59,7 @@ pub use Rattle.laws_commands.proofs.Bays.{insert_stops, of_one, ok_taken}
 pub use Rattle.laws_commands.proofs.CommandEnds.{copy_complete, format_complete, fresh_memory, verify_complete}
 pub use Rattle.laws_commands.proofs.FlatEnds.{export_complete, import_complete, taken_flat}
 pub use Rattle.laws_commands.proofs.Order.{stores_in_order}
+pub use Rattle.laws_commands.proofs.Prepared.{blank_valid}
 pub use Rattle.laws_commands.proofs.RescueEnds.{each_standard, new_rescue_complete}
 pub use Rattle.laws_commands.proofs.Steps.{and_both, done_does}
 pub use Rattle.laws_commands.proofs.StoredFiles.{file_fits, image_there}
@@ -80,7 +85,7 @@ pub use Rattle.laws_program.specs.Determined.{AnswerAlike, AnswersAgree, AreByte
 pub use Rattle.laws_program.specs.Disturbed.{HadNoFault, HadNoStall, IsSound}
 pub use Rattle.laws_program.specs.Ends.{EndsAnswered, EndsByFit, EndsByReplies, EndsOutside, EndsWell}
 pub use Rattle.laws_program.specs.Guarded.{BlanksNone, BlanksUnder}
-pub use Rattle.laws_program.specs.Inserted.{HoldsBy, InsertsDisk, InsertsDisks, IsDiskFile, IsDiskText, IsStoredBy, Names, is_free, media_among, named_by, requests_among}
+pub use Rattle.laws_program.specs.Inserted.{put_in, HoldsBy, InsertsDisk, InsertsDisks, IsDiskFile, IsDiskText, IsStoredBy, Names, is_free, media_among, named_by, requests_among}
 pub use Rattle.laws_program.specs.Lasting.{CostsRun}
 pub use Rattle.laws_program.specs.Made.{HasUnfit, MakesFile, TellsSurveyOf}
 pub use Rattle.laws_program.specs.Seeks.{IsUsed, NotBoth, SeeksEnd}

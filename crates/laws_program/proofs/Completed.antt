@@ -1,7 +1,7 @@
 -- The status of the subcommands (forms) on whole disks, by whether some reply was a refusal.
-use Rattle.std.proofs.Common.{◌≡◌, ℕ, ◌+◌, ◌-◌, Bool, true, false, List, [], Option, Some, Result, Ok, Err, get_or, refl, ap, sym, subst, arith}
+use Rattle.std.proofs.Common.{◌∙◌, ◌≡◌, ℕ, ◌+◌, ◌-◌, Bool, true, false, List, [], Option, Some, Result, Ok, Err, get_or, refl, ap, sym, subst, arith}
 use Rattle.std.specs.Prelude.{◌||◌, nat_lt, sum, codes, if◌then◌else◌, ◌==◌, ◌*◌}
-use Rattle.laws_program.proofs.Common.{lt-ltb, Files, sectors_at, Rate, R250, R500, Status, Chrn, Disk, key_of, Reply, Stop, bytes_from, State, IsImageOf, is_refusal, stop_status, Taken, has_refusal, World, blank_request, Asks, RunsScript, formats, last_run, IsFlatFile, IsFlatFound, IsNotTaken, Tally, taken_flat}
+use Rattle.laws_program.proofs.Common.{or-false, or-true, lt-ltb, Files, sectors_at, Rate, R250, R500, Status, Chrn, Disk, key_of, Reply, Stop, bytes_from, State, IsImageOf, is_refusal, stop_status, Taken, has_refusal, World, blank_request, Asks, RunsScript, formats, last_run, IsFlatFile, IsFlatFound, IsNotTaken, Tally, taken_flat}
 use Rattle.sector_map.specs.Flat.{sector_place}
 use Rattle.floppy_jobs.specs.declared.request.Request.TheVariants as request
 use Rattle.sector_model.specs.declared.reply.Reply.TheVariants as reply
@@ -17,7 +17,7 @@ use Rattle.disk_commands.specs.Export as export
 use Rattle.disk_commands.specs.Exercise.{exercise_script, no_work, counted, reads_work, writes_work, works_drawn, works_behind, works}
 use Rattle.disk_commands.specs.Exercise as exercise
 use Rattle.disk_commands.specs.Workload.{number_after}
-use Rattle.laws_program.proofs.Telling.{EndsBy, Came, NeverInserts, stop_as, Is, IsFaithful, prints_as, script_tells, opens_tells, needs_tells, PartTells, PartEnds, carries_tells, acknowledges_tells, each_tells, tracks_tell}
+use Rattle.laws_program.proofs.Telling.{EndsBy, Came, NeverInserts, stop_as, SaysRefused, IsFaithful, prints_as, script_tells, opens_tells, needs_tells, PartTells, PartEnds, carries_tells, acknowledges_tells, each_tells, tracks_tell}
 
 pub blank_never : (bay : ℕ) (name : List ℕ) (count : ℕ) (rate : Rate) → NeverInserts (blank_request bay name count rate)
 blank_never bay name count R500 = λ other named e. absurd (cc e)
@@ -120,8 +120,8 @@ import_found flat name bytes files at (Ok (row, rate)) old new course ended told
     carries_tells (request.Eject 0) (λ bay name e. absurd (cc e)) _ (λ none. refl))))) runs
 import_found flat name bytes files at (Err cause) old new course ended told is not runs =
     let only = taken_flat files flat bytes at cause is (subst (λ (f : Option Files). IsNotTaken f flat cause) told not) in
-    prints_as (Is (has_refusal course)) _ _ _ _ ended (last_run _ (stop_status cause) old course new ended runs).1.report
-    (λ well. stop_as (Is (has_refusal course)) cause only)
+    prints_as (SaysRefused (has_refusal course)) _ _ _ _ ended (last_run _ (stop_status cause) old course new ended runs).1.report
+    (λ well. stop_as (SaysRefused (has_refusal course)) cause only)
 
 pub import_by : (flat name bytes : List ℕ) (files : Files) (at : Rate) (old new : World) (course : List Taken) (ended : Status)
     → old.files ≡ Some files → IsFlatFile (Some files) flat bytes at → Imports flat name old course new ended → EndsBy (has_refusal course) ended
@@ -157,17 +157,8 @@ abbrev some_work : Work → Bool
 some_work work = nat_lt 0 work.refused
 
 counted_by : (answer : Reply) (total : ℕ) (work : Work) → (some_work work || is_refusal answer) ≡ some_work (counted answer total work)
-counted_by answer total work = go answer (some_work work) refl
-  where
-    go : (answer : Reply) (some : Bool) → some ≡ some_work work → (some || is_refusal answer) ≡ some_work (counted answer total work)
-    go (reply.Refused cause) true is = sym (lt-ltb 0 (work.refused + 1) (omega arith))
-    go (reply.Refused cause) false is = sym (lt-ltb 0 (work.refused + 1) (omega arith))
-    go reply.Done true is = is
-    go reply.Done false is = is
-    go reply.DoneDeleted true is = is
-    go reply.DoneDeleted false is = is
-    go (reply.Bytes address content) true is = is
-    go (reply.Bytes address content) false is = is
+counted_by (reply.Refused cause) total work = or-true (some_work work) ∙ sym (lt-ltb 0 (work.refused + 1) (omega arith))
+counted_by answer total work = or-false (some_work work)
 
 -- a request that fills memory at 20000 isn't refused
 filled : (byte : ℕ) (answer : Reply) (after : State) → Came (request.Fill 0x20000 512 byte) answer after → is_refusal answer ≡ false
@@ -186,17 +177,13 @@ work_never : (deleted : Bool) (key : Chrn) → NeverInserts (exercise.write_requ
 work_never true key = λ bay name e. absurd (cc e)
 work_never false key = λ bay name e. absurd (cc e)
 
-or_not : (a b : Bool) → b ≡ false → a ≡ (a || b)
-or_not true b e = refl
-or_not false b e = sym e
-
 writes_by : (deleted : Bool) (key : Chrn) (byte : ℕ) (work : Work) → PartTells some_work (some_work work) (writes_work deleted key byte work)
 unfolding writes_work asks
 writes_by deleted key byte work rest is = (
   λ bay name e. absurd (cc e),
   λ answer between came.
       subst (λ (b : Bool). IsFaithful b (Asks (exercise.write_request deleted key) (λ answer after. rest (counted answer 0 work))))
-      (or_not (some_work work) (is_refusal answer) (filled byte answer between came)) (
+      (sym (or-false (some_work work)) ∙ ap (λ (b : Bool). some_work work || b) (sym (filled byte answer between came))) (
         work_never deleted key,
         λ last after came. subst (λ (b : Bool). IsFaithful b (rest (counted last 0 work))) (sym (counted_by last 0 work)) (is _),
       ),

@@ -89,6 +89,11 @@ module _ (old : World) (course : List Taken) (new : World) where
   went_calls name ended (calls.Faulty nothing idle) = went_idle nothing idle.same
   went_calls name ended (calls.Starved nothing idle) = went_idle nothing idle.same
 
+  -- a play whose arguments memory ran out for is one that did nothing
+  pub as_play : (job : List ℕ) (ended : Status) → DoesOrStarves (form.Play job) old course new ended → Plays job old course new ended
+  as_play job ended (AsAsked does) = does
+  as_play job ended (StarvesWords nothing idle) = Starved nothing idle
+
   -- the form went so, or memory for its arguments ran out
   pub went_or_starved : (asked : Form) (ended : Status) → (DoesForm asked old course new ended → Went old course new)
       → DoesOrStarves asked old course new ended → Went old course new

@@ -1,4 +1,5 @@
 -- Two formats of one track in alike bays: they are answered alike, and leave alike bays.
+use Rattle.std.specs.Prelude.{◌↔◌}
 use Rattle.std.proofs.Common.{arith, ◌≡◌, ◌∙◌, ℕ, suc, All, List, [], ◌∷◌, refl, sym, ap, subst, inl, inr, Option, Some, None, Result, Ok, Err, true≢false}
 use Rattle.laws_program.proofs.Common.{Code, Disk, IsDisk, HasTrack, track_of, GoesOn, IsUndisturbed, Format, Laying, formatted, CanFormat, IsFormattable, KeepsTracks, keeps_itself, keeps_both, cases_rate, StationState, bay_of, LaysDisk, Lays, IsFormatted, IsUnformatted, FormatsDrive, reply_of}
 use Rattle.sector_map.proofs.Laid.{laying_keeps_tracks, can_format_alike}
@@ -65,18 +66,15 @@ media_alike format (Some one) (Some two) (Some one_after) (Some two_after) layin
     (laid_over format two two_after more same.alike.valid only_too lays_too begun_too untouched_too)
 media_alike format _ _ one_after two_after layings more same only lays begun untouched only_too lays_too begun_too untouched_too = absurd same
 
--- a format that fits one of two alike media fits the other
-formattable_on : (format : Format) (one two : Option Disk) → AlikeMedia one two → IsFormattable format one → IsFormattable format two
-formattable_on format None None same can = can
-formattable_on format (Some one) (Some two) same can =
-    (two, refl, (can_format_alike format one two same.alike).0 (subst (CanFormat format) (sym (some_one one can.0 can.1)) can.2))
-formattable_on format _ _ same can = absurd same
-
-formattable_back : (format : Format) (one two : Option Disk) → AlikeMedia one two → IsFormattable format two → IsFormattable format one
-formattable_back format None None same can = can
-formattable_back format (Some one) (Some two) same can =
-    (one, refl, (can_format_alike format one two same.alike).1 (subst (CanFormat format) (sym (some_one two can.0 can.1)) can.2))
-formattable_back format _ _ same can = absurd same
+-- a format fits both of two alike media, or none
+formattable_both : (format : Format) (one two : Option Disk) → AlikeMedia one two → IsFormattable format one ↔ IsFormattable format two
+formattable_both format None None same = (λ can. can, λ can. can)
+formattable_both format (Some one) (Some two) same =
+    let both = can_format_alike format one two same.alike in (
+      λ can. (two, refl, both.0 (subst (CanFormat format) (sym (some_one one can.0 can.1)) can.2)),
+      λ can. (one, refl, both.1 (subst (CanFormat format) (sym (some_one two can.0 can.1)) can.2)),
+    )
+formattable_both format _ _ same = absurd same
 
 module _ (format : Format) (bay : ℕ) (one two one_new two_new : StationState) (same : AlikeMedia (bay_of one bay).medium (bay_of two bay).medium) (calm : IsUndisturbed bay one.counters one_new.counters) (goes : GoesOn one.counters one_new.counters) (calm_too : IsUndisturbed bay two.counters two_new.counters) (goes_too : GoesOn two.counters two_new.counters) where
   pub formats_media : (called called_too : Result (Unit {0}) Code) → FormatsDrive format bay one called one_new → FormatsDrive format bay two called_too two_new → AlikeMedia (bay_of one_new bay).medium (bay_of two_new bay).medium
@@ -88,10 +86,10 @@ module _ (format : Format) (bay : ℕ) (one two one_new two_new : StationState) 
   pub formats_reply : (called called_too : Result (Unit {0}) Code) → FormatsDrive format bay one called one_new → FormatsDrive format bay two called_too two_new → reply_of called_too ≡ reply_of called
   formats_reply (Ok u) (Ok v) drive drive_too = refl
   formats_reply (Ok u) (Err k) drive drive_too =
-      let can = formattable_on format (bay_of one bay).medium (bay_of two bay).medium same ((drive.exactly calm).0 refl) in
+      let can = (formattable_both format (bay_of one bay).medium (bay_of two bay).medium same).0 ((drive.exactly calm).0 refl) in
       absurd (true≢false (sym ((drive_too.exactly calm_too).1 can)))
   formats_reply (Err k) (Ok v) drive drive_too =
-      let can = formattable_back format (bay_of one bay).medium (bay_of two bay).medium same ((drive_too.exactly calm_too).0 refl) in
+      let can = (formattable_both format (bay_of one bay).medium (bay_of two bay).medium same).1 ((drive_too.exactly calm_too).0 refl) in
       absurd (true≢false (sym ((drive.exactly calm).1 can)))
   formats_reply (Err k) (Err j) drive drive_too =
       let first = drive.refused.undisturbed calm in

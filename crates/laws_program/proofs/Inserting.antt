@@ -1,7 +1,7 @@
 -- What stands in the bays and under their names in a run: the files of disks stay the files of disks.
 use Rattle.std.proofs.Common.{◌≡◌, ◌∙◌, ◌≤◌, ℕ, Bool, true, false, true≢false, cond, List, [], ◌∷◌, length, Option, Some, None, Ok, refl, ap, sym, subst, inl}
 use Rattle.std.specs.Prelude.{◌==◌, ◌&&◌, not, is_some, IsSomeAnd, MatchOption, if◌then◌else◌}
-use Rattle.laws_program.proofs.Common.{nat_cmp, eq_by_cmp, slice_cmp, nat_list_cmp_total, Files, file_at, after_store, stored, Disk, IsDisk, image_of, file_of, image_again, Two, in_bay, with_bay, Change, Written, Format, Laying, Reason, Bay, State, Reaches, ChangesDisk, Lays, LaysDisk, IsImageOf, unless_bad, most_image_bytes, one_image, file_fits, IsDiskText, IsDiskFile, Names}
+use Rattle.laws_program.proofs.Common.{of_one, nat_cmp, eq_by_cmp, slice_cmp, nat_list_cmp_total, Files, file_at, after_store, stored, Disk, IsDisk, image_of, file_of, image_again, Two, in_bay, with_bay, Change, Written, Format, Laying, Reason, Bay, State, Reaches, ChangesDisk, Lays, LaysDisk, IsImageOf, unless_bad, most_image_bytes, one_image, file_fits, IsDiskText, IsDiskFile, Names}
 use Rattle.std.proofs.lemmas.Cmp.{eq_by_cmp_equiv}
 use Rattle.std.specs.FinMap as fin
 use Rattle.flop_base.specs.declared.answers.Code.TheVariants as code
@@ -39,19 +39,13 @@ stored_still (Some files) name other d valid is =
 
 -- the file of a disk is an image
 pub file_image : (files : Files) (name : List ℕ) → (is : IsDiskFile (Some files) name) → IsImageOf (Some files) name is.0
-file_image files name is = go (file_at files name) is.1
-  where
-    go : (o : Option (List ℕ)) → IsSomeAnd o (λ bytes. IsDiskText bytes is.0)
-        → IsSomeAnd o (λ bytes. (length bytes ≤ most_image_bytes) × (image_of bytes ≡ Ok is.0))
-    go None there = absurd there
-    go (Some bytes) there = (there.0, image_again bytes is.0 there.1)
+file_image files name is =
+    let one = of_one (file_at files name) is.1 is.1 in
+    subst (λ (o : Option (List ℕ)). IsSomeAnd o (λ bytes. (length bytes ≤ most_image_bytes) × (image_of bytes ≡ Ok is.0))) (sym one.1)
+    (one.2.0, image_again one.0 is.0 one.2.1)
 
 pub file_disk : (files : Files) (name : List ℕ) → (is : IsDiskFile (Some files) name) → IsDisk is.0
-file_disk files name is = go (file_at files name) is.1
-  where
-    go : (o : Option (List ℕ)) → IsSomeAnd o (λ bytes. IsDiskText bytes is.0) → IsDisk is.0
-    go None there = absurd there
-    go (Some bytes) there = there.1.0
+file_disk files name is = (of_one (file_at files name) is.1 is.1).2.1.0
 
 -- the disk that is loaded from such a file is in its ranges
 pub inserted_disk : (files : Files) (name : List ℕ) (disk : Disk) → IsDiskFile (Some files) name → IsImageOf (Some files) name disk → IsDisk disk

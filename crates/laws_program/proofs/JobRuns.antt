@@ -1,7 +1,7 @@
 -- How long a whole job lasts at most, and how many port accesses it makes, by its requests alone.
-use Rattle.std.proofs.Common.{arith, ◌≡◌, ◌∙◌, ℕ, zero, suc, ◌+◌, ◌≤◌, All, List, [], ◌∷◌, ◌++◌, length, refl, ap, sym, subst, append-nil, append_assoc, Option, Some, Result, Ok}
+use Rattle.std.proofs.Common.{arith, ◌≡◌, ◌∙◌, ℕ, ◌+◌, ◌≤◌, All, List, [], ◌∷◌, ◌++◌, length, refl, ap, sym, subst, append-nil, append_assoc, Option, Some, Result, Ok}
 use Rattle.std.specs.Prelude.{sum_by}
-use Rattle.laws_program.proofs.Common.{All-nil, used_within, Two, DriveCounts, Files, file_at, Status, Request, Board, turn_of, StationState, Bay, IsFresh, Taken, Run, requests_of, World, Plays, There, Missing, TooLong, Faulty, Starved, PlaysParsed, PlaysRequests, Played, Stopped, BrokenOff, EndStopped, IsText, IsJob, IsWithin, course_port_accesses, job_port_accesses, job_time, most_port_accesses, most_time, course_accesses_within, course_within, requests_more, world, Outside, DoesOrStarves, AsAsked, StarvesWords, RunsOver, SetsAtMost, told_short, CostsRun}
+use Rattle.laws_program.proofs.Common.{All-weaker, All-take, take-append_seam, used_within, Two, DriveCounts, Files, file_at, Status, Request, Board, turn_of, StationState, Bay, IsFresh, Taken, Run, requests_of, World, Plays, There, Missing, TooLong, Faulty, Starved, PlaysParsed, PlaysRequests, Played, Stopped, BrokenOff, EndStopped, IsText, IsJob, IsWithin, course_port_accesses, job_port_accesses, job_time, most_port_accesses, most_time, course_accesses_within, course_within, requests_more, world, Outside, DoesOrStarves, RunsOver, SetsAtMost, told_short, CostsRun}
 use Rattle.std.proofs.lemmas.List.Sums.{sum_by-append}
 use Rattle.floppy_jobs.specs.Requests.{request_of}
 use Rattle.floppy_jobs.specs.Texts.{job_of}
@@ -9,7 +9,7 @@ use Rattle.floppy_jobs.specs.Valid.{IsRequest}
 use Rattle.floppy_jobs.specs.declared.request.Request.TheVariants as request
 use Rattle.floppy_jobs.proofs.ValidLemmas.{request-valid, text-valid}
 use Rattle.floppy_words.specs.declared.form.Form.TheVariants as form
-use Rattle.laws_program.proofs.Courses.{form_runs}
+use Rattle.laws_program.proofs.Courses.{form_runs, as_play}
 use Rattle.laws_program.proofs.FormTimes.{machine_lasts, machine_uses}
 use Rattle.laws_program.proofs.Plays.{text_there}
 
@@ -54,8 +54,7 @@ first_play job requests old new course ended is (Starved nothing idle) = first_n
 
 pub first_asked : (job : List ℕ) (requests : List Request) (old new : World) (course : List Taken) (ended : Status) → IsJob old.files job requests
     → DoesOrStarves (form.Play job) old course new ended → AsksFirst requests course
-first_asked job requests old new course ended is (AsAsked does) = first_play job requests old new course ended is does
-first_asked job requests old new course ended is (StarvesWords nothing idle) = first_none requests course nothing
+first_asked job requests old new course ended is does = first_play job requests old new course ended is (as_play old course new job ended does)
 
 first_sum : (f : Request → ℕ) (requests : List Request) (course : List Taken) → AsksFirst requests course → sum_by f (requests_of course) ≤ sum_by f requests
 first_sum f requests course first =
@@ -73,10 +72,8 @@ unfolding job_of
 job_valid text requests spells = text-valid IsRequest request_of request-valid 100000 text requests spells
 
 first_tries : (xs ys : List Request) → All IsRequest (xs ++ ys) → All (SetsAtMost 10) xs
-first_tries [] ys all k default within = All-nil (SetsAtMost 10) k default within
-first_tries (x ∷ xs) ys all zero default within = valid_tries x (all 0 default (omega arith))
-first_tries (x ∷ xs) ys all (suc k) default within =
-    first_tries xs ys (λ j other less. all (suc j) other (omega (arith, less))) k default (omega (arith, within))
+first_tries xs ys all =
+    All-weaker IsRequest (SetsAtMost 10) valid_tries xs (subst (All IsRequest) (take-append_seam xs ys) (All-take IsRequest (length xs) (xs ++ ys) all))
 
 -- ---- A play over a machine.
 

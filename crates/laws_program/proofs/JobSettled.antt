@@ -1,32 +1,13 @@
 -- Two runs of one batch job over machines where nothing is left that could go wrong.
-use Rattle.std.proofs.Common.{◌≡◌, ◌∙◌, ℕ, List, [], ◌∷◌, length, Some, ap, sym, subst, inl, inr}
+use Rattle.std.proofs.Common.{◌≡◌, ◌∙◌, ℕ, List, length, Some, ap, sym, inl, inr}
 use Rattle.std.specs.Prelude.{◌⊎◌}
-use Rattle.laws_program.proofs.Common.{Files, DriveCounts, Status, Blames, State, Taken, World, AreBytes, BeginAlike, AreRegularBefore, AnswersAgree, IsFreeEnd, EndAlike, EndAlikeUnlessFree, world, DoesOrStarves, AsAsked, StarvesWords, Stand, RanOver, IsSound, EndsOutside}
+use Rattle.laws_program.proofs.Common.{Files, DriveCounts, Status, Blames, World, AreBytes, BeginAlike, AreRegularBefore, AnswersAgree, IsFreeEnd, EndAlike, world, Stand, RanOver, IsSound, EndsOutside}
 use Rattle.flop_base.specs.declared.answers.Status.TheVariants as status
 use Rattle.laws_program.proofs.PlaysAgree.{answers_determined}
 use Rattle.floppy_words.specs.declared.form.Form.TheVariants as form
 use Rattle.laws_program.proofs.OnBoards.{nothing_left}
+use Rattle.laws_program.proofs.Courses.{as_play}
 use Rattle.laws_program.proofs.Telling.{ends_so}
-
--- any course agrees with an empty one
-none_agree : (state : State) (course : List Taken) → AnswersAgree state course []
-none_agree state [] = tt
-none_agree state (taken ∷ later) = tt
-
-both_settled : (job : List ℕ) (one one_after two two_after : World) (course other : List Taken) (ended other_ended : Status) → BeginAlike one two
-    → DoesOrStarves (form.Play job) one course one_after ended → DoesOrStarves (form.Play job) two other two_after other_ended
-    → AnswersAgree one.state course other
-    × (AreRegularBefore one.state course → EndAlikeUnlessFree one two course other one_after two_after ended other_ended)
-both_settled job one one_after two two_after course other ended other_ended begins (AsAsked plays) (AsAsked too) =
-    answers_determined job one one_after two two_after course other ended other_ended begins plays too
-both_settled job one one_after two two_after course other ended other_ended begins (StarvesWords nothing idle) too = (
-  subst (λ (row : List Taken). AnswersAgree one.state row other) (sym nothing) tt,
-  λ regular. inl (subst IsFreeEnd (sym idle.status) tt),
-)
-both_settled job one one_after two two_after course other ended other_ended begins (AsAsked plays) (StarvesWords nothing idle) = (
-  subst (λ (row : List Taken). AnswersAgree one.state course row) (sym nothing) (none_agree one.state course),
-  λ regular. inr (inl (subst IsFreeEnd (sym idle.status) tt)),
-)
 
 -- if the outside ended the program, the fault was counted
 free_counted : (old new : Stand) (ended : Status) → Blames (ended ≡ status.FileFault) old.outside.shelf_faults new.outside.shelf_faults
@@ -80,8 +61,9 @@ module _ (job : List ℕ) (spares other_spares : List DriveCounts) (old new othe
         same = same;
         bytes = bytes;
       } in
-      let both = both_settled job first first_after second second_after one.runs.runs.course two.runs.runs.course ended other_ended begins
-      one.runs.runs.does two.runs.runs.does in (
+      let both = answers_determined job first first_after second second_after one.runs.runs.course two.runs.runs.course ended other_ended begins
+      (as_play first one.runs.runs.course first_after job ended one.runs.runs.does)
+      (as_play second two.runs.runs.course second_after job other_ended two.runs.runs.does) in (
         both.0,
         λ regular. elim (both.1 regular) [
           | inl free ↦ inl (free_counted old new ended one.shelf_faults one.sink_faults free)

@@ -1,13 +1,11 @@
 -- Each step of a run keeps what stands in the bays and under their names.
 use Rattle.std.proofs.Common.{◌≡◌, ◌∙◌, ℕ, Bool, true, false, List, [], ◌∷◌, Option, Some, None, refl, ap, sym, subst, inl, inr}
 use Rattle.std.specs.Prelude.{is_some, MatchOption, if◌then◌else◌}
-use Rattle.laws_program.proofs.Common.{list_all, leb-true, Files, stored, Rate, R500, R250, Disk, IsDisk, file_of, Two, in_bay, with_bay, Request, Reply, StationState, Bay, Becomes, Stays, bay_of, set_bay, fresh_bay, State, IsSame, is_bay, Step, IsImageOf, refusal_of, spare_refusal, is_loaded, is_blank_request, blank_of, Taken, Run, requests_of, and_both, IsDiskFile, Names, named_by, IsStoredBy, HoldsBy, InsertsDisk, unless_bad, IsRefused}
+use Rattle.laws_program.proofs.Common.{put_in, blank_valid, list_all, leb-true, Files, stored, Rate, R500, R250, Disk, IsDisk, file_of, Two, in_bay, with_bay, Request, Reply, StationState, Bay, Becomes, Stays, bay_of, set_bay, fresh_bay, State, IsSame, is_bay, Step, IsImageOf, refusal_of, spare_refusal, is_loaded, is_blank_request, blank_of, Taken, Run, requests_of, and_both, IsDiskFile, Names, named_by, IsStoredBy, HoldsBy, InsertsDisk, unless_bad, IsRefused}
 use Rattle.floppy_jobs.specs.declared.request.Request.TheVariants as request
 use Rattle.sector_model.specs.declared.reply.Reason.TheVariants as reason
-use Rattle.laws_program.specs.Inserted.{put_in}
-use Rattle.laws_commands.proofs.Prepared.{blank_valid}
-use Rattle.laws_program.proofs.Stepping.{either_is, keeps_media, Alters, Leaves, Turns, Overwrites, Formats, calm_step}
-use Rattle.laws_program.proofs.Inserting.{IsHeld, AreHeld, IsKept, held_in, held_with, held_still, held_none, held_is, named_loaded, reach_held, lays_held, stored_last, stored_still, inserted_disk, choose, choose_out, both_free, not_loaded}
+use Rattle.laws_program.proofs.Stepping.{either_is, keeps_media, Alters, Leaves, Turns, Overwrites, calm_step}
+use Rattle.laws_program.proofs.Inserting.{IsHeld, AreHeld, IsKept, held_in, held_with, held_still, held_none, held_is, named_loaded, stored_last, stored_still, inserted_disk, choose, choose_out, both_free, not_loaded}
 
 module _ (Holds : List ℕ → Type 0) (names : Names) (old : State) (told : Option Files) (kept : IsKept Holds names old told) where
   -- the bays of the new state are these, which have the names
@@ -39,10 +37,7 @@ module _ (Holds : List ℕ → Type 0) (names : Names) (old : State) (told : Opt
   altered_kept : (asked : Request) (new : State) (after : Option Files) → new.names ≡ old.names → after ≡ told → Alters asked old new → IsKept Holds names new after
   altered_kept asked new after same still (Leaves is) = on_bays new after old.station.bays is kept.held same still
   altered_kept asked new after same still (Turns at x is stays) = bay_kept new after at x is (subst (IsHeld (in_bay names at)) (sym stays) (here at)) same still
-  altered_kept asked new after same still (Overwrites at x is free writes written changes reach) =
-      bay_kept new after at x is (reach_held (in_bay names at) written (bay_of old.station at).medium changes x.medium (here at) reach) same still
-  altered_kept asked new after same still (Formats at x is free writes format layings lays) =
-      bay_kept new after at x is (lays_held (in_bay names at) format (bay_of old.station at).medium layings x.medium (here at) lays) same still
+  altered_kept asked new after same still (Overwrites at x is free writes held) = bay_kept new after at x is (held (in_bay names at) (here at)) same still
 
   -- a step that keeps the media
   pub media_kept : (asked : Request) (answer : Reply) (new : State) (after : Option Files) → keeps_media asked ≡ true → Step asked old told answer new after

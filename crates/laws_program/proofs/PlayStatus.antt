@@ -3,7 +3,7 @@ use Rattle.std.proofs.Common.{refl, inl, inr, ◌≡◌, ◌∙◌, ℕ, List, [
 use Rattle.std.specs.Prelude.{◌&&◌, not, Bool, true}
 use Rattle.laws_program.proofs.Common.{Files, file_at, Status, both, job_of, Request, Stop, IsFresh, State, is_bay, StopsAt, StopCause, IsLonger, IsAbsent, refusal_of, is_loaded, Taken, Run, requests_of, has_refusal, IsEndStop, World, Plays, There, Missing, TooLong, Faulty, Starved, PlaysParsed, PlaysRequests, Played, Stopped, BrokenOff, EndStopped, IsText, most_job_bytes, IsDiskFile, Names, named_by, HoldsBy, InsertsDisk, InsertsDisks}
 use Rattle.floppy_jobs.specs.declared.request.Request.TheVariants as request
-use Rattle.laws_program.proofs.Telling.{EndsBy, Is, whole_as, put_as, prints_as, stop_as}
+use Rattle.laws_program.proofs.Telling.{EndsBy, SaysRefused, whole_as, put_as, prints_as, stop_as}
 use Rattle.laws_program.proofs.AlikeFiles.{stop_cases, no_stop}
 use Rattle.laws_program.proofs.Plays.{one_text, there_missing, there_long}
 use Rattle.laws_program.proofs.Inserting.{IsKept, AreHeld, file_image, goes_in}
@@ -50,15 +50,15 @@ requests_by : (Holds : List ℕ → Type 0) (names : Names) (requests : List Req
     → InsertsDisks Holds names requests → IsKept Holds names old.state old.files → PlaysRequests requests old course new ended
     → EndsBy (has_refusal course) ended
 requests_by Holds names requests old course new ended inserts kept (Played is) =
-    subst (λ (s : Status). EndsBy (has_refusal course) s) (sym is.status) (whole_as (Is (has_refusal course)) (has_refusal course) refl)
+    subst (EndsBy (has_refusal course)) (sym is.status) (whole_as (SaysRefused (has_refusal course)) (has_refusal course) refl)
 requests_by Holds names requests old course new ended inserts kept (Stopped is) =
-    prints_as (Is (has_refusal course)) _ _ _ _ ended is.prints
-    (λ well. stop_as (Is (has_refusal course)) is.cause
+    prints_as (SaysRefused (has_refusal course)) _ _ _ _ ended is.prints
+    (λ well. stop_as (SaysRefused (has_refusal course)) is.cause
     (run_stop is.asked is.later is.cause is.mid new.state is.files new.files is.stops Holds names old.state old.files course is.run
     (subst (InsertsDisks Holds names) is.all inserts) kept))
-requests_by Holds names requests old course new ended inserts kept (BrokenOff is) = put_as (Is (has_refusal course)) ended is.fault
+requests_by Holds names requests old course new ended inserts kept (BrokenOff is) = put_as (SaysRefused (has_refusal course)) ended is.fault
 requests_by Holds names requests old course new ended inserts kept (EndStopped is) =
-    subst (λ (s : Status). EndsBy (has_refusal course) s) (sym is.status) (stop_as (Is (has_refusal course)) is.cause is.only)
+    subst (EndsBy (has_refusal course)) (sym is.status) (stop_as (SaysRefused (has_refusal course)) is.cause is.only)
 
 -- ---- the file of a text that is there
 
@@ -81,10 +81,8 @@ play_by job files text requests old course new ended told is spells inserts kept
     (ap job_of (same_text files job text old.files told is there.text there.told) ∙ spells) there.plays)
 play_by job files text requests old course new ended told is spells inserts kept (Missing absent tells) = absurd (not_absent files job text old.files told is absent)
 play_by job files text requests old course new ended told is spells inserts kept (TooLong longer tells) = absurd (not_long files job text old.files told is longer)
-play_by job files text requests old course new ended told is spells inserts kept (Faulty nothing idle) =
-    subst (λ (s : Status). EndsBy (has_refusal course) s) (sym idle.status) tt
-play_by job files text requests old course new ended told is spells inserts kept (Starved nothing idle) =
-    subst (λ (s : Status). EndsBy (has_refusal course) s) (sym idle.status) tt
+play_by job files text requests old course new ended told is spells inserts kept (Faulty nothing idle) = subst (EndsBy (has_refusal course)) (sym idle.status) tt
+play_by job files text requests old course new ended told is spells inserts kept (Starved nothing idle) = subst (EndsBy (has_refusal course)) (sym idle.status) tt
 
 -- what holds of a session before its first request
 pub begins_kept : (files : Files) (start : State) (told : Option Files) → told ≡ Some files → start.names ≡ both None → IsFresh start.station

@@ -1,5 +1,5 @@
 -- Two plays of one batch job that begin alike: they answer alike, and end alike.
-use Rattle.std.proofs.Common.{◌≡◌, ◌∙◌, ℕ, suc, Bool, List, [], ◌∷◌, ◌++◌, length, refl, sym, ap, subst, append-nil, append_assoc, Option, Some, None, Result, Ok, Err, inl, inr, arith}
+use Rattle.std.proofs.Common.{◌≡◌, ◌∙◌, ℕ, Bool, List, [], ◌∷◌, ◌++◌, length, refl, sym, ap, subst, append-nil, append_assoc, Option, Some, None, Result, Ok, Err, inl, inr, arith}
 use Rattle.std.specs.Prelude.{◌⊎◌, ◌||◌, MatchBool, nat_lt}
 use Rattle.laws_program.proofs.Common.{lt-ltb, le-ltb, length-replicate, Files, file_at, grown, Status, Two, both, user_bytes, job_of, Request, Reply, Stop, Bay, fresh_bay, State, StopsAt, StopCause, IsAbsent, IsLonger, is_refusal, stop_lines, stop_status, bad_line_text, absent_text, Taken, Run, requests_of, course_lines, has_refusal, IsEndStop, World, IsPutFault, Prints, whole_status, PlaysRequests, TellsAlone, PlaysParsed, IsText, most_job_bytes, Plays, run_more, requests_more, AreUndisturbed, BeginAlike, AreRegularBefore, AnswerAlike, AnswersAgree, IsFreeEnd, EndAlikeUnlessFree}
 use Rattle.flop_base.specs.declared.answers.Status.TheVariants as status
@@ -153,19 +153,13 @@ refusal_same : (a b : Reply) → AnswerAlike a b → is_refusal b ≡ is_refusal
 refusal_same (reply.Bytes address content) b same = ap is_refusal same.1
 refusal_same _ b same = ap is_refusal same
 
-no_suc : (n : ℕ) → suc n ≡ 0 → ⊥
-no_suc n e = omega (arith, e)
-
-same_suc : (m n : ℕ) → suc m ≡ suc n → m ≡ n
-same_suc m n e = omega (arith, e)
-
 refusals_same : (c d : List Taken) → AllAgree c d → length d ≡ length c → has_refusal d ≡ has_refusal c
 refusals_same [] [] agree long = refl
-refusals_same [] (u ∷ more) agree long = absurd (no_suc (length more) long)
-refusals_same (t ∷ later) [] agree long = absurd (no_suc (length later) (sym long))
+refusals_same [] (u ∷ more) agree long = absurd (omega (arith, long))
+refusals_same (t ∷ later) [] agree long = absurd (omega (arith, long))
 refusals_same (t ∷ later) (u ∷ more) agree long =
     ap (λ (b : Bool). b || has_refusal more) (refusal_same t.answer u.answer agree.1)
-    ∙ ap (λ (b : Bool). is_refusal t.answer || b) (refusals_same later more agree.2 (same_suc (length more) (length later) long))
+    ∙ ap (λ (b : Bool). is_refusal t.answer || b) (refusals_same later more agree.2 (omega (arith, long)))
 
 grown_nil : (report : Option (List (List ℕ))) → grown report [] ≡ report
 grown_nil None = refl
@@ -185,9 +179,6 @@ insert_name : (asked : Request) (a b : ℕ) (x y : List ℕ) → asked ≡ reque
 insert_name asked a b x y e f = cc (e, f)
 
 stops_both : (files files_too : Option Files) (asked : Request) (a b : Stop) → AlikeTold files files_too → StopCause files asked a → StopCause files_too asked b → IsEndStop a ⊎ IsEndStop b ⊎ (b ≡ a)
-stops_both None None asked a b same one two = absurd same
-stops_both None (Some g) asked a b same one two = absurd same
-stops_both (Some f) None asked a b same one two = absurd same
 stops_both (Some f) (Some g) asked a b same one two = elim (stop_cases f asked a one) [
   | inl free ↦ inl free
   | inr x ↦ elim (stop_cases g asked b two) [
@@ -198,6 +189,7 @@ stops_both (Some f) (Some g) asked a b same one two = elim (stop_cases f asked a
         inr (inr (one_cause a b (stop_by x.name (file_at f x.name)) (stop_by y.name (file_at g y.name)) x.is y.is there))
   ]
 ]
+stops_both _ _ asked a b same one two = absurd same
 
 -- one play stopped at a request at which the other went on; so the outside made the stop
 passed_end : (state new : State) (files after : Option Files) (rest : List Request) (asked : Request) (later : List Request) (cause : Stop) → IsPassed state files rest → rest ≡ asked ∷ later → StopsAt asked state files cause new after → IsEndStop cause
@@ -226,8 +218,13 @@ module _ (one two one_after two_after : World) (course course_too : List Taken) 
 
     ends_alike : Parted course course_too mid files rest mid_too files_too rest_too → Ending one.report course mid files rest one_after ended → Ending two.report course_too mid_too files_too rest_too two_after ended_too → EndsSo
     ends_alike parted (ByOutside free) second = inl free
-    ends_alike parted (AllRun none report is) (ByOutside free) = inr (inl free)
-    ends_alike parted (ByStop asked later cause more stops report is) (ByOutside free) = inr (inl free)
+    ends_alike parted first (ByOutside free) = inr (inl free)
+    ends_alike (FirstOn passed) first (AllRun none report is) = absurd (nil_cons rest_too passed.asked passed.later none passed.rest_is)
+    ends_alike (FirstOn passed) first (ByStop asked later cause more stops report is) =
+        inr (inl (stop_ended cause ended_too is (passed_end mid_too two_after.state files_too two_after.files rest_too asked later cause passed more stops)))
+    ends_alike (SecondOn passed) (AllRun none report is) second = absurd (nil_cons rest passed.asked passed.later none passed.rest_is)
+    ends_alike (SecondOn passed) (ByStop asked later cause more stops report is) second =
+        inl (stop_ended cause ended is (passed_end mid one_after.state files one_after.files rest asked later cause passed more stops))
     ends_alike (Together long rests same) (AllRun none report is) (AllRun none_too report_too is_too) = inr (inr (record {
       as_many = long;
       lines = [];
@@ -235,24 +232,12 @@ module _ (one two one_after two_after : World) (course course_too : List Taken) 
       second = report_too ∙ sym (grown_nil (grown two.report (course_lines course_too)));
       status = is_too ∙ ap whole_status (refusals_same course course_too agree long) ∙ sym is;
     }))
-    ends_alike (FirstOn passed) (AllRun none report is) (AllRun none_too report_too is_too) = absurd (nil_cons rest_too passed.asked passed.later none_too passed.rest_is)
-    ends_alike (SecondOn passed) (AllRun none report is) (AllRun none_too report_too is_too) = absurd (nil_cons rest passed.asked passed.later none passed.rest_is)
     ends_alike (Together long rests same) (AllRun none report is) (ByStop asked later cause more stops report_too is_too) = absurd (nil_cons rest_too asked later (rests ∙ none) more)
-    ends_alike (FirstOn passed) (AllRun none report is) (ByStop asked later cause more stops report_too is_too) =
-        inr (inl (stop_ended cause ended_too is_too (passed_end mid_too two_after.state files_too two_after.files rest_too asked later cause passed more stops)))
-    ends_alike (SecondOn passed) (AllRun none report is) (ByStop asked later cause more stops report_too is_too) = absurd (nil_cons rest passed.asked passed.later none passed.rest_is)
     ends_alike (Together long rests same) (ByStop asked later cause more stops report is) (AllRun none report_too is_too) = absurd (nil_cons rest asked later (sym rests ∙ none) more)
-    ends_alike (FirstOn passed) (ByStop asked later cause more stops report is) (AllRun none report_too is_too) = absurd (nil_cons rest_too passed.asked passed.later none passed.rest_is)
-    ends_alike (SecondOn passed) (ByStop asked later cause more stops report is) (AllRun none report_too is_too) =
-        inl (stop_ended cause ended is (passed_end mid one_after.state files one_after.files rest asked later cause passed more stops))
     ends_alike (Together long rests same) (ByStop asked later cause more stops report is) (ByStop asked_too later_too cause_too more_too stops_too report_too is_too) =
         let here : asked_too ≡ asked = head_of rest_too asked_too asked later_too later more_too (rests ∙ more) in
         let there = subst (λ (q : Request). StopCause files_too q cause_too) here stops_too.cause in
         both_stopped long same.files asked cause cause_too stops.cause there report report_too is is_too
-    ends_alike (FirstOn passed) (ByStop asked later cause more stops report is) (ByStop asked_too later_too cause_too more_too stops_too report_too is_too) =
-        inr (inl (stop_ended cause_too ended_too is_too (passed_end mid_too two_after.state files_too two_after.files rest_too asked_too later_too cause_too passed more_too stops_too)))
-    ends_alike (SecondOn passed) (ByStop asked later cause more stops report is) (ByStop asked_too later_too cause_too more_too stops_too report_too is_too) =
-        inl (stop_ended cause ended is (passed_end mid one_after.state files one_after.files rest asked later cause passed more stops))
 
   -- ---- what two plays have in common
 

@@ -8,7 +8,7 @@ use Rattle.text_commands.specs.declared.ports.answer.LineAnswer.TheVariants as a
 use Rattle.text_commands.specs.PortCourses.{Taken, lines_of, has_refusal}
 use Rattle.text_commands.specs.PortLines.{StopsAt, IsRefused}
 use Rattle.text_commands.specs.PortPlays.{World, Played, Stopped, BrokenOff, EndStopped, PlaysParsed, Plays, There, Missing, TooLong, Faulty, Starved}
-use Rattle.laws_program.proofs.Telling.{EndsBy, Is, whole_as, put_as, prints_as, stop_as, ends_so}
+use Rattle.laws_program.proofs.Telling.{EndsBy, SaysRefused, whole_as, put_as, prints_as, stop_as, ends_so}
 use Rattle.laws_program.proofs.Inserting.{stored_last, stored_still, choose, choose_out, goes_in}
 use Rattle.laws_program.proofs.Protected.{not_named}
 use Rattle.laws_program.proofs.PlayStatus.{disks_stop, same_text, not_absent, not_long}
@@ -157,15 +157,15 @@ module _ (Holds : List ℕ → Type 0) (names : Names) where
   lines_by : (lines : List PortLine) (old : World) (course : List Taken) (new : World) (ended : Status) → InsertsDisks Holds names (media_among lines)
       → IsKept Holds names old.bench → PlaysLines lines old course new ended → EndsBy (has_refusal course) ended
   lines_by lines old course new ended inserts kept (Played is) =
-      subst (λ (s : Status). EndsBy (has_refusal course) s) (sym is.status) (whole_as (Is (has_refusal course)) (has_refusal course) refl)
+      subst (EndsBy (has_refusal course)) (sym is.status) (whole_as (SaysRefused (has_refusal course)) (has_refusal course) refl)
   lines_by lines old course new ended inserts kept (Stopped is) =
-      prints_as (Is (has_refusal course)) _ _ _ _ ended is.prints
-      (λ well. stop_as (Is (has_refusal course)) is.cause
+      prints_as (SaysRefused (has_refusal course)) _ _ _ _ ended is.prints
+      (λ well. stop_as (SaysRefused (has_refusal course)) is.cause
       (lines_stop is.asked is.later is.cause is.mid new.bench is.stops course Holds names old.bench is.run
       (subst (λ (l : List PortLine). InsertsDisks Holds names (media_among l)) is.all inserts) kept))
-  lines_by lines old course new ended inserts kept (BrokenOff is) = put_as (Is (has_refusal course)) ended is.fault
+  lines_by lines old course new ended inserts kept (BrokenOff is) = put_as (SaysRefused (has_refusal course)) ended is.fault
   lines_by lines old course new ended inserts kept (EndStopped is) =
-      subst (λ (s : Status). EndsBy (has_refusal course) s) (sym is.status) (stop_as (Is (has_refusal course)) is.cause is.only)
+      subst (EndsBy (has_refusal course)) (sym is.status) (stop_as (SaysRefused (has_refusal course)) is.cause is.only)
 
 ports_by : (file : List ℕ) (files : Files) (text : List ℕ) (lines : List PortLine) (old : World) (course : List Taken) (new : World) (ended : Status)
     → old.bench.files ≡ Some files → IsText (Some files) file text → ports_of text ≡ Ok lines
@@ -177,10 +177,8 @@ ports_by file files text lines old course new ended told is spells inserts kept 
     (ap ports_of (same_text files file text old.bench.files told is there.text there.told) ∙ spells) there.plays)
 ports_by file files text lines old course new ended told is spells inserts kept (Missing absent tells) = absurd (not_absent files file text old.bench.files told is absent)
 ports_by file files text lines old course new ended told is spells inserts kept (TooLong longer tells) = absurd (not_long files file text old.bench.files told is longer)
-ports_by file files text lines old course new ended told is spells inserts kept (Faulty idle) =
-    subst (λ (s : Status). EndsBy (has_refusal course) s) (sym idle.status) tt
-ports_by file files text lines old course new ended told is spells inserts kept (Starved idle) =
-    subst (λ (s : Status). EndsBy (has_refusal course) s) (sym idle.status) tt
+ports_by file files text lines old course new ended told is spells inserts kept (Faulty idle) = subst (EndsBy (has_refusal course)) (sym idle.status) tt
+ports_by file files text lines old course new ended told is spells inserts kept (Starved idle) = subst (EndsBy (has_refusal course)) (sym idle.status) tt
 
 -- what holds of a machine before its first line
 begins_kept : (files : Files) (bench : Bench) → bench.files ≡ Some files → bench.names ≡ both None → IsKept (IsDiskFile (Some files)) (both None) bench
@@ -199,7 +197,7 @@ pub ports_end : (file : List ℕ) (words : List (List ℕ)) (spares : List Drive
 ports_end file words spares old new ended files text lines named told is spells inserts done =
     let ran = done.does.ports file named in
     let first = ports_world old.board no_names old.outside.outside in
-    ends_so (Is (has_refusal ran.1.course)) (EndsByReplies (has_refusal ran.1.course) old new) ended (λ e. e) (λ e. e) tt
+    ends_so (SaysRefused (has_refusal ran.1.course)) (EndsByReplies (has_refusal ran.1.course) old new) ended (λ e. e) (λ e. e) tt
     done.shelf_faults.rose done.sink_faults.rose
     (ports_by file files text lines first ran.1.course (ports_world new.board ran.0 new.outside.outside) ended told is spells inserts
     (begins_kept files first.bench told refl) ran.1.plays)

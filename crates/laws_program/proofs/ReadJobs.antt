@@ -8,7 +8,7 @@ use Rattle.laws_program.specs.StoredAgain.{only_reads, AllRead, AreStoredAgain, 
 use Rattle.laws_program.proofs.Courses.{form_runs}
 use Rattle.laws_program.proofs.JobRuns.{first_asked}
 use Rattle.laws_program.proofs.Bays.{sorted, each_bay, other_bay, in_same, kept_medium}
-use Rattle.laws_program.proofs.Stepping.{either, becomes_medium, Alters, Leaves, Turns, Overwrites, Formats, calm_step}
+use Rattle.laws_program.proofs.Stepping.{either, becomes_medium, Alters, Leaves, Turns, Overwrites, calm_step}
 use Rattle.laws_program.proofs.StoresMade.{each_form_stores}
 
 -- ---- what stands in the bays
@@ -82,8 +82,7 @@ module _ (told : Option Files) (old new : State) where
   altered_held asked reads names (Leaves is) held = still_held names (λ bay. ap (λ (b : Two Bay). (in_bay b bay).medium) is) held
   altered_held asked reads names (Turns at x is still) held =
       still_held names (λ bay. ap (λ (b : Two Bay). (in_bay b bay).medium) is ∙ kept_medium old.station.bays at bay x still) held
-  altered_held asked reads names (Overwrites at x is free writes written changes reach) held = absurd (true≢false (sym reads ∙ writes))
-  altered_held asked reads names (Formats at x is free writes format layings lays) held = absurd (true≢false (sym reads ∙ writes))
+  altered_held asked reads names (Overwrites at x is free writes stays) held = absurd (true≢false (sym reads ∙ writes))
 
   step_held : (asked : Request) (answer : Reply) (after : Option Files) → only_reads asked ≡ true → Step asked old told answer new after
       → Held told old → Held told new

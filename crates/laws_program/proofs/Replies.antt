@@ -4,7 +4,7 @@ use Rattle.laws_program.proofs.Common.{Files, file_at, Rate, R250, R500, Status,
 use Rattle.flop_base.specs.declared.answers.Status.TheVariants as status
 use Rattle.floppy_words.specs.declared.form.Form.TheVariants as form
 use Rattle.laws_program.proofs.OfForms.{world_before, world_after, run_course}
-use Rattle.laws_program.proofs.Telling.{EndsBy, Is, ends_so}
+use Rattle.laws_program.proofs.Telling.{EndsBy, SaysRefused, ends_so}
 use Rattle.laws_program.proofs.Completed.{format_by, copy_by, verify_by, import_by, export_by, exercise_by}
 use Rattle.laws_program.proofs.RescueStatus.{rescue_by}
 use Rattle.laws_program.proofs.RescueAgain.{rescue_again_by}
@@ -19,7 +19,7 @@ module _ {asked : Form} {spares : List DriveCounts} {old new : Stand} {ended : S
     where
       go : DoesOrStarves asked (world_before ran) (run_course ran) (world_after ran) ended → Tells
       go (AsAsked does) =
-          ends_so (Is (has_refusal (run_course ran))) (EndsByReplies (has_refusal (run_course ran)) old new) ended (λ e. e) (λ e. e) tt
+          ends_so (SaysRefused (has_refusal (run_course ran))) (EndsByReplies (has_refusal (run_course ran)) old new) ended (λ e. e) (λ e. e) tt
           ran.shelf_faults.rose ran.sink_faults.rose (by does)
       go (StarvesWords nothing idle) = subst (λ (s : Status). EndsByReplies (has_refusal (run_course ran)) old new s) (sym idle.status) tt
 

@@ -8,7 +8,7 @@ use Rattle.sector_model.specs.declared.reply.Reply.TheVariants as reply
 use Rattle.commands.specs.Parts.{needs, carries, may_starve, opens}
 use Rattle.disk_commands.specs.Rescue.{acknowledges_both, prepares_old, prepares, rescues_all, rescue_found}
 use Rattle.laws_commands.proofs.PutIn.{put_shape}
-use Rattle.laws_program.proofs.Telling.{EndsBy, IsFaithful, acknowledges_tells, Is, prints_as, stop_as, script_tells, unrefused}
+use Rattle.laws_program.proofs.Telling.{EndsBy, IsFaithful, acknowledges_tells, SaysRefused, prints_as, stop_as, script_tells, unrefused}
 use Rattle.laws_program.proofs.RescueStatus.{records_by, behind}
 
 -- ---- a file that is there is put in
@@ -18,8 +18,8 @@ inserts_tells : (bay : ℕ) (name : List ℕ) (rest : Unit {0} → Script) (file
     → RunsScript (carries (request.Insert bay name) rest) old course new ended → EndsBy (has_refusal course) ended
 unfolding carries needs
 inserts_tells bay name rest files disk old new [] ended told image is runs =
-    prints_as (Is false) _ _ _ _ ended runs.2
-    (λ well. stop_as (Is false) runs.0 (insert_stops bay name files disk old.state new.state new.files runs.0 image
+    prints_as (SaysRefused false) _ _ _ _ ended runs.2
+    (λ well. stop_as (SaysRefused false) runs.0 (insert_stops bay name files disk old.state new.state new.files runs.0 image
     (subst (λ (f : Option Files). StopsAt (request.Insert bay name) old.state f runs.0 new.state new.files) told runs.1)))
 inserts_tells bay name rest files disk old new (taken ∷ later) ended told image is runs =
     script_tells (false || is_refusal taken.answer) (unless_refused (request.Insert bay name) taken.answer (rest tt)) (with_report taken.after runs.1 old.report)
@@ -50,8 +50,8 @@ module _ (name : List ℕ) (rest : Shape → Script) (files : Files) (disk : Dis
       → EndsBy (has_refusal course) ended
   unfolding opens needs
   opens_then old [] told runs =
-      prints_as (Is false) _ _ _ _ ended runs.2
-      (λ well. stop_as (Is false) runs.0 (insert_stops 0 name files disk old.state new.state new.files runs.0 image
+      prints_as (SaysRefused false) _ _ _ _ ended runs.2
+      (λ well. stop_as (SaysRefused false) runs.0 (insert_stops 0 name files disk old.state new.state new.files runs.0 image
       (subst (λ (f : Option Files). StopsAt (request.Insert 0 name) old.state f runs.0 new.state new.files) told runs.1)))
   opens_then old (taken ∷ later) told runs =
       by_answer old.state taken.after runs.1 old.report later taken.answer

@@ -1,7 +1,7 @@
 -- The status of a rescue without a log, by whether some reply was a refusal.
 use Rattle.std.proofs.Common.{arith, ◌≡◌, ◌≤◌, ◌-◌, ◌∙◌, ℕ, Bool, true, false, List, [], ◌∷◌, ◌++◌, length, Option, Some, None, refl, ap, sym, subst, if◌then◌else◌}
 use Rattle.std.specs.Prelude.{◌||◌, nat_lt}
-use Rattle.laws_program.proofs.Common.{lt-ltb, le-ltb, ltb-false, ltb-true, length-append, Files, file_at, sectors_at, Code, Status, Chrn, Disk, Reply, IsImageOf, is_refusal, Taken, has_refusal, World, whole_status, blank_request, Shape, Script, carries, formats, write_of, LogLine, IsFound, asked_keys, outcome_of, rescue_rest, Rescues, outcome_status, by_absent}
+use Rattle.laws_program.proofs.Common.{or-false, or-true, lt-ltb, le-ltb, ltb-false, ltb-true, length-append, Files, file_at, sectors_at, Code, Status, Chrn, Disk, Reply, IsImageOf, is_refusal, Taken, has_refusal, World, whole_status, blank_request, Shape, Script, carries, formats, write_of, LogLine, IsFound, asked_keys, outcome_of, rescue_rest, Rescues, outcome_status, by_absent}
 use Rattle.flop_base.specs.declared.answers.Code.TheVariants as code
 use Rattle.flop_base.specs.declared.answers.Status.TheVariants as status
 use Rattle.floppy_jobs.specs.declared.request.Request.TheVariants as request
@@ -9,21 +9,17 @@ use Rattle.sector_model.specs.declared.reply.Reply.TheVariants as reply
 use Rattle.sector_model.specs.declared.reply.Reason.TheVariants as reason
 use Rattle.commands.specs.Parts.{asks, may_starve, through}
 use Rattle.disk_commands.specs.Rescue.{does_next, follows, rescues, acknowledges_both, prepares_new, prepares, rescues_all, stores_log, rescue_found}
-use Rattle.laws_program.proofs.Telling.{EndsBy, NeverInserts, IsFaithful, PartTells, opens_tells, carries_tells, carries_tells_at, acknowledges_tells, tracks_tell, or_none, some_whole}
+use Rattle.laws_program.proofs.Telling.{EndsBy, NeverInserts, IsFaithful, PartTells, opens_tells, carries_tells, carries_tells_at, acknowledges_tells, tracks_tell, some_whole}
 use Rattle.laws_program.proofs.Completed.{blank_never, format_never}
 
 -- some record was logged
 abbrev some_line : List LogLine → Bool
 some_line lines = nat_lt 0 (length lines)
 
-or_true : (b : Bool) → (b || true) ≡ true
-or_true true = refl
-or_true false = refl
-
 one_line : (lines : List LogLine) (line : LogLine) → some_line (lines ++ line ∷ []) ≡ (some_line lines || true)
 one_line lines line =
     let size = length-append lines (line ∷ []) in
-    lt-ltb 0 (length (lines ++ line ∷ [])) (omega (arith, size)) ∙ sym (or_true (some_line lines))
+    lt-ltb 0 (length (lines ++ line ∷ [])) (omega (arith, size)) ∙ sym (or-true (some_line lines))
 
 write_never : (key : Chrn) (deleted : Bool) → NeverInserts (write_of key deleted)
 write_never key true = λ bay name e. absurd (cc e)
@@ -32,7 +28,7 @@ write_never key false = λ bay name e. absurd (cc e)
 module _ (key : Chrn) (lines : List LogLine) (rest : List LogLine → Script) (is : (now : List LogLine) → IsFaithful (some_line now) (rest now)) where
   written : (deleted : Bool) → IsFaithful (some_line lines || false) (carries (write_of key deleted) (λ none. rest lines))
   written deleted =
-      subst (λ (b : Bool). IsFaithful b (carries (write_of key deleted) (λ none. rest lines))) (or_none (some_line lines))
+      subst (λ (b : Bool). IsFaithful b (carries (write_of key deleted) (λ none. rest lines))) (sym (or-false (some_line lines)))
       (carries_tells_at (some_line lines) (write_of key deleted) (write_never key deleted) (λ none. rest lines) (is lines))
 
   lined : (cause : Code) → IsFaithful (some_line lines || true) (rest (lines ++ record { key = key; code = cause } ∷ []))

@@ -1,10 +1,10 @@
 -- What a rescue stores, and in which order.
 use Rattle.std.proofs.Common.{ℕ, List, [], Some, ap, ◌≡◌, Option, subst}
-use Rattle.laws_program.proofs.Common.{Status, DriveCounts, Board, Taken, World, Outside, world, DoesOrStarves, AsAsked, StarvesWords, RunsOver, LogLine, log_of, StoresDiskThenLog, nothing_first, blank_disk, R500, stores_in_order, IsRegularDisk, fresh_memory, sectors_at, State, IsLogFound, BringsUpNoMark, HasTarget, IsTarget, IsRescue, Files, file_at, Disk, IsImageOf, log_text, LogsNotFound, IsUnmistaken, IsEndStatus, HadNoFault, HadNoStall, StoresLogOf, IsNotToldStopped, IsNotStopped, Rescues}
+use Rattle.laws_program.proofs.Common.{of_one, Status, DriveCounts, Board, Taken, World, Outside, world, DoesOrStarves, AsAsked, StarvesWords, RunsOver, LogLine, log_of, StoresDiskThenLog, nothing_first, blank_disk, R500, stores_in_order, IsRegularDisk, fresh_memory, sectors_at, State, IsLogFound, BringsUpNoMark, HasTarget, IsTarget, IsRescue, Files, file_at, Disk, IsImageOf, log_text, LogsNotFound, IsUnmistaken, IsEndStatus, HadNoFault, HadNoStall, StoresLogOf, IsNotToldStopped, IsNotStopped, Rescues}
 use Rattle.floppy_words.specs.declared.form.Form.TheVariants as form
 use Rattle.laws_program.proofs.OfForms.{asked_whole}
 use Rattle.laws_commands.proofs.Whole.{rescue_logs, rescue_stores}
-use Rattle.std.specs.Prelude.{◌≢◌, None, IsSomeAnd, IfSome}
+use Rattle.std.specs.Prelude.{◌≢◌, None, IfSome}
 use Rattle.laws_program.proofs.OnBoards.{undisturbed_first, faultless_second}
 use Rattle.laws_program.proofs.Unstopped.{rescue_unstopped}
 
@@ -33,11 +33,9 @@ log_stored disk log files course new logs = record {
 no_target : (to log : List ℕ) (disk : Disk) (files : Files) (old : State) (course : List Taken) (sectors : ℕ) → file_at files log ≡ None
     → (found : Option (List LogLine)) → IsLogFound (Some files) log sectors found → HasTarget found to disk files old course
 no_target to log disk files old course sectors absent None there = tt
-no_target to log disk files old course sectors absent (Some lines) there = absurd (gone _ (file_at files log) absent there)
-  where
-    gone : (Such : List ℕ → Type 0) (o : Option (List ℕ)) → o ≡ None → IsSomeAnd o Such → ⊥
-    gone Such None is some = some
-    gone Such (Some bytes) is some = absurd (cc is)
+no_target to log disk files old course sectors absent (Some lines) there =
+    let one = (of_one (file_at files log) there there).1 in
+    absurd (cc (absent, one))
 
 -- where there may be a log, the other diskette has what a log asks of it
 this_target : (to : List ℕ) (target : Disk) (files : Files) (old : State) (course : List Taken) → IsTarget to target files old course

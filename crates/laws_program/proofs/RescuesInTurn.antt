@@ -1,8 +1,7 @@
 -- Rescues one after the other: each finds what the run before left.
 use Rattle.std.proofs.Common.{arith, ◌≡◌, ◌≢◌, ◌∙◌, ◌+◌, ◌≤◌, ℕ, zero, suc, Bool, true, false, List, [], ◌∷◌, ◌++◌, length, append-nil, append_assoc, lit<, Option, Some, None, refl, sym, ap, subst, inl, inr}
-use Rattle.std.specs.Prelude.{◌⊎◌, Contains, IfSome, IsSomeAnd, nat_lt, if◌then◌else◌}
-use Rattle.std.specs.FinMap as fin
-use Rattle.laws_program.proofs.Common.{cases_eq, ltb-false, All-contains, All-weaker, recursion_from_All, Files, file_at, after_store, stored, sectors_at, Status, Chrn, Disk, IsDisk, file_of, IsRegularDisk, Taken, World, IsAbsent, shape_of, logged_keys, outcome_status, IsLogLine, IsLog, log_text, LogLine, IsLogFound, most_log_bytes, asked_keys, world, IsFieldOf, IsSettled, GivesFields, StoresRescue, TellsRescue, IsNotFound, count_writes, outcome_in, log_of, entry_at, IsStandardKey, image_there, each_standard}
+use Rattle.std.specs.Prelude.{◌⊎◌, Contains, IfSome, nat_lt, if◌then◌else◌}
+use Rattle.laws_program.proofs.Common.{Contains-tail, nil_from_length, of_one, cases_eq, ltb-false, All-contains, All-weaker, recursion_from_All, Files, file_at, after_store, stored, sectors_at, Status, Chrn, Disk, IsDisk, file_of, IsRegularDisk, Taken, World, IsAbsent, shape_of, logged_keys, outcome_status, IsLogLine, IsLog, log_text, LogLine, IsLogFound, asked_keys, world, IsFieldOf, IsSettled, GivesFields, StoresRescue, TellsRescue, IsNotFound, count_writes, outcome_in, log_of, entry_at, IsStandardKey, image_there, each_standard}
 use Rattle.flop_base.specs.declared.answers.Status.TheVariants as status
 use Rattle.rescue.proofs.LawLemmas.{one_spelling}
 use Rattle.laws_commands.specs.LaidFields.{HasLaidFields}
@@ -31,10 +30,6 @@ same_key a b = elim (cases_eq a.c b.c) [
   ]
 ]
 
-not_among : (key first : Chrn) (later : List Chrn) → (first ≡ key → ⊥) → (Contains later key → ⊥) → Contains (first ∷ later) key → ⊥
-not_among key first later other none (zero, inside, is) = other is
-not_among key first later other none (suc k, inside, is) = none (k, omega (arith, inside), is)
-
 -- a record is among others, or not
 among_keys : (key : Chrn) (keys : List Chrn) → Contains keys key ⊎ (Contains keys key → ⊥)
 among_keys key [] = inr (λ there. absurd (omega (arith, there.1)))
@@ -42,7 +37,7 @@ among_keys key (first ∷ later) = elim (same_key first key) [
   | inl here ↦ inl (0, omega arith, here)
   | inr other ↦ elim (among_keys key later) [
     | inl there ↦ inl (suc there.0, omega (arith, there.1), there.2)
-    | inr none ↦ inr (not_among key first later other none)
+    | inr none ↦ inr (λ there. none (Contains-tail first later key other there))
   ]
 ]
 
@@ -100,36 +95,22 @@ widest sectors lines few is = record {
 }
 
 found_is_log : (files : Files) (log : List ℕ) (sectors : ℕ) (lines : List LogLine) → IsLogFound (Some files) log sectors (Some lines) → IsLog sectors lines
-found_is_log files log sectors lines found = go (file_at files log) found
-  where
-    go : (o : Option (List ℕ)) → IsSomeAnd o (λ text. (length text ≤ most_log_bytes) × (IsLog sectors lines × (text ≡ log_text lines))) → IsLog sectors lines
-    go None there = absurd there
-    go (Some text) there = there.1.0
+found_is_log files log sectors lines found = (of_one (file_at files log) found found).2.1.0
 
 -- the log that is found is the one whose text stands there
 found_lines : (files : Files) (log : List ℕ) (sectors : ℕ) (lines : List LogLine) (found : Option (List LogLine)) → sectors ≤ 18
     → file_at files log ≡ Some (log_text lines) → IsLog 18 lines → IsLogFound (Some files) log sectors found → found ≡ Some lines
 found_lines files log sectors lines None few there is found = absurd (cc (there, found))
-found_lines files log sectors lines (Some asked) few there is found = ap (λ (row : List LogLine). Some row) (go (file_at files log) there found)
-  where
-    go : (o : Option (List ℕ)) → o ≡ Some (log_text lines)
-        → IsSomeAnd o (λ text. (length text ≤ most_log_bytes) × (IsLog sectors asked × (text ≡ log_text asked))) → asked ≡ lines
-    go None e found = absurd found
-    go (Some text) e found =
-        let same : text ≡ log_text lines = cc e in
-        one_spelling 18 asked lines (lit< tt) (widest sectors asked few found.1.0) is (sym found.1.1 ∙ same)
+found_lines files log sectors lines (Some asked) few there is found =
+    let one = of_one (file_at files log) found found in
+    let at = one.1 in
+    let same : one.0 ≡ log_text lines = cc (at, there) in
+    ap (λ (row : List LogLine). Some row)
+    (one_spelling 18 asked lines (lit< tt) (widest sectors asked few one.2.1.0) is (sym one.2.1.1 ∙ same))
 
 none_there : (files : Files) (log : List ℕ) (sectors : ℕ) (lines : List LogLine) → file_at files log ≡ None
     → IsLogFound (Some files) log sectors (Some lines) → ⊥
-none_there files log sectors lines absent found = go (file_at files log) absent found
-  where
-    go : (o : Option (List ℕ)) → o ≡ None → IsSomeAnd o (λ text. (length text ≤ most_log_bytes) × (IsLog sectors lines × (text ≡ log_text lines))) → ⊥
-    go None e there = there
-    go (Some text) e there = absurd (cc e)
-
-nothing : (lines : List LogLine) → length lines ≤ 0 → lines ≡ []
-nothing [] none = refl
-nothing (line ∷ later) none = absurd (omega (arith, none))
+none_there files log sectors lines absent found = let one = (of_one (file_at files log) found found).1 in cc (absent, one)
 
 -- if all records were written, no line is left
 none_left : (course : List Taken) (asked : ℕ) (ended : Status) → count_writes course + length (log_of course) ≡ asked
@@ -138,7 +119,7 @@ none_left course asked ended count is well = go (nat_lt (count_writes course) as
   where
     go : (b : Bool) → nat_lt (count_writes course) asked ≡ b → status.AllOk ≡ (if b then status.SomeRefused else status.AllOk) → log_of course ≡ []
     go true e f = absurd (cc f)
-    go false e f = let few = ltb-false (count_writes course) asked e in nothing (log_of course) (omega (arith, few, count))
+    go false e f = let few = ltb-false (count_writes course) asked e in nil_from_length (log_of course) (omega (arith, few, count))
 
 -- ---- the runs
 

@@ -62,13 +62,11 @@ load_clash a b one two next after asked answer cause beside taken load step =
 
 -- so it was the outside that made the stop
 pub passed_free : (one two new next : State) (told other after told_next : Option Files) (asked : Request) (answer : Reply) (cause : Stop) → AreBeside one told two other → StopsAt asked one told cause new after → Step asked two other answer next told_next → IsEndStop cause
-passed_free one two new next None None after told_next asked answer cause beside stops step = absurd beside.stops
-passed_free one two new next None (Some b) after told_next asked answer cause beside stops step = absurd beside.stops
-passed_free one two new next (Some a) None after told_next asked answer cause beside stops step = absurd beside.stops
 passed_free one two new next (Some a) (Some b) after told_next asked answer cause beside stops step = elim (stop_cases a asked cause stops.cause) [
   | inl free ↦ free
   | inr load ↦ absurd (load_clash a b one two next told_next asked answer cause beside stops.taken load step)
 ]
+passed_free one two new next _ _ after told_next asked answer cause beside stops step = absurd beside.stops
 
 -- ---- where two runs part
 

@@ -1,17 +1,15 @@
 -- What each step of a run may do to the media in the bays.
 use Rattle.std.proofs.Common.{arith, ◌≡◌, ◌≤◌, ◌∙◌, ℕ, Bool, true, false, true≢false, List, [], ◌∷◌, length, Option, Some, None, Result, Ok, Err, refl, ap, sym, subst, inl, inr, ◌⊎◌}
 use Rattle.std.specs.Prelude.{◌&&◌, not, if◌then◌else◌, MatchOption, MatchBool, IsOk, is_some, ◌-◌}
-use Rattle.laws_program.proofs.Common.{Two, in_bay, with_bay, option_map_or, Files, Code, Chrn, Disk, Request, Counters, IsDriven, Change, Written, Reply, StationState, Bay, bay_of, set_bay, fresh_bay, Becomes, Stays, State, is_acknowledged, is_protected, write_refusal, format_refusal, rate_refusal, is_bay, is_sector_request, is_format_request, crosses_page, read_refusal, IsRefusedAtOnce, Acks, AcksDrive, Reads, ReadsDrive, IsRead, WritesTo, Reaches, IsWritten, written_from, FormatsTo, Step, refusal_of, read_reply, reply_of, is_refusal, Taken, Run, content_size, EachStep, is_same_bay, exchanges, has_exchanged, IsGuarded, KeepsGuarded, ReadsField, IsWrite, WritesField, WritesAlone, KeepsOtherFields, IsRegularDisk, Format, Laying, Lays}
+use Rattle.laws_program.proofs.Common.{Two, in_bay, with_bay, option_map_or, Files, Code, Chrn, Disk, Request, Counters, IsDriven, Change, Written, Reply, StationState, Bay, bay_of, set_bay, fresh_bay, Becomes, Stays, State, is_acknowledged, is_protected, write_refusal, format_refusal, rate_refusal, is_bay, is_sector_request, is_format_request, crosses_page, read_refusal, IsRefusedAtOnce, Acks, AcksDrive, Reads, ReadsDrive, IsRead, WritesTo, Reaches, IsWritten, written_from, FormatsTo, Step, refusal_of, read_reply, reply_of, is_refusal, Taken, Run, content_size, EachStep, is_same_bay, exchanges, has_exchanged, IsGuarded, KeepsGuarded, ReadsField, IsWrite, WritesField, WritesAlone, KeepsOtherFields, IsRegularDisk, Format}
 use Rattle.flop_base.specs.declared.answers.Code.TheVariants as code
 use Rattle.floppy_jobs.specs.declared.request.Request.TheVariants as request
 use Rattle.sector_model.specs.declared.reply.Reply.TheVariants as reply
 use Rattle.laws_program.specs.StoredAgain.{only_reads}
+use Rattle.laws_program.proofs.Inserting.{IsHeld, reach_held, lays_held}
 use Rattle.laws_program.proofs.Bays.{sorted, same_bay, other_bay, kept_medium}
 
 -- ---- steps
-
-medium_in : ℕ → StationState → Option Disk
-medium_in bay station = (bay_of station bay).medium
 
 pub becomes_medium : (target new : StationState) (bay : ℕ) → Becomes target new → (bay_of new bay).medium ≡ (bay_of target bay).medium
 becomes_medium target new bay becomes = ap (λ (s : StationState). (bay_of s bay).medium) becomes
@@ -27,19 +25,14 @@ either value holds none some = either_is value holds (λ is. none) some
 write_open : (a b c d : Bool)
     → (if not a then Some code.BadRequest else (if b then Some code.Page else (if not c then Some code.Changed else (if d then Some code.Protected else None)))) ≡ None
     → (c ≡ true) × (d ≡ false)
-write_open false b c d e = absurd (cc e)
-write_open true true c d e = absurd (cc e)
-write_open true false false d e = absurd (cc e)
-write_open true false true true e = absurd (cc e)
 write_open true false true false e = (refl, refl)
+write_open _ _ _ _ e = absurd (cc e)
 
 format_open : (a c d : Bool)
     → (if not a then Some code.BadRequest else (if not c then Some code.Changed else (if d then Some code.Protected else None))) ≡ None
     → (c ≡ true) × (d ≡ false)
-format_open false c d e = absurd (cc e)
-format_open true false d e = absurd (cc e)
-format_open true true true e = absurd (cc e)
 format_open true true false e = (refl, refl)
+format_open _ _ _ e = absurd (cc e)
 
 -- a bay where writing is allowed isn't guarded
 unguarded : (station : StationState) (bay : ℕ) → (is_acknowledged station bay ≡ true) × (is_protected station bay ≡ false) → IsGuarded station bay → ⊥
@@ -66,14 +59,12 @@ keeps_media (request.Unit bay) = false
 keeps_media _ = true
 
 -- How such a request alters the bays: it leaves them as they are; it changes one bay, but not its medium; or it writes
--- over or formats the medium of a bay where writing is allowed.
+-- to the medium of a bay where writing is allowed, and a disk stays a disk.
 pub data Alters (asked : Request) (old new : State) : Type 0 where
   Leaves : new.station.bays ≡ old.station.bays → Alters asked old new
   Turns : (at : ℕ) (x : Bay) → new.station.bays ≡ with_bay old.station.bays at x → x.medium ≡ (bay_of old.station at).medium → Alters asked old new
   Overwrites : (at : ℕ) (x : Bay) → new.station.bays ≡ with_bay old.station.bays at x → (IsGuarded old.station at → ⊥) → only_reads asked ≡ false
-      → (written : Written) (changes : List Change) → Reaches written (bay_of old.station at).medium changes x.medium → Alters asked old new
-  Formats : (at : ℕ) (x : Bay) → new.station.bays ≡ with_bay old.station.bays at x → (IsGuarded old.station at → ⊥) → only_reads asked ≡ false
-      → (format : Format) (layings : List Laying) → Lays format (bay_of old.station at).medium layings x.medium → Alters asked old new
+      → ((name : Option (List ℕ)) → IsHeld name (bay_of old.station at).medium → IsHeld name x.medium) → Alters asked old new
 
 module _ (asked : Request) (old new : State) where
   write_alters : (at address : ℕ) (key : Chrn) (deleted : Bool) (called : Result (Unit {0}) Code) → only_reads asked ≡ false
@@ -81,15 +72,17 @@ module _ (asked : Request) (old new : State) where
   write_alters at address key deleted called reads writes =
       either_is (write_refusal old.station at key address) writes
       (λ none does. Overwrites at _ (ap (λ (s : StationState). s.bays) does.becomes) (unguarded old.station at (write_open (is_sector_request at key address)
-      (crosses_page address (content_size key.n)) (is_acknowledged old.station at) (is_protected old.station at) none)) reads _ does.changes does.reach)
+      (crosses_page address (content_size key.n)) (is_acknowledged old.station at) (is_protected old.station at) none)) reads
+      (λ name held. reach_held name _ (bay_of old.station at).medium does.changes (bay_of new.station at).medium held does.reach))
       (λ code refused. Leaves (ap (λ (s : StationState). s.bays) refused.stays))
 
   format_alters : (at c h gap3 fill : ℕ) (called : Result (Unit {0}) Code) → only_reads asked ≡ false
       → FormatsTo at c h gap3 fill old.station called new.station → Alters asked old new
   format_alters at c h gap3 fill called reads formats =
       either_is (format_refusal old.station at c h gap3) formats
-      (λ none does. Formats at _ (ap (λ (s : StationState). s.bays) does.becomes) (unguarded old.station at (format_open (is_format_request old.station at c h gap3)
-      (is_acknowledged old.station at) (is_protected old.station at) none)) reads _ does.layings does.lays)
+      (λ none does. Overwrites at _ (ap (λ (s : StationState). s.bays) does.becomes) (unguarded old.station at (format_open (is_format_request old.station at c h gap3)
+      (is_acknowledged old.station at) (is_protected old.station at) none)) reads
+      (λ name held. lays_held name _ (bay_of old.station at).medium does.layings (bay_of new.station at).medium held does.lays))
       (λ code refused. Leaves (ap (λ (s : StationState). s.bays) refused.stays))
 
   ack_alters : (at : ℕ) (called : Result (Unit {0}) Code) → Acks at old.station called new.station → Alters asked old new
@@ -157,8 +150,7 @@ module _ (old : State) (bay : ℕ) (guarded : IsGuarded old.station bay) where
   altered_keeps asked new (Leaves is) = ap (λ (b : Two Bay). (in_bay b bay).medium) is
   altered_keeps asked new (Turns at x is still) =
       ap (λ (b : Two Bay). (in_bay b bay).medium) is ∙ kept_medium old.station.bays at bay x still
-  altered_keeps asked new (Overwrites at x is free writes written changes reach) = unguarded_keeps new at x is free
-  altered_keeps asked new (Formats at x is free writes format layings lays) = unguarded_keeps new at x is free
+  altered_keeps asked new (Overwrites at x is free writes held) = unguarded_keeps new at x is free
 
   pub step_keeps : (asked : Request) (told : Option Files) (answer : Reply) (new : State) (after : Option Files) → Step asked old told answer new after
       → exchanges bay asked ≡ false → Keeps new

@@ -1,7 +1,7 @@
 -- Scripts whose status says whether some reply was a refusal.
-use Rattle.std.proofs.Common.{◌≡◌, ℕ, zero, suc, ◌+◌, Bool, true, false, List, [], ◌∷◌, Option, Some, refl, sym, subst, inl, inr}
+use Rattle.std.proofs.Common.{ap, ◌≡◌, ℕ, zero, suc, ◌+◌, Bool, true, false, List, [], ◌∷◌, Option, Some, refl, sym, subst, inl, inr}
 use Rattle.std.specs.Prelude.{◌||◌}
-use Rattle.laws_program.proofs.Common.{Files, grown, Rate, R500, R250, Status, Disk, Request, Reply, Stop, State, Step, StopsAt, StopCause, IsImageOf, stop_status, is_refusal, Taken, has_refusal, IsEndStop, World, Prints, Whole, InPart, IsPutFault, whole_status, Shape, Script, Ends, Says, Asks, Stores, MayStarve, Fails, RunsScript, StoresLast, IsStored, NotStored, IsStoreFault, unless_refused, shape_at, by_track, with_report, insert_stops}
+use Rattle.laws_program.proofs.Common.{or-false, or-true, or_assoc, Files, grown, Rate, R500, R250, Status, Disk, Request, Reply, Stop, State, Step, StopsAt, StopCause, IsImageOf, stop_status, is_refusal, Taken, has_refusal, IsEndStop, World, Prints, Whole, InPart, IsPutFault, whole_status, Shape, Script, Ends, Says, Asks, Stores, MayStarve, Fails, RunsScript, StoresLast, IsStored, NotStored, IsStoreFault, unless_refused, shape_at, by_track, with_report, insert_stops}
 use Rattle.flop_base.specs.declared.answers.Status.TheVariants as status
 use Rattle.floppy_jobs.specs.declared.request.Request.TheVariants as request
 use Rattle.sector_model.specs.declared.reply.Reply.TheVariants as reply
@@ -17,17 +17,18 @@ EndsAs Holds status.FileFault = Unit {0}
 EndsAs Holds status.SinkFault = Unit {0}
 EndsAs Holds _ = ⊥
 
-abbrev pub Is : Bool → Bool → Type 0
-Is refused flag = refused ≡ flag
+-- whether the status is 1 says whether some reply was a refusal
+abbrev pub SaysRefused : Bool → Bool → Type 0
+SaysRefused refused flag = refused ≡ flag
 
--- this holds with status 0, and that with status 1
+-- the first holds with status 0, the second with status 1
 abbrev pub ByFlag : Type 0 → Type 0 → Bool → Type 0
 ByFlag Fine Refused false = Fine
 ByFlag Fine Refused true = Refused
 
 -- the status says whether some reply was a refusal, or the outside gave it
 abbrev pub EndsBy : Bool → Status → Type 0
-EndsBy refused ended = EndsAs (Is refused) ended
+EndsBy refused ended = EndsAs (SaysRefused refused) ended
 
 -- a request that doesn't put the disk of a file in
 abbrev pub NeverInserts : Request → Type 0
@@ -86,13 +87,13 @@ module _ (Holds : Bool → Type 0) where
 told_by : (refused : Bool) (line : List (List ℕ)) (wanted : Status) (old new : Option (List (List ℕ))) (ended : Status) → Prints line wanted old new ended
     → wanted ≡ whole_status refused → EndsBy refused ended
 told_by refused line wanted old new ended prints is =
-    prints_as (Is refused) line wanted old new ended prints
-    (λ well. subst (λ (s : Status). EndsBy refused s) (sym is) (whole_as (Is refused) refused refl))
+    prints_as (SaysRefused refused) line wanted old new ended prints
+    (λ well. subst (λ (s : Status). EndsBy refused s) (sym is) (whole_as (SaysRefused refused) refused refl))
 
 stored_by : (refused : Bool) (name bytes line : List ℕ) (wanted : Status) (old new : World) (ended : Status)
     → StoresLast name bytes line wanted old new ended → wanted ≡ whole_status refused → EndsBy refused ended
 stored_by refused name bytes line wanted old new ended (IsStored state files prints) is = told_by refused (line ∷ []) wanted _ _ ended prints is
-stored_by refused name bytes line wanted old new ended (NotStored same fault) is = store_as (Is refused) ended fault
+stored_by refused name bytes line wanted old new ended (NotStored same fault) is = store_as (SaysRefused refused) ended fault
 
 -- only the outside stops a request, unless it is one that puts the disk of a file in
 pub loads_stop : (told : Option Files) (asked : Request) (cause : Stop) → StopCause told asked cause
@@ -102,28 +103,20 @@ loads_stop told asked (stop.TooLong name most) cause loads = loads cause.0.0 nam
 loads_stop told asked (stop.Absent name) cause loads = loads cause.0.0 name cause.0.1
 loads_stop told asked _ cause loads = tt
 
-pub or_none : (a : Bool) → a ≡ (a || false)
-or_none true = refl
-or_none false = refl
-
-or_over : (a b c : Bool) → ((a || b) || c) ≡ (a || (b || c))
-or_over true b c = refl
-or_over false b c = refl
-
 at_end : (refused : Bool) (ended : Status) → EndsBy refused ended → EndsBy (refused || false) ended
-at_end refused ended by = subst (λ (b : Bool). EndsBy b ended) (or_none refused) by
+at_end refused ended by = subst (λ (b : Bool). EndsBy b ended) (sym (or-false refused)) by
 
 pub script_tells : (refused : Bool) (script : Script) (old new : World) (course : List Taken) (ended : Status) → IsFaithful refused script
     → RunsScript script old course new ended → EndsBy (refused || has_refusal course) ended
 script_tells refused (Ends line wanted) old new [] ended is runs = at_end refused ended (told_by refused line wanted _ _ ended runs.report is)
 script_tells refused (Says line rest) old new course ended is (inl runs) =
     script_tells refused rest (record old { report = grown old.report (line ∷ []) }) new course ended is runs
-script_tells refused (Says line rest) old new course ended is (inr cut) = put_as (Is (refused || has_refusal course)) ended cut.1.1
+script_tells refused (Says line rest) old new course ended is (inr cut) = put_as (SaysRefused (refused || has_refusal course)) ended cut.1.1
 script_tells refused (Asks asked rest) old new [] ended is runs =
-    at_end refused ended (prints_as (Is refused) _ _ _ _ ended runs.2 (λ well.
-    stop_as (Is refused) runs.0 (loads_stop old.files asked runs.0 runs.1.cause (λ bay name e. absurd (is.0 bay name e)))))
+    at_end refused ended (prints_as (SaysRefused refused) _ _ _ _ ended runs.2 (λ well.
+    stop_as (SaysRefused refused) runs.0 (loads_stop old.files asked runs.0 runs.1.cause (λ bay name e. absurd (is.0 bay name e)))))
 script_tells refused (Asks asked rest) old new (taken ∷ later) ended is runs =
-    subst (λ (b : Bool). EndsBy b ended) (or_over refused (is_refusal taken.answer) (has_refusal later))
+    subst (λ (b : Bool). EndsBy b ended) (or_assoc refused (is_refusal taken.answer) (has_refusal later))
     (script_tells (refused || is_refusal taken.answer) (rest taken.answer taken.after) (with_report taken.after runs.1 old.report) new later ended
     (is.1 taken.answer taken.after (old.state, old.files, runs.1, runs.2)) runs.3)
 script_tells refused (Stores name bytes line wanted) old new [] ended is runs =
@@ -145,13 +138,12 @@ unfolding needs
 needs_tells asked rest never is = (never, λ answer after came. unrefused asked answer (rest answer after) (is answer after))
 
 pub some_whole : (refused : Bool) → status.SomeRefused ≡ whole_status (refused || true)
-some_whole true = refl
-some_whole false = refl
+some_whole refused = ap whole_status (sym (or-true refused))
 
 unrefused_at : (refused : Bool) (asked : Request) (answer : Reply) (later : Script) → IsFaithful refused later
     → IsFaithful (refused || is_refusal answer) (unless_refused asked answer later)
 unrefused_at refused asked (reply.Refused cause) later is = some_whole refused
-unrefused_at refused asked _ later is = subst (λ (b : Bool). IsFaithful b later) (or_none refused) is
+unrefused_at refused asked _ later is = subst (λ (b : Bool). IsFaithful b later) (sym (or-false refused)) is
 
 pub carries_tells_at : (refused : Bool) (asked : Request) → NeverInserts asked → (rest : Unit {0} → Script) → IsFaithful refused (rest tt)
     → IsFaithful refused (carries asked rest)
@@ -200,8 +192,8 @@ pub opens_tells : (name : List ℕ) (rest : Shape → Script) (files : Files) (d
 unfolding opens needs
 opens_tells name rest files disk old new [] ended told image is runs =
     let stops = subst (λ (f : Option Files). StopsAt (request.Insert 0 name) old.state f runs.0 new.state new.files) told runs.1 in
-    prints_as (Is false) _ _ _ _ ended runs.2
-    (λ well. stop_as (Is false) runs.0 (insert_stops 0 name files disk old.state new.state new.files runs.0 image stops))
+    prints_as (SaysRefused false) _ _ _ _ ended runs.2
+    (λ well. stop_as (SaysRefused false) runs.0 (insert_stops 0 name files disk old.state new.state new.files runs.0 image stops))
 opens_tells name rest files disk old new (taken ∷ later) ended told image is runs =
     let left = rest (shape_at taken.after 0) in
     script_tells (false || is_refusal taken.answer) (unless_refused (request.Insert 0 name) taken.answer left) (with_report taken.after runs.1 old.report)

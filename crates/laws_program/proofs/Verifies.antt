@@ -1,7 +1,7 @@
 -- What a verify prints.
 use Rattle.std.proofs.Common.{◌≡◌, ◌∙◌, ℕ, Bool, true, false, List, [], ◌∷◌, length, Some, refl, ap, sym, subst, inl, inr, arith}
 use Rattle.std.specs.Prelude.{nat_le}
-use Rattle.laws_program.proofs.Common.{leb-false, length-append, Files, Code, Status, Chrn, Disk, Two, in_bay, DriveCounts, Look, Found, standard_keys, Bay, IsImageOf, whole_status, Board, Outside, world, RunsOver, IsUnmistaken, told_of, all_told_of, IsEndStatus, verify_tells, HadNoFault, HadNoStall, ListsFailing}
+use Rattle.laws_program.proofs.Common.{nil_from_length, leb-false, length-append, Files, Code, Status, Chrn, Disk, Two, in_bay, DriveCounts, Look, Found, standard_keys, Bay, IsImageOf, whole_status, Board, Outside, world, RunsOver, IsUnmistaken, told_of, all_told_of, IsEndStatus, verify_tells, HadNoFault, HadNoStall, ListsFailing}
 use Rattle.std.proofs.lemmas.Grind.{flat_map-append}
 use Rattle.flop_base.specs.declared.answers.Status.TheVariants as status
 use Rattle.sector_map.specs.Failing.{AreFailing, unless_found}
@@ -51,10 +51,6 @@ told_each disk (key ∷ keys) failed (look, rest, on, is, others) =
     let size = ap (λ (row : List (Chrn × Look)). length row) is in
     omega (arith, first, more, parted, joined, both, whole, size)
 
-nothing : {X : Type 0} (row : List X) → length row ≡ 0 → row ≡ []
-nothing [] none = refl
-nothing (x ∷ row) none = absurd (omega (arith, none))
-
 pub verifies_all : (name : List ℕ) (spares : List DriveCounts) (old new : Board) (before after : Outside) (files : Files) (disk : Disk)
     (failed : List (Chrn × Look)) → RunsOver (Some (form.Verify name)) old spares before new after status.AllOk
     → before.files ≡ Some files → IsImageOf (Some files) name disk → HadNoFault 0 old new → HadNoStall old new → IsUnmistaken disk
@@ -63,4 +59,4 @@ verifies_all name spares old new before after files disk failed over told image 
     let lists = verifies_well name spares old new before after status.AllOk files disk failed over tt told image calm quick unmistaken failing in
     let none = none_told (length (all_told_of failed)) lists.status in
     let same = told_each disk (standard_keys disk) failed failing in
-    nothing failed (omega (arith, none, same))
+    nil_from_length failed (omega (arith, none, same))
