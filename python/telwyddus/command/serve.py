@@ -55,7 +55,7 @@ def serve(image: Path, write: bool, socket: Path | None, port: int | None, comma
         words += ["python", nbd.__file__, f"image={image.resolve()}", f"failed={failed}", f"write={int(write)}"]
         words += [f"geometry={geometry.numbers}"] if geometry else []
         with running(words) as (server, is_stopped):
-            if wait_until(server, listens) and command is None:
+            if wait_until(server, listens, is_stopped) and command is None:
                 tell(uri, write, as_json)
             status = server.wait()
             wait_for_store(listens)
@@ -124,14 +124,14 @@ def is_running(number: int) -> bool:
         return False
 
 
-def wait_until(server: "subprocess.Popen[bytes]", listens: Path) -> bool:
-    """Waits until nbdkit listens. Says whether it does; it may have ended."""
+def wait_until(server: "subprocess.Popen[bytes]", listens: Path, is_stopped: list[int]) -> bool:
+    """Waits until nbdkit listens. Says whether it does; it may have ended, or been stopped before."""
     begin = time.monotonic()
     while server.poll() is None and not listens.exists():
         if time.monotonic() - begin > MOST_WAIT:
             raise Problem("nbdkit doesn't begin to listen. What it printed may say why.")
         time.sleep(LOOK)
-    if server.poll():
+    if server.poll() and not is_stopped:
         raise Problem("nbdkit ended with an error, which it printed above.")
     return listens.exists()
 
