@@ -3,15 +3,14 @@
 use Rattle.std.proofs.Common.{arith, ◌≡◌, ◌∙◌, ◌≤◌, ℕ, Bool, true, false, true≢false, List, refl, sym, ap, subst, inl, inr, Option, Some, None, Result, Ok, Err, IsOk, le-leb, unwrap_or}
 use Rattle.std.specs.Prelude.{◌&&◌, ◌==◌, not, is_some, IsSomeAnd, MatchBool, if◌then◌else◌}
 use Rattle.laws_commands.proofs.Common.{option_map, Files, file_at, Code, BadRequest, Changed, Rate, R500, R250, Disk, Two, in_bay, IsUndisturbed, Request, Reply, Stop, StationState, Bay, Becomes, IsFresh, bay_of, set_bay, fresh_bay, is_bay, is_acknowledged, rate_refusal, AcksDrive, State, Step, StopsAt, IsImageOf, refusal_of, reply_of, is_loaded, unless_bad, is_blank_request, is_refusal, IsEndStop, blank_request, Shape, shape_of, Script, carries, no_tracks, shape_at}
+use Rattle.commands.specs.Parts.{opens, sets_rate, acknowledges}
+use Rattle.laws_commands.proofs.Prepared.{IsBlank, IsAcked, blanks, acks, in_with}
+use Rattle.laws_commands.proofs.Steps.{keeps_drives}
+use Rattle.laws_commands.proofs.Verified.{one_image, reaches}
+use Rattle.laws_commands.proofs.Going.{Stage, at, calm_in, IsSafe, IsDone, GoesWell, goes_needs, goes_carries}
 use Rattle.floppy_jobs.specs.declared.request.Request.TheVariants as request
 use Rattle.sector_model.specs.declared.reply.Reason.TheVariants as reason
 use Rattle.sector_model.specs.declared.reply.Stop.TheVariants as stop
-use Rattle.commands.specs.Parts.{opens, sets_rate, acknowledges}
-use Rattle.laws_commands.proofs.Prepared.{IsBlank, IsAcked, blanks, acks, in_with}
-use Rattle.laws_commands.proofs.Reading.{reaches}
-use Rattle.laws_commands.proofs.Steps.{keeps_drives}
-use Rattle.laws_commands.proofs.Verified.{one_image}
-use Rattle.laws_commands.proofs.Going.{Stage, at, calm_in, IsSafe, IsDone, GoesWell, goes_needs, goes_carries}
 
 pub both_true : (a b : Bool) → a ≡ true → b ≡ true → (a && b) ≡ true
 both_true a b e f = rw (e, f) refl

@@ -1,22 +1,22 @@
 -- How long whole commands last at most, and how many port accesses they make.
-use Rattle.std.proofs.Common.{arith, ◌≡◌, ◌∙◌, ℕ, ◌+◌, ◌-◌, ◌*◌, ◌≤◌, Bool, true, false, false, get_or, List, [], ◌∷◌, refl, ap, subst, Option, Some, unwrap_or, Result, Ok, Err}
+use Rattle.std.proofs.Common.{arith, ◌≡◌, ◌∙◌, ℕ, ◌+◌, ◌-◌, ◌*◌, ◌≤◌, Bool, true, false, get_or, List, [], ◌∷◌, refl, ap, subst, Option, Some, unwrap_or, Result, Ok, Err}
 use Rattle.laws_commands.proofs.Common.{option_map, Two, in_bay, Files, sectors_at, words_at, Rate, Status, Chrn, Disk, key_of, Request, Reply, turn_of, StationState, Bay, bay_of, fresh_bay, State, Step, IsImageOf, Stop, is_refusal, stop_lines, stop_status, Taken, World, blank_request, Shape, shape_of, Script, RunsScript, carries, shape_at, no_tracks, acknowledges, formats, record_address, track_address, one_more, write_request, IsFlatFile, RequestCosts, ready_cost, format_cost, verify_cost, copy_cost, import_cost, export_cost}
-use Rattle.flop_base.specs.declared.answers.Status.TheVariants as status
-use Rattle.floppy_jobs.specs.declared.request.Request.TheVariants as request
-use Rattle.sector_model.specs.declared.reply.Reply.TheVariants as reply
 use Rattle.commands.specs.Parts.{asks, says, needs, may_starve, opens}
 use Rattle.disk_commands.specs.Format.{formats_disk, format_script}
 use Rattle.disk_commands.specs.Verify.{tells_failure, verifies_record, verifies_track, verify_script, reads_disk}
 use Rattle.disk_commands.specs.Copy.{reads_record, writes_record, copies_track, copies_disk, makes_copy, copy_script}
-use Rattle.disk_commands.specs.Import as flat
-use Rattle.disk_commands.specs.Export as out
 use Rattle.laws_commands.proofs.FlatEnds.{one_flat, one_rate}
 use Rattle.laws_commands.proofs.RequestTimes.{AreCharged, IsOnTracks, IsReady, acknowledges_cost, blank_fair, track_ready}
-use Rattle.laws_commands.proofs.ScriptTimes.{IsSum, Costs, CostsTold, PartCosts, Leads, asks_cost, carries_cost, each_cost, ends_cost, idle_cost, more_cost, needs_cost, says_cost, starve_cost, stores_cost, tracks_cost, unless_run}
 use Rattle.laws_commands.proofs.Turns.{HasTurns, bay_set, step_turns}
 use Rattle.laws_commands.proofs.Steps.{done_does}
 use Rattle.laws_commands.proofs.Verified.{one_image}
 use Rattle.laws_commands.proofs.VerifyRun.{Tally}
+use Rattle.laws_commands.proofs.CommandEnds.{IsSum, Costs, CostsTold, PartCosts, Leads, asks_cost, carries_cost, each_cost, ends_cost, idle_cost, more_cost, needs_cost, says_cost, starve_cost, stores_cost, tracks_cost, unless_run}
+use Rattle.flop_base.specs.declared.answers.Status.TheVariants as status
+use Rattle.floppy_jobs.specs.declared.request.Request.TheVariants as request
+use Rattle.sector_model.specs.declared.reply.Reply.TheVariants as reply
+use Rattle.disk_commands.specs.Import as flat
+use Rattle.disk_commands.specs.Export as out
 
 -- the disk of a told file is in a bay after an insert that wasn't refused
 pub record IsInserted (bay : ℕ) (files : Files) (disk : Disk) (new : State) (after : Option Files) : Type 0 where

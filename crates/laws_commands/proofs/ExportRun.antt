@@ -2,17 +2,15 @@
 use Rattle.std.proofs.Common.{arith, ◌≡◌, ◌∙◌, ◌+◌, ◌-◌, ◌*◌, ◌<◌, ◌≤◌, ℕ, Bool, List, [], ◌∷◌, ◌++◌, length, drop, take, refl, sym, ap, subst, inl, inr, Option, Some, append-nil, append_assoc}
 use Rattle.std.specs.Prelude.{◌⊎◌}
 use Rattle.laws_commands.proofs.Common.{cases_eq, cases_lt, take_all, drop_at, drop-append-le, take-append-le, length-append, length-drop, Files, stored, sectors_at, Disk, track_of, Two, in_bay, Counters, user_bytes, bytes_from, Request, sector_place, key_of, Reply, Bay, bay_of, StationState, State, Step, IsImageOf, Taken, World, may_starve, by_track, rate_requests, record_address, Passes, IsTaken, known, needs_passes, Did, Opened, opens_passes, acknowledges_passes, export_text, export_script, mark_of, SomeStep, Gave, IsFieldOf, IsSure, length-with_items, option_map, Rate, Shape, shape_of, Stores, RunsScript, StoresLast, IsStored, NotStored, last_stored, sectors_of, sector_bytes, IsAsRead, StoresExported}
+use Rattle.sector_map.specs.Flat.{IsSector}
+use Rattle.disk_commands.specs.Export.{reads_record, reads_track}
+use Rattle.laws_commands.proofs.CopiedTrack.{both_fell, some_first, some_second}
+use Rattle.laws_commands.proofs.DiskRecords.{one_record, sure_parts}
+use Rattle.laws_commands.proofs.Steps.{NeverFell, done_does, step_never_fell, at_stands}
+use Rattle.laws_commands.proofs.ScriptAccesses.{some_sectors, one_track, next_track, place_is, Takes, each_takes, fed, counts, readied, did_fell, one_done, tracks_take}
 use Rattle.flop_base.specs.declared.answers.Status.TheVariants as status
 use Rattle.track_model.specs.Sectors as track
 use Rattle.floppy_jobs.specs.declared.request.Request.TheVariants as request
-use Rattle.sector_map.specs.Flat.{IsSector}
-use Rattle.disk_commands.specs.Export.{reads_record, reads_track}
-use Rattle.laws_commands.proofs.CopiedTrack.{both_fell}
-use Rattle.laws_commands.proofs.Marks.{some_first, some_second}
-use Rattle.laws_commands.proofs.DiskRecords.{one_record, sure_parts}
-use Rattle.laws_commands.proofs.Steps.{NeverFell, done_does, step_never_fell}
-use Rattle.laws_commands.proofs.UserMemory.{at_stands}
-use Rattle.laws_commands.proofs.Taking.{some_sectors, one_track, next_track, place_is, Takes, each_takes, fed, counts, readied, did_fell, one_done, tracks_take}
 
 -- ---- one read
 

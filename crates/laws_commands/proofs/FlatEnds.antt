@@ -2,22 +2,21 @@
 use Rattle.std.proofs.Common.{arith, ◌≡◌, ◌∙◌, ◌+◌, ◌<◌, ◌≤◌, ℕ, true, false, List, length, refl, sym, ap, subst, Option, Some, None, Result, Ok, Err, le-leb, [], ◌++◌, inl}
 use Rattle.std.specs.Prelude.{nat_le, slice_index}
 use Rattle.laws_commands.proofs.Common.{Files, file_at, sectors_at, Rate, R500, R250, Status, ImageError, user_bytes, bytes_from, sector_place, sectors_told, key_of, Stop, StationState, bay_of, refusal_of, is_loaded, blank_of, IsImageOf, is_refusal, Taken, IsEndStop, World, AreUndisturbed, blank_request, RunsScript, Runs, record_address, last_run, script_ties, IsFlatFile, IsFlatFound, IsNotTaken, Imports, import_script, BeginsSound, EndsWellOrOutside, Disk, HasTrack, Counters, IsFaultless, export_script, StoresDisk, StoresImported, StoresExported, StoresFlatOf}
-use Rattle.floppy_jobs.specs.declared.request.Request.TheVariants as request
-use Rattle.sector_model.specs.declared.reply.Stop.TheVariants as stop
 use Rattle.disk_commands.specs.Import.{fills_byte, fills_record, fills_track, writes_record, writes_track, imports_track}
 use Rattle.laws_commands.proofs.Prepared.{IsBlank}
-use Rattle.laws_commands.proofs.Reading.{reaches}
 use Rattle.laws_commands.proofs.Bays.{of_one, safe, fresh_empty, blank_done, acknowledges_goes, eject_goes, IsReadyFor, opens_goes}
 use Rattle.laws_commands.proofs.CommandEnds.{fresh_memory}
 use Rattle.laws_commands.proofs.Going.{Stage, at, IsDone, GoesWell, PartGoes, goes_carries, goes_each, goes_tracks, prints_outside, stop_outside, completes, goes_needs}
 use Rattle.laws_commands.proofs.SectorRequests.{IsMaking, AnyDisk, HasRecords, MakesAlone, any_made, blank_made, made_still, format_done, write_done, ReadsAlone, read_done}
 use Rattle.commands.specs.Parts.{may_starve}
 use Rattle.disk_commands.specs.Export.{reads_record, reads_track}
-use Rattle.laws_commands.proofs.Verified.{one_image}
+use Rattle.laws_commands.proofs.Verified.{one_image, reaches}
 use Rattle.laws_commands.proofs.ImportRun.{import_stores}
-use Rattle.laws_commands.proofs.Taking.{some_sectors}
 use Rattle.laws_commands.specs.FlatComplete.{IsWholeDisk}
 use Rattle.laws_commands.proofs.ExportRun.{export_stores}
+use Rattle.laws_commands.proofs.ScriptAccesses.{some_sectors}
+use Rattle.floppy_jobs.specs.declared.request.Request.TheVariants as request
+use Rattle.sector_model.specs.declared.reply.Stop.TheVariants as stop
 
 -- ---- Import.
 

@@ -1,11 +1,11 @@
 -- Scripts that go to their end when nothing disturbs them.
 use Rattle.std.proofs.Common.{arith, ◌≡◌, ◌+◌, ◌<◌, ◌≤◌, ℕ, zero, suc, true, false, true≢false, List, [], ◌∷◌, refl, sym, subst, inl, inr, Option}
 use Rattle.laws_commands.proofs.Common.{leb-true, Files, grown, Status, Counters, IsFaultless, IsUndisturbed, Request, Reply, Stop, is_bay, State, Step, StopsAt, is_refusal, stop_status, Taken, IsEndStop, has_refusal, World, Prints, IsPutFault, entered_by, AreUndisturbed, Script, Ends, Says, Asks, Stores, MayStarve, Fails, RunsScript, IsStored, NotStored, StoresLast, unless_refused, IsStoreFault, Part, by_track, with_report, BeginsSound, EndsWellOrOutside}
+use Rattle.commands.specs.Parts.{asks, needs, carries, through, each}
+use Rattle.laws_commands.proofs.Steps.{keeps_drives, step_never_fell}
 use Rattle.flop_base.specs.declared.answers.Status.TheVariants as status
 use Rattle.sector_model.specs.declared.reply.Reply.TheVariants as reply
 use Rattle.sector_model.specs.Plays as plays
-use Rattle.commands.specs.Parts.{asks, needs, carries, through, each}
-use Rattle.laws_commands.proofs.Steps.{keeps_drives, step_never_fell}
 use Rattle.sector_model.specs.declared.reply.Stop.TheVariants as stop
 use Rattle.floppy_jobs.specs.declared.request.Request.TheVariants as request
 

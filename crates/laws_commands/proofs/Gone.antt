@@ -2,11 +2,6 @@
 -- be read was then written.
 use Rattle.std.proofs.Common.{arith, ◌≡◌, ◌∙◌, Bool, true, false, true≢false, List, [], ◌∷◌, ◌++◌, refl, sym, ap, subst, inl, inr, append-nil, append_assoc, Option, Result, Ok, Err, ◌+◌, ℕ, length, ap₂}
 use Rattle.laws_commands.proofs.Common.{AllByRecursion, Files, Chrn, Code, Status, track_of, user_bytes, bytes_from, content_size, length-with_items, Request, Reply, State, Reads, ReadsDrive, Step, IsDriverCall, read_reply, is_refusal, Taken, World, read_refusal, IsDeviceRefusal, StationState, Script, RunsScript, carries, with_report, IsRefused, IsAnswered, last_run, ask_answered, need_taken, ask_run, carry_run, Known, Passed, at_once, did_nothing, carries_passed, joined_did, IsEndStatus, Gave, mark_of, read_of, write_of, LogLine, gives_up, IsNotStopped, WasRefused, is_write, line_at, log_of}
-use Rattle.flop_base.specs.declared.answers.Code.TheVariants as code
-use Rattle.flop_base.specs.declared.answers.Status.TheVariants as status
-use Rattle.floppy_jobs.specs.declared.request.Request.TheVariants as request
-use Rattle.sector_model.specs.declared.reply.Reason.TheVariants as reason
-use Rattle.sector_model.specs.declared.reply.Reply.TheVariants as reply
 use Rattle.commands.specs.Parts.{may_starve, through}
 use Rattle.commands.proofs.Passed.{Does}
 use Rattle.laws_commands.proofs.CopiedTrack.{both_fell}
@@ -14,6 +9,11 @@ use Rattle.laws_commands.proofs.Steps.{NeverFell, step_never_fell, either, keeps
 use Rattle.laws_commands.proofs.VerifyRun.{end_is_whole}
 use Rattle.laws_commands.proofs.DiskRecords.{length-bytes_at}
 use Rattle.disk_commands.specs.Rescue.{does_next, follows, rescues}
+use Rattle.flop_base.specs.declared.answers.Code.TheVariants as code
+use Rattle.flop_base.specs.declared.answers.Status.TheVariants as status
+use Rattle.floppy_jobs.specs.declared.request.Request.TheVariants as request
+use Rattle.sector_model.specs.declared.reply.Reason.TheVariants as reason
+use Rattle.sector_model.specs.declared.reply.Reply.TheVariants as reply
 
 -- ---- what a read leaves
 

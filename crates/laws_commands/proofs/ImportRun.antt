@@ -3,24 +3,19 @@
 use Rattle.std.proofs.Common.{arith, ◌≡◌, ◌∙◌, ◌+◌, ◌-◌, ◌*◌, ◌<◌, ◌≤◌, ℕ, List, [], ◌∷◌, length, get_or, refl, sym, ap, subst, inl, inr, Option, zero, suc, false, ◌++◌, replicate, append_assoc, Some, Bool, true, Result, Ok, Err}
 use Rattle.std.specs.Prelude.{slice_index, ◌==◌, nat_lt, if◌then◌else◌}
 use Rattle.laws_commands.proofs.Common.{cases_eq, cases_lt, eqb-true, ext_get_or, length-replicate, with_items, Files, stored, Two, in_bay, user_bytes, bytes_from, sector_place, flat_length, sectors_told, StationState, Bay, bay_of, Taken, World, carries, rate_requests, record_address, Passes, Did, known, carries_passes, each_does, acknowledges_passes, Imports, sectors_of, import_text, import_script, length-with_items, with_items_before, flat_map, range_with_len, gap_at, standard_fill, sectors_at, Rate, Disk, HasTrack, track_of, Counters, IsFaultless, IsLaid, IsRegular, laid_tidy, Request, formatted, format_at, IsOnMap, IsRegularDisk, AreAlike, KeepsTracks, key_of, alike_tracks, alike_both, stays_regular, keeps_both, elsewhere_on_map, alike_itself, blank_of, write_records, standard_track, standard_content, copied_entry, HasLaidFields, file_of, TooShort, Trailing, Stop, State, stop_lines, stop_status, blank_request, RunsScript, last_run, prints_status, no_stop_is_ok, IsFlatFound, sector_bytes, HasFlatSector, StoresDisk, StoresImported}
-use Rattle.flop_base.specs.declared.answers.Status.TheVariants as status
-use Rattle.floppy_jobs.specs.declared.request.Request.TheVariants as request
 use Rattle.sector_map.specs.Flat.{IsSector}
 use Rattle.commands.proofs.Passed.{Does}
 use Rattle.disk_commands.specs.Import.{fills_byte, fills_record, fills_track, writes_record, writes_track, imports_track}
 use Rattle.laws_commands.proofs.CopiedTrack.{both_fell}
-use Rattle.laws_commands.proofs.Steps.{NeverFell, step_never_fell}
-use Rattle.laws_commands.proofs.UserMemory.{byte_from, with_at, length-bytes_from}
-use Rattle.laws_commands.proofs.Formatting.{one_format}
-use Rattle.laws_commands.proofs.DiskRecords.{keys_from}
-use Rattle.laws_commands.proofs.LaidDisks.{still_laid}
+use Rattle.laws_commands.proofs.Steps.{NeverFell, step_never_fell, byte_from, with_at, length-bytes_from, still_laid}
+use Rattle.laws_commands.proofs.DiskRecords.{keys_from, one_format}
 use Rattle.laws_commands.proofs.Sectors.{track_regular, track_laid, track_sector, HasContent}
 use Rattle.laws_commands.proofs.TrackParts.{did_all}
-use Rattle.laws_commands.proofs.Written.{AreCopied, HasSome, all_writes, writes_keep}
-use Rattle.laws_commands.proofs.BlankDisk.{blank_regular, blank_fields}
-use Rattle.laws_commands.proofs.Prepared.{blanks}
-use Rattle.laws_commands.proofs.Formatted.{blank_keeps}
-use Rattle.laws_commands.proofs.Taking.{Takes, each_takes, counts, did_fell, one_done, place_is, some_sectors, place_inside, one_track, Since, since_on, readied, tracks_take}
+use Rattle.laws_commands.proofs.Written.{AreCopied, HasSome, all_writes, writes_keep, blank_regular, blank_fields}
+use Rattle.laws_commands.proofs.Prepared.{blanks, blank_keeps}
+use Rattle.laws_commands.proofs.ScriptAccesses.{Takes, each_takes, counts, did_fell, one_done, place_is, some_sectors, place_inside, one_track, Since, since_on, readied, tracks_take}
+use Rattle.flop_base.specs.declared.answers.Status.TheVariants as status
+use Rattle.floppy_jobs.specs.declared.request.Request.TheVariants as request
 
 -- The first n bytes of a part of a flat file are in memory, from the first record's address on. The bays, the names and
 -- the files are as they were.

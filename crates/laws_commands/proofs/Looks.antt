@@ -2,8 +2,8 @@
 use Rattle.std.proofs.Common.{arith, ◌≡◌, ◌+◌, ◌<◌, ◌≤◌, ℕ, Bool, List, [], ◌∷◌, refl, inl, inr}
 use Rattle.flop_base.specs.Counts.{RoseBy, last_count}
 use Rattle.laws_commands.proofs.Common.{Chrn, Code, Look, Found, NoMark, NoSector, NoData, BadCrc, IsAddressAt, LookFor, IsFirstAddress, HasAddressMark, IsPlain, IsSector, IsUndisturbed, faults_of, HasNoClearMark, HasClearAddress, StationState, IsReadCause, told_of}
-use Rattle.flop_base.specs.declared.answers.Code.TheVariants as code
 use Rattle.track_model.proofs.Sectored.{plain_clear}
+use Rattle.flop_base.specs.declared.answers.Code.TheVariants as code
 
 pub rose_by : (n before now : ℕ) → RoseBy n before now → now < last_count → before + n ≤ now
 rose_by n before now rose below = omega (arith, rose, below)

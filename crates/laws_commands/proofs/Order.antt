@@ -2,9 +2,6 @@
 use Rattle.std.proofs.Common.{◌≡◌, ◌∙◌, ℕ, Bool, true, false, List, [], ◌∷◌, ◌++◌, length, append-nil, append_assoc, refl, sym, ap, subst, inl, inr, Option, Some, Result}
 use Rattle.std.specs.Prelude.{is_some}
 use Rattle.laws_commands.proofs.Common.{Files, stored, Chrn, Code, Rate, R500, R250, Status, Disk, blank_disk, file_of, Two, in_bay, Request, Reply, State, Step, IsDriverCall, refusal_of, read_reply, is_refusal, Taken, World, blank_request, Shape, Script, Ends, Fails, RunsScript, StoresLast, IsStored, NotStored, needs, shape_at, IsAnswered, AskRun, Answered, Stopped, NeedRun, Done, Refused, Halted, ask_run, need_run, carry_run, last_run, last_failed, last_stored, Track, format_each, tracks_of, read_of, write_of, outcome_status, log_text, LogLine, follows, prepares, asked_keys, outcome_of, last_text, rescue_rest, Rescues, by_rest, line_at, log_of, store_of, StoresDiskThenLog}
-use Rattle.flop_base.specs.declared.answers.Status.TheVariants as status
-use Rattle.floppy_jobs.specs.declared.request.Request.TheVariants as request
-use Rattle.sector_model.specs.declared.reply.Reply.TheVariants as reply
 use Rattle.commands.specs.Parts.{carries, may_starve, opens, through}
 use Rattle.laws_commands.proofs.Steps.{either, done_does}
 use Rattle.disk_commands.specs.Rescue.{rescues, rescues_all, stores_log, rescue_found}
@@ -12,6 +9,9 @@ use Rattle.laws_commands.proofs.Storing.{nothing_first, all_first}
 use Rattle.laws_commands.proofs.Gone.{behind_step, line_of_refused, line_of_done, read_done, carries_all, FollowRun, Writes, Logs, GivesUp, Starves, follow_run}
 use Rattle.laws_commands.proofs.RescueOpening.{ready_requests, formats_for, second_request, prepares_carried, second_put}
 use Rattle.laws_commands.proofs.RescueRecords.{write_does}
+use Rattle.flop_base.specs.declared.answers.Status.TheVariants as status
+use Rattle.floppy_jobs.specs.declared.request.Request.TheVariants as request
+use Rattle.sector_model.specs.declared.reply.Reply.TheVariants as reply
 
 -- Nothing was stored, or the other diskette alone was, or the other diskette and then the new log.
 data StoresInOrder (to log : List ℕ) (lines : List LogLine) (told after : Option Files) : Type 0 where

@@ -2,11 +2,11 @@
 use Rattle.std.proofs.Common.{arith, ◌≡◌, ◌∙◌, ℕ, ◌+◌, ◌*◌, ◌≤◌, ◌==◌, Bool, true, false, if◌then◌else◌, List, refl, ap, Option, Result, Ok, Err}
 use Rattle.std.specs.Prelude.{MatchOption}
 use Rattle.laws_commands.proofs.Common.{mul-le-mul, Two, in_bay, Files, sectors_at, words_at, Code, Rate, R500, R250, Chrn, Disk, Request, Reply, format_once_port_accesses, format_steps, format_turns, turn_of, IsRefusedAtOnce, read_refusal, write_refusal, rate_refusal, ReadsDrive, StationState, Bay, Becomes, bay_of, set_bay, course_port_accesses, course_time, port_accesses_of, time_of, State, Step, Does, refusal_of, blank_request, RequestCosts, times_at, port_accesses_at, ready_cost}
-use Rattle.floppy_jobs.specs.declared.request.Request.TheVariants as request
 use Rattle.commands.specs.Parts.{acknowledges, sets_rate}
-use Rattle.laws_commands.proofs.ScriptTimes.{IsSum, PartCosts, Leads, carries_cost, more_cost}
 use Rattle.laws_commands.proofs.Steps.{either, ok_called, reached}
 use Rattle.laws_commands.proofs.Turns.{HasTurns, IsFair, bay_set, step_turns, turn_in}
+use Rattle.laws_commands.proofs.CommandEnds.{IsSum, PartCosts, Leads, carries_cost, more_cost}
+use Rattle.floppy_jobs.specs.declared.request.Request.TheVariants as request
 
 -- ---- A bay at a rate.
 

@@ -2,22 +2,18 @@
 use Rattle.std.proofs.Common.{true≢false, ◌↔◌, arith, ◌≡◌, ◌∙◌, ◌≤◌, ℕ, List, ◌∷◌, ◌++◌, refl, ap, Option, Some, Bool, true, false, [], subst, sym, inl, inr, length, ◌<◌}
 use Rattle.laws_commands.proofs.Common.{list_all, Files, Rate, R500, R250, gap_at, words_at, Disk, IsDisk, HasTrack, track_of, Two, in_bay, faults_of, IsFaultless, IsUndisturbed, user_bytes, IsLaid, Request, AreAlike, alike_itself, alike_both, alike_tracks, IsRegularDisk, StationState, Bay, bay_of, format_refusal, State, Taken, Reply, Step, IsImageOf, blank_of, is_refusal, blank_request, Shape, shape_of, rate_requests, by_track, formats, Script, DoesAll, Track, tracks_of, format_each, HasLaidFields, is_write, HasShapeOf}
 use Rattle.std.specs.Prelude.{if◌then◌else◌}
-use Rattle.floppy_jobs.specs.declared.request.Request.TheVariants as request
 use Rattle.commands.specs.Parts.{carries, sets_rate, acknowledges, through}
 use Rattle.laws_commands.proofs.CopiedTrack.{IsReady, formats_it, small}
-use Rattle.laws_commands.proofs.Prepared.{acks, blanks, readies, sets}
-use Rattle.laws_commands.proofs.Steps.{and_both, keeps_drives, splits, NeverFell, begins, step_never_fell, ok_called, reached, done_does, ends_there, never_fell, keeps_drives}
-use Rattle.laws_commands.proofs.Formatted.{blank_keeps}
-use Rattle.laws_commands.proofs.Verified.{one_image, image_ranges}
+use Rattle.laws_commands.proofs.Prepared.{acks, blanks, readies, sets, blank_keeps}
+use Rattle.laws_commands.proofs.Steps.{and_both, keeps_drives, splits, NeverFell, begins, step_never_fell, ok_called, reached, done_does, ends_there, never_fell, Among, among_only, still_laid}
+use Rattle.laws_commands.proofs.Verified.{one_image, image_ranges, Holds}
 use Rattle.laws_commands.proofs.Sectors.{track_laid}
 use Rattle.laws_commands.proofs.TrackParts.{tracks_part}
-use Rattle.laws_commands.proofs.Tracks.{Among, among_only}
-use Rattle.laws_commands.proofs.BlankDisk.{blank_regular, blank_fields}
-use Rattle.laws_commands.proofs.Reading.{Holds}
 use Rattle.disk_commands.specs.Rescue.{acknowledges_both, prepares_old, prepares_new, prepares}
 use Rattle.laws_commands.proofs.Gone.{carries_all}
-use Rattle.laws_commands.proofs.LaidDisks.{still_laid}
 use Rattle.laws_commands.proofs.RescueRecords.{shape_itself, shape_both, alike_shape}
+use Rattle.laws_commands.proofs.Written.{blank_regular, blank_fields}
+use Rattle.floppy_jobs.specs.declared.request.Request.TheVariants as request
 
 -- ---- the requests of the opening
 

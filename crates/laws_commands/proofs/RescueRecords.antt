@@ -3,17 +3,15 @@
 use Rattle.std.proofs.Common.{arith, ◌≡◌, ℕ, suc, ◌<◌, ◌≤◌, All, List, [], ◌∷◌, length, get_or, subst, inl, inr, Option, Some, None, ◌≢◌, ◌↔◌, ◌∙◌, ◌+◌, Bool, true, false, ◌++◌, sym, ap, Result, IsOk, refl, Ok, Err}
 use Rattle.std.specs.Prelude.{◌⊎◌, Contains}
 use Rattle.laws_commands.proofs.Common.{AllByRecursion, AllPairs, All-map, All-weaker, recursion_from_All, Contains-append_right, Files, sectors_at, Chrn, Code, Disk, IsDisk, HasTrack, track_of, user_bytes, bytes_from, IsFaultless, Two, in_bay, IsAddressAt, content_size, IsLaid, HasFieldFor, IsTidy, written_laid, Request, Change, Written, IsChange, Entry, IsOnMap, IsRegularDisk, AreAlike, change_keeps_tracks, key_cylinder, Reply, write_refusal, StationState, bay_of, Bay, State, Step, IsDriverCall, reply_of, is_refusal, ChangesDisk, WritesTo, WritesDrive, written_from, Taken, World, shape_of, with_report, IsStandardKey, SomeStep, Gave, logged_keys, write_of, read_of, IsBefore, IsLogLine, IsLog, LogLine, IsLogFound, asked_keys, IsLogged, IsSaved, WasNotRead, entry_at, count_writes, line_at, log_of, IsTidyWrite, IsTidyFor, AreTidy, BringsUpNoMark, HasShapeOf, HasLaidFields}
-use Rattle.floppy_jobs.specs.declared.request.Request.TheVariants as request
 use Rattle.sector_map.specs.Standard.{standard_keys as disk_keys}
 use Rattle.laws_commands.proofs.Verified.{standard_all}
-use Rattle.laws_commands.proofs.Steps.{ok_called, reached}
-use Rattle.laws_commands.proofs.UserMemory.{length-bytes_from}
+use Rattle.laws_commands.proofs.Steps.{ok_called, reached, length-bytes_from, still_laid}
 use Rattle.laws_commands.proofs.Written.{AllTidy}
 use Rattle.laws_commands.proofs.WrittenHere.{WritesHere, writes_here, reaches_in}
 use Rattle.rescue.specs.Course.{standard_keys}
 use Rattle.rescue.proofs.OrderLemmas.{standard_rises, logged_rises}
-use Rattle.laws_commands.proofs.LaidDisks.{still_laid}
 use Rattle.laws_commands.proofs.Gone.{GoesKeys, Over, Lost, Kept, keys_fell, write_fell, log_of_lost, log_of_kept, write_no_read, write_writes, read_keeps, call_fell, gave, gave_reads}
+use Rattle.floppy_jobs.specs.declared.request.Request.TheVariants as request
 
 -- ---- each record comes once
 

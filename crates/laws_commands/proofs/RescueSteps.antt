@@ -2,20 +2,19 @@
 use Rattle.std.proofs.Common.{arith, ◌≡◌, ◌∙◌, ◌-◌, ◌<◌, ◌≤◌, ℕ, Bool, true, false, true≢false, List, [], ◌∷◌, ◌++◌, refl, sym, ap, subst, inl, inr, Option, Some, None}
 use Rattle.std.specs.Prelude.{◌⊎◌, IsSomeAnd}
 use Rattle.laws_commands.proofs.Common.{AllByRecursion, cases_eq, le-ltb, Files, file_at, sectors_at, standard_code, Chrn, Disk, HasTrack, track_of, Two, in_bay, IsAddressAt, content_at, LookAt, Found, Request, IsRegularDisk, KeepsTracks, key_of, alike_tracks, Reply, Bay, is_refusal, Taken, has_refusal, Script, carries, read_of, write_of, outcome_status, LogLine, IsLogFound, outcome_of, Track, format_each, IsNotStopped}
-use Rattle.flop_base.specs.declared.answers.Status.TheVariants as status
-use Rattle.floppy_jobs.specs.declared.request.Request.TheVariants as request
-use Rattle.sector_model.specs.declared.reply.Reply.TheVariants as reply
 use Rattle.commands.specs.Parts.{may_starve, through}
 use Rattle.disk_commands.specs.Rescue.{follows, does_next, rescues, stores_log}
-use Rattle.laws_commands.proofs.Tracks.{Among}
-use Rattle.laws_commands.proofs.Steps.{or_false}
-use Rattle.laws_commands.proofs.Reading.{key_is}
+use Rattle.laws_commands.proofs.Steps.{or_false, Among}
 use Rattle.laws_commands.proofs.Written.{HasSome}
 use Rattle.laws_commands.proofs.Gone.{carries_all}
 use Rattle.laws_commands.proofs.Bays.{IsReadyFor, ready_still, eject_goes}
 use Rattle.laws_commands.proofs.Going.{Stage, IsDone, GoesWell, PartGoes, goes_asks, goes_carries}
 use Rattle.laws_commands.proofs.SectorRequests.{HasRecords, MakesAlone, ReadsAlone, HasData, WritesInto, stands_read, format_leads, some_still, write_to, stands_written}
 use Rattle.laws_commands.proofs.CommandEnds.{IsCopying}
+use Rattle.laws_commands.proofs.Verified.{key_is}
+use Rattle.flop_base.specs.declared.answers.Status.TheVariants as status
+use Rattle.floppy_jobs.specs.declared.request.Request.TheVariants as request
+use Rattle.sector_model.specs.declared.reply.Reply.TheVariants as reply
 
 -- ---- The formats of a new disk.
 

@@ -2,20 +2,20 @@
 use Rattle.std.proofs.Common.{arith, ◌≡◌, ℕ, ◌+◌, ◌*◌, ◌≤◌, Bool, true, false, List, [], ◌∷◌, length, refl, ap, inl, inr, subst, sym, Option, Some, None, Result, Ok}
 use Rattle.laws_commands.proofs.Common.{length-map, Two, Files, file_at, sectors_at, words_at, Code, NotFound, Overrun, Seek, Status, Chrn, Disk, Request, Reply, Reason, StationState, Step, IsImageOf, Taken, World, shape_of, Script, Asks, MayStarve, formats, read_of, write_of, after_refusal, logged_keys, standard_keys, LogLine, after_answer, Rescues, AreFound, IsLogFound, by_absent, by_rest, RequestCosts, ready_cost, further_rescue_cost, rescue_cost}
 use Rattle.flop_base.specs.declared.answers.Code.TheVariants.{NoMark, BadCrc}
+use Rattle.commands.specs.Parts.{asks, carries, may_starve, needs}
+use Rattle.rescue.specs.declared.course.AfterRead.{AfterRead}
+use Rattle.disk_commands.specs.Rescue.{acknowledges_both, does_next, follows, rescues, prepares, prepares_new, prepares_old, rescues_all, stores_log, rescue_found}
+use Rattle.laws_commands.proofs.CommandTimes.{formatted, inserted, made_blank, made_ready, made_turned, on_tracks, opened_cost, opened_told, taken_out}
+use Rattle.laws_commands.proofs.RequestTimes.{AreCharged, IsOnTracks, IsReady, track_ready}
+use Rattle.laws_commands.proofs.Turns.{HasTurns, step_turns}
+use Rattle.laws_commands.proofs.CommandEnds.{IsSum, Costs, CostsTold, PartCosts, asks_cost, carries_cost, ends_cost, fails_cost, idle_cost, more_cost, starve_cost, stores_cost, through_cost, tracks_cost, unless_run}
+use Rattle.laws_commands.proofs.RescueTargets.{one_log, small_sectors}
+use Rattle.laws_commands.proofs.CopyRun.{count_standard}
 use Rattle.flop_base.specs.declared.answers.Status.TheVariants as status
 use Rattle.floppy_jobs.specs.declared.request.Request.TheVariants as request
 use Rattle.sector_model.specs.declared.reply.Reply.TheVariants as reply
 use Rattle.sector_model.specs.declared.reply.Reason.TheVariants as reason
-use Rattle.commands.specs.Parts.{asks, carries, may_starve, needs}
-use Rattle.rescue.specs.declared.course.AfterRead.{AfterRead}
 use Rattle.rescue.specs.declared.course.AfterRead.TheVariants as next
-use Rattle.disk_commands.specs.Rescue.{acknowledges_both, does_next, follows, rescues, prepares, prepares_new, prepares_old, rescues_all, stores_log, rescue_found}
-use Rattle.laws_commands.proofs.CommandTimes.{formatted, inserted, made_blank, made_ready, made_turned, on_tracks, opened_cost, opened_told, taken_out}
-use Rattle.laws_commands.proofs.RequestTimes.{AreCharged, IsOnTracks, IsReady, track_ready}
-use Rattle.laws_commands.proofs.RescueFurther.{one_log, small_sectors}
-use Rattle.laws_commands.proofs.RescueLog.{count_standard}
-use Rattle.laws_commands.proofs.ScriptTimes.{IsSum, Costs, CostsTold, PartCosts, asks_cost, carries_cost, ends_cost, fails_cost, idle_cost, more_cost, starve_cost, stores_cost, through_cost, tracks_cost, unless_run}
-use Rattle.laws_commands.proofs.Turns.{HasTurns, step_turns}
 
 -- what comes after a read asks for nothing but a write of the record
 abbrev WritesAlone : Chrn → Result AfterRead Reason → Type 0

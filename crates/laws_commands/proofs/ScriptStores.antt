@@ -2,18 +2,18 @@
 use Rattle.std.proofs.Common.{◌≡◌, ◌∙◌, ◌+◌, ◌-◌, ℕ, zero, suc, Bool, true, false, List, [], ◌∷◌, ◌++◌, get_or, Option, Some, Result, Ok, Err, refl, sym, ap, subst, inl, inr}
 use Rattle.std.specs.Prelude.{◌==◌, if◌then◌else◌, slice_index}
 use Rattle.laws_commands.proofs.Common.{Two, in_bay, with_bay, grown, Files, Store, stored, sectors_at, Rate, R500, R250, Status, Chrn, Disk, blank_disk, file_of, key_of, Request, Reply, Stop, State, Step, refusal_of, is_refusal, stop_lines, stop_status, Taken, World, blank_request, Shape, Script, Ends, Stores, RunsScript, StoresLast, IsStored, NotStored, Part, asks, needs, shape_at, by_track, formats, with_report, record_address, AskRun, Answered, Stopped, NeedRun, Done, Refused, Halted, ask_run, need_run, last_run, last_stored, write_request, Imports, store_of, all_stored, StoresFirst, StoresDiskAlone, StoresFileAlone}
-use Rattle.floppy_jobs.specs.declared.request.Request.TheVariants as request
-use Rattle.sector_model.specs.declared.reply.Reply.TheVariants as reply
 use Rattle.commands.specs.Parts.{says, carries, may_starve, opens, sets_rate, acknowledges, through, each}
 use Rattle.disk_commands.specs.Format.{formats_disk, format_script}
 use Rattle.disk_commands.specs.Verify.{tells_failure, verifies_record, verifies_track, verify_script, reads_disk}
 use Rattle.disk_commands.specs.Copy.{reads_record, writes_record, copies_track, copy_script, makes_copy, copies_disk}
-use Rattle.disk_commands.specs.Import as imports
-use Rattle.disk_commands.specs.Export as exports
-use Rattle.disk_commands.specs.Exercise as work
 use Rattle.laws_commands.proofs.Steps.{either, done_does}
 use Rattle.laws_commands.proofs.Storing.{nothing_first, all_first, step_stores}
 use Rattle.laws_commands.proofs.VerifyRun.{Tally}
+use Rattle.floppy_jobs.specs.declared.request.Request.TheVariants as request
+use Rattle.sector_model.specs.declared.reply.Reply.TheVariants as reply
+use Rattle.disk_commands.specs.Import as imports
+use Rattle.disk_commands.specs.Export as exports
+use Rattle.disk_commands.specs.Exercise as work
 
 abbrev Names : Type 0
 Names = Two (Option (List ℕ))

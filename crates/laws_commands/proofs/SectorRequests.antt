@@ -3,18 +3,16 @@
 use Rattle.std.proofs.Common.{arith, ◌≡◌, ◌↔◌, ◌∙◌, ◌+◌, ◌-◌, ◌≤◌, ℕ, nat_le, Bool, true, false, List, refl, sym, ap, subst, Some, None, Result, Ok, Err, le-leb, suc, [], ◌∷◌, ◌≢◌, ◌<◌, inl, inr, Option, IsOk, lit≤}
 use Rattle.std.specs.Prelude.{◌/◌, ◌==◌, not, if◌then◌else◌, All, is_some, IfErr}
 use Rattle.laws_commands.proofs.Common.{sectors_at, standard_code, words_at, gap_at, standard_fill, Chrn, Code, BadRequest, Page, Changed, Protected, Disk, HasTrack, track_of, IsDisk, Two, in_bay, Counters, IsUndisturbed, DisturbedLess, FaultsRoseLess, IsAddressAt, content_size, LookAt, Entry, IsOnMap, IsRegularDisk, LookOn, HasClearAddress, AllFound, key_of, met_track, clear_address, key_cylinder, one_address, StationState, Bay, bay_of, met, Becomes, set_bay, is_sector_request, crosses_page, is_acknowledged, read_refusal, is_bay, is_protected, write_refusal, most_format_gap, format_refusal, ReadsDrive, IsReadCause, spoilable, read_reply, Step, IsDriverCall, reply_of, blank_of, is_refusal, record_address, Rate, Found, AreFailing, IsFormattedDisk, formatted_entry, standard_content, standard_track, IsStandardKey, IsUnmistaken, cases_eq, Files, IsRegular, Request, Written, with_track_keeps, alike_both, alike_itself, stays_regular, Reply, WritesDrive, WritesTo, IsWriteCause, ChangesAlone, written_from, State, copied_entry, option_map_or, R500, R250, format_keys, IsFormattable, formatted, format_at, AreAlike, KeepsTracks, format_fits, Fits, laid_words, FormatsDrive, IsReadable}
-use Rattle.track_model.specs.declared.Look.TheVariants as look
-use Rattle.floppy_jobs.specs.declared.request.Request.TheVariants as request
 use Rattle.sector_map.specs.Standard.{standard_keys}
-use Rattle.laws_commands.proofs.Reading.{key_is, reaches}
-use Rattle.laws_commands.proofs.Verified.{standard_all}
+use Rattle.laws_commands.proofs.Verified.{standard_all, key_is, reaches}
 use Rattle.laws_commands.proofs.Sectors.{formatted_regular, formatted_sector, few_sectors, track_regular, track_sector, HasContent}
-use Rattle.laws_commands.proofs.BlankDisk.{blank_regular}
 use Rattle.laws_commands.proofs.Prepared.{in_with}
-use Rattle.laws_commands.proofs.Written.{HasSome}
-use Rattle.laws_commands.proofs.Formatting.{drive_formats}
+use Rattle.laws_commands.proofs.Written.{HasSome, blank_regular}
 use Rattle.laws_commands.proofs.Going.{Stage, IsDone, IsSafe, calm_in}
 use Rattle.laws_commands.proofs.Bays.{IsReadyFor, both_true, ready_still, safe, AreApart, ok_taken, other_stays}
+use Rattle.laws_commands.proofs.DiskRecords.{drive_formats}
+use Rattle.track_model.specs.declared.Look.TheVariants as look
+use Rattle.floppy_jobs.specs.declared.request.Request.TheVariants as request
 
 -- ---- a record in memory
 

@@ -1,8 +1,33 @@
--- What the requests of a run did, each on its own.
-use Rattle.std.proofs.Common.{arith, ◌≡◌, ◌∙◌, take, length, ◌≤◌, ◌&&◌, Bool, true, false, true≢false, List, [], ◌∷◌, ◌++◌, refl, sym, ap, subst, Option, Some, None, Result, Ok, Err, IsOk}
-use Rattle.std.specs.Prelude.{◌||◌, MatchOption}
-use Rattle.laws_commands.proofs.Common.{list_all, Files, Code, Counters, GoesOn, Request, Reply, StationState, IsRefusedAtOnce, State, Step, Does, refusal_of, reply_of, is_refusal, Taken, Run, requests_of, has_refusal, DoesAll}
+-- Address fields on Laid tracks. Formatted disks have them, and so do disks of which one track was replaced by a Laid
+-- one.
+use Rattle.std.proofs.Common.{arith, ◌≡◌, ℕ, sym, subst, inl, inr, ◌∙◌, take, length, ◌≤◌, ◌&&◌, Bool, true, false, true≢false, List, [], ◌∷◌, ◌++◌, refl, ap, Option, Some, None, Result, Ok, Err, IsOk, zero, suc, ◌+◌, ◌<◌, map, drop, get_or}
+use Rattle.laws_commands.proofs.Common.{cases_eq, Chrn, Rate, Disk, HasTrack, track_of, IsAddressAt, IsLaid, KeepsTracks, alike_tracks, IsFormattedDisk, HasLaidFields, list_all, Files, Code, Counters, GoesOn, Request, Reply, StationState, IsRefusedAtOnce, State, Step, Does, refusal_of, reply_of, is_refusal, Taken, Run, requests_of, has_refusal, DoesAll, flat_map, range_with_len, Track, heads_of, ext_get_or, get_or-take, get_or-drop, length-take, length-drop, with_items, bytes_from, length-with_items, with_items_before, with_items_at}
+use Rattle.laws_commands.proofs.Sectors.{track_laid}
+use Rattle.std.specs.Prelude.{◌||◌, MatchOption, ◌⊎◌}
+use Rattle.laws_commands.specs.Requests.{tracks_of}
 use Rattle.floppy_jobs.specs.declared.request.Request.TheVariants as request
+
+-- if one track was replaced by a Laid one, each address field is still on a Laid track
+module _ (disk next : Disk) (c h : ℕ) (keeps : KeepsTracks disk c h next) where
+  elsewhere_laid : HasLaidFields disk → (b g p : ℕ) (key : Chrn) → HasTrack disk b g → (b ≡ c → g ≡ h → ⊥) → IsAddressAt (track_of next b g) p key
+      → IsLaid (track_of next b g)
+  elsewhere_laid laid b g p key had other address = grind arith
+
+  pub still_laid : HasLaidFields disk → IsLaid (track_of next c h) → HasLaidFields next
+  still_laid laid here b g p key has address =
+      let had = (alike_tracks disk next b g keeps.alike).1 has in
+      elim (cases_eq b c) [
+        | inl same_c ↦ elim (cases_eq g h) [
+          | inl same_h ↦ subst (λ k. IsLaid (track_of next k g)) (sym same_c) (subst (λ k. IsLaid (track_of next c k)) (sym same_h) here)
+          | inr other ↦ elsewhere_laid laid b g p key had (λ _ e. other e) address
+        ]
+        | inr other ↦ elsewhere_laid laid b g p key had (λ e _. other e) address
+      ]
+
+pub formatted_laid : (rate : Rate) (count : ℕ) (disk : Disk) → IsFormattedDisk rate count disk → HasLaidFields disk
+formatted_laid rate count disk is c h p key has address = grind (arith, track_laid)
+
+-- ---- what the requests of a run did, each on its own
 
 -- a fact that follows in both of two cases holds
 pub either : {A : Type 0} {P R : Type 0} {Q : A → Type 0} (value : Option A) → MatchOption value P Q → (P → R) → ((x : A) → Q x → R) → R
@@ -196,3 +221,99 @@ splits old new told after first second course all =
       before = record { run = parts.run_one; all = parts.all_one; done = done.0 };
       behind = record { run = parts.run_two; all = parts.all_two; done = done.1 };
     }
+
+-- ---- which tracks a list has
+
+-- the list has this track
+abbrev pub Among : List Track → ℕ → ℕ → Type 0
+Among [] c h = ⊥
+Among (track ∷ later) c h = ((track.0 ≡ c) × (track.1 ≡ h)) ⊎ Among later c h
+
+among_first : (one two : List Track) (c h : ℕ) → Among one c h → Among (one ++ two) c h
+among_first [] two c h among = absurd among
+among_first (track ∷ one) two c h (inl here) = inl here
+among_first (track ∷ one) two c h (inr later) = inr (among_first one two c h later)
+
+among_second : (one two : List Track) (c h : ℕ) → Among two c h → Among (one ++ two) c h
+among_second [] two c h among = among
+among_second (track ∷ one) two c h among = inr (among_second one two c h among)
+
+among_heads : (c a n h : ℕ) → a ≤ h → h < a + n → Among (map (λ g. (c, g)) (range_with_len a n)) c h
+among_heads c a zero h least most = absurd (omega arith)
+among_heads c a (suc n) h least most = elim (cases_eq a h) [
+  | inl here ↦ inl (refl, here)
+  | inr other ↦ inr (among_heads c (a + 1) n h (omega arith) (omega arith))
+]
+
+among_cylinders : (heads a n c h : ℕ) → a ≤ c → c < a + n → h < heads → Among (flat_map (heads_of heads) (range_with_len a n)) c h
+among_cylinders heads a zero c h least most head = absurd (omega arith)
+among_cylinders heads a (suc n) c h least most head = elim (cases_eq a c) [
+  | inl here ↦ among_first (heads_of heads a) _ c h (subst (λ k. Among (heads_of heads a) k h) here (among_heads a 0 heads h (omega arith) (omega arith)))
+  | inr other ↦ among_second (heads_of heads a) _ c h (among_cylinders heads (a + 1) n c h (omega arith) (omega arith) head)
+]
+
+-- each track of a disk is among the disk's list of tracks
+pub among_all : (cylinders heads c h : ℕ) → c < cylinders → h < heads → Among (tracks_of cylinders heads) c h
+unfolding tracks_of
+among_all cylinders heads c h cylinder head = among_cylinders heads 0 cylinders c h (omega arith) (omega arith) head
+
+among_apart : (one two : List Track) (c h : ℕ) → Among (one ++ two) c h → Among one c h ⊎ Among two c h
+among_apart [] two c h among = inr among
+among_apart (track ∷ one) two c h (inl here) = inl (inl here)
+among_apart (track ∷ one) two c h (inr later) = elim (among_apart one two c h later) [ inl first ↦ inl (inr first) | inr second ↦ inr second ]
+
+only_heads : (b a n c h : ℕ) → Among (map (λ g. (b, g)) (range_with_len a n)) c h → (b ≡ c) × (h < a + n)
+only_heads b a zero c h among = absurd among
+only_heads b a (suc n) c h (inl here) = (here.0, omega (arith, here.1))
+only_heads b a (suc n) c h (inr later) = let rest = only_heads b (a + 1) n c h later in (rest.0, omega (arith, rest.1))
+
+only_cylinders : (heads a n c h : ℕ) → Among (flat_map (heads_of heads) (range_with_len a n)) c h → (c < a + n) × (h < heads)
+only_cylinders heads a zero c h among = absurd among
+only_cylinders heads a (suc n) c h among = elim (among_apart (heads_of heads a) _ c h among) [
+  | inl here ↦ let at = only_heads a 0 heads c h here in (omega (arith, at.0), omega (arith, at.1))
+  | inr later ↦ let rest = only_cylinders heads (a + 1) n c h later in (omega (arith, rest.0), rest.1)
+]
+
+-- the list has no other tracks
+pub among_only : (cylinders heads c h : ℕ) → Among (tracks_of cylinders heads) c h → (c < cylinders) × (h < heads)
+unfolding tracks_of
+among_only cylinders heads c h among = let at = only_cylinders heads 0 cylinders c h among in (omega (arith, at.0), at.1)
+
+-- ---- ranges of user memory, and what a read puts at one
+
+pub with_at : (memory : List ℕ) (address : ℕ) (bytes : List ℕ) → address + length bytes ≤ length memory → (k : ℕ) → k < length bytes
+    → get_or (with_items memory address bytes) (address + k) 0 ≡ get_or bytes k 0
+with_at memory address bytes fits k at = with_items_at memory address bytes fits (address + k) k refl at
+
+-- the bytes of a range, one by one
+pub byte_from : (memory : List ℕ) (place count k : ℕ) → k < count → get_or (bytes_from memory place count) k 0 ≡ get_or memory (place + k) 0
+byte_from memory place count k below = get_or-take count (drop place memory) k 0 below ∙ get_or-drop place memory k 0
+
+pub length-bytes_from : (memory : List ℕ) (place count : ℕ) → place + count ≤ length memory → length (bytes_from memory place count) ≡ count
+length-bytes_from memory place count inside = omega (arith, length-take count (drop place memory), length-drop place memory)
+
+-- the bytes before a range stay when the range is set
+pub below_stays : (memory : List ℕ) (address : ℕ) (bytes : List ℕ) (place count : ℕ) → address + length bytes ≤ length memory
+    → place + count ≤ address → bytes_from (with_items memory address bytes) place count ≡ bytes_from memory place count
+below_stays memory address bytes place count fits below =
+    let long = length-with_items memory address bytes fits in
+    let one : length (bytes_from (with_items memory address bytes) place count) ≡ count = length-bytes_from (with_items memory address bytes) place count (omega arith) in
+    let two : length (bytes_from memory place count) ≡ count = length-bytes_from memory place count (omega arith) in
+    ext_get_or 0 (bytes_from (with_items memory address bytes) place count) (bytes_from memory place count) (one ∙ sym two)
+    (λ k within.
+    let inside : k < count = omega arith in
+    byte_from (with_items memory address bytes) place count k inside
+    ∙ with_items_before memory address bytes fits (place + k) (omega arith)
+    ∙ sym (byte_from memory place count k inside))
+
+-- the bytes that are put at a range are there
+pub at_stands : (memory : List ℕ) (address : ℕ) (bytes : List ℕ) (count : ℕ) → length bytes ≡ count → address + length bytes ≤ length memory
+    → bytes_from (with_items memory address bytes) address count ≡ bytes
+at_stands memory address bytes count sized fits =
+    let long = length-with_items memory address bytes fits in
+    let one : length (bytes_from (with_items memory address bytes) address count) ≡ count = length-bytes_from (with_items memory address bytes) address count (omega arith) in
+    ext_get_or 0 (bytes_from (with_items memory address bytes) address count) bytes (one ∙ sym sized)
+    (λ k within.
+    let inside : k < count = omega arith in
+    let at : k < length bytes = omega arith in
+    byte_from (with_items memory address bytes) address count k inside ∙ with_at memory address bytes fits k at)

@@ -2,9 +2,9 @@
 use Rattle.std.proofs.Common.{arith, ◌≡◌, ◌∙◌, ℕ, suc, ◌≤◌, ◌-◌, ◌==◌, replicate, Bool, true, false, if◌then◌else◌, All, List, [], ◌∷◌, refl, ap, sym, subst, Option, Some, None, Result, Ok, Err}
 use Rattle.std.specs.Prelude.{MatchBool, MatchOption}
 use Rattle.laws_commands.proofs.Common.{Two, both, in_bay, with_items, Files, after_store, gap_at, Code, BadRequest, Chrn, Disk, Request, Change, Written, Format, Laying, Reply, turn_of, StationState, Bay, Becomes, bay_of, set_bay, fresh_bay, IsRefusedAtOnce, is_bay, write_refusal, format_refusal, rate_refusal, AcksDrive, SetsRate, ReadsDrive, Reaches, ChangesDisk, WritesDrive, Lays, LaysDisk, FormatsDrive, State, ChangesMedium, Step, Does, refusal_of, Taken, Run, requests_of, AreWithin, IsWithin, SetsAtMost, PutsShort, ArePutShort}
-use Rattle.floppy_jobs.specs.declared.request.Request.TheVariants as request
 use Rattle.laws_commands.proofs.Steps.{either}
 use Rattle.laws_commands.proofs.Verified.{image_ranges}
+use Rattle.floppy_jobs.specs.declared.request.Request.TheVariants as request
 
 -- no revolution of a medium is longer than the limit of its bay, and no more attempts are set than this
 pub record HasTurns (limit : Two ℕ) (tries : ℕ) (station : StationState) : Type 0 where

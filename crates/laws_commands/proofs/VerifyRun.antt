@@ -2,17 +2,16 @@
 use Rattle.std.proofs.Common.{arith, map, ◌≡◌, ◌∙◌, ◌+◌, ◌*◌, ℕ, nat_le, Bool, true, false, List, [], ◌∷◌, ◌++◌, length, refl, sym, ap, subst, append_assoc, Option, Some, None, Result, Ok, Err, le-leb, ◌-◌}
 use Rattle.std.specs.Prelude.{◌||◌}
 use Rattle.laws_commands.proofs.Common.{flat_map, range_with_len, flat_map-append, append-nil, length-append, length-map, map-append, take_at, length-range_with_len, suc-mul, mul_assoc, Files, grown, sectors_at, Chrn, Code, Status, Disk, IsUndisturbed, Look, track_keys, AreFailing, length-track_keys, Request, Reply, Step, read_reply, IsImageOf, is_refusal, stop_status, Taken, Run, requests_of, has_refusal, World, Prints, IsPutFault, whole_status, Stop, bay_of, State, shape_of, Script, RunsScript, Part, asks, each, by_track, with_report, IsWhole, ask_run, ask_answered, prints_status, Passes, Passed, says_passes, at_once, run_both, each_nested, Did, over, failure_line, no_reads, one_more, verify_text, read_each, verify_opening, refused_read, refused_reads, ReadsDisk, IsUnmistaken, all_told_of, failing_line, TellsFailing, IsEndStatus}
-use Rattle.flop_base.specs.declared.answers.Status.TheVariants as status
 use Rattle.sector_map.specs.Standard.{cylinder_keys, standard_keys}
-use Rattle.floppy_jobs.specs.declared.request.Request.TheVariants as request
-use Rattle.sector_model.specs.declared.reply.Stop.TheVariants as stop
-use Rattle.sector_model.specs.declared.reply.Reason.TheVariants as reason
 use Rattle.commands.specs.Parts.{through}
 use Rattle.disk_commands.specs.Verify.{tells_failure, verifies_record, verifies_track, verify_script, reads_disk}
 use Rattle.disk_commands.specs.Disks.{sectors_of}
-use Rattle.laws_commands.proofs.TrackParts.{records_part}
-use Rattle.laws_commands.proofs.DiskOpening.{opening_passed}
+use Rattle.laws_commands.proofs.TrackParts.{records_part, opening_passed}
 use Rattle.laws_commands.proofs.Verified.{disk_tells, opening_tells}
+use Rattle.flop_base.specs.declared.answers.Status.TheVariants as status
+use Rattle.floppy_jobs.specs.declared.request.Request.TheVariants as request
+use Rattle.sector_model.specs.declared.reply.Stop.TheVariants as stop
+use Rattle.sector_model.specs.declared.reply.Reason.TheVariants as reason
 
 -- what a verify counts
 abbrev type_of : {T : Type 0} → T → Type 0

@@ -3,26 +3,22 @@
 use Rattle.std.proofs.Common.{◌≡◌, ◌∙◌, List, [], ◌∷◌, ◌++◌, ℕ, length, ap, subst, inl, inr, append-nil, Option, Some, arith, ◌+◌, Bool, true, false, refl, sym, ◌↔◌, None, ◌≢◌, ◌-◌}
 use Rattle.std.specs.Prelude.{is_some, ◌⊎◌, Contains, IfSome, All}
 use Rattle.laws_commands.proofs.Common.{list_all, All-from_recursion, All-map, All-weaker, Files, stored, file_at, grown, sectors_at, Status, Chrn, Disk, IsDisk, file_of, Two, in_bay, IsFaultless, IsUndisturbed, user_bytes, laid_tidy, Request, IsRegularDisk, Entry, IsOnMap, IsImageOf, Taken, requests_of, has_refusal, Run, World, is_refusal, State, Shape, shape_of, Script, Ends, Fails, RunsScript, StoresLast, IsStored, NotStored, IsStoreFault, carries, through, last_run, last_failed, last_stored, prints_status, Passed, Opened, joined, did_both, opens_passed, DoesAll, IsEndStatus, SomeStep, Gave, IsSure, HaveSameSector, IsUnmistaken, logged_keys, outcome_status, log_text, LogLine, IsLogFound, IsFound, rescues, asked_keys, outcome_of, last_text, rescue_rest, Rescues, by_rest, HasLaidFields, IsNotStopped, count_writes, IsLogged, IsSaved, IsSettled, WasNotRead, BringsUpNoMark, HasTarget, diskette_for, HasShapeOf, StillHolds, KeepsEntries, outcome_in, IsRescue, IsNotFound, LogsNotFound, WasRefused, log_of, AreTidy}
-use Rattle.flop_base.specs.declared.answers.Status.TheVariants as status
-use Rattle.floppy_jobs.specs.declared.request.Request.TheVariants as request
 use Rattle.commands.specs.Parts.{may_starve}
 use Rattle.commands.proofs.Passed.{Does}
 use Rattle.laws_commands.proofs.VerifyRun.{not_put, end_is_whole}
-use Rattle.laws_commands.proofs.PutIn.{opened_shape}
-use Rattle.laws_commands.proofs.TrackParts.{did_all}
+use Rattle.laws_commands.proofs.TrackParts.{did_all, opened_shape}
 use Rattle.laws_commands.proofs.Steps.{and_both, or_false, begins, ends_there, never_fell}
-use Rattle.laws_commands.proofs.Marks.{some_first, some_second}
-use Rattle.laws_commands.proofs.Reading.{quiet_parts}
-use Rattle.laws_commands.proofs.Verified.{image_ranges}
+use Rattle.laws_commands.proofs.Verified.{image_ranges, quiet_parts, stores_both, stands_under, image_there, log_stands}
 use Rattle.rescue.specs.declared.outcome.Outcome.{Outcome}
 use Rattle.disk_commands.specs.Rescue.{rescues_all, stores_log, rescue_found}
 use Rattle.laws_commands.proofs.Gone.{later_fine, not_refused, carried, GoesKeys, keys_gone, AreRefusals, Fell, fell_both, keys_fell, line_of_done, gave_reads, never_both}
 use Rattle.laws_commands.proofs.RescueOpening.{opening, ready_requests, second_request, formats_for, prepares_carried, HasOther, IsNew, begins_new, begins_again, holds_first, first_in, is_plain, plain_facts, plain_keep, opening_plain}
 use Rattle.laws_commands.proofs.RescueRecords.{asked_all, asked_distinct, shape_itself, shape_both, IsPart, SavesKeys, saves_keys, ReadsKey, some_apart, keys_read, keys_counted, index_of}
-use Rattle.laws_commands.proofs.RescueLog.{logs_again, only_of}
-use Rattle.laws_commands.proofs.StoredFiles.{stores_both, stands_under, image_there, log_stands}
-use Rattle.laws_commands.proofs.RescueGiven.{IsAtHand, IsGivenOf, keys_give}
-use Rattle.laws_commands.proofs.Telling.{told_lost, told_failing, keys_told}
+use Rattle.laws_commands.proofs.RescueGiven.{IsAtHand, IsGivenOf, keys_give, told_lost, told_failing, keys_told}
+use Rattle.laws_commands.proofs.CopiedTrack.{some_first, some_second}
+use Rattle.laws_commands.proofs.CopyRun.{logs_again, only_of}
+use Rattle.flop_base.specs.declared.answers.Status.TheVariants as status
+use Rattle.floppy_jobs.specs.declared.request.Request.TheVariants as request
 
 -- ---- the new log
 

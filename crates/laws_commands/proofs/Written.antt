@@ -1,12 +1,59 @@
--- Writes of the records of a formatted track, in one bay.
-use Rattle.std.proofs.Common.{arith, ◌≡◌, ◌≢◌, ◌↔◌, ◌∙◌, ◌+◌, ◌<◌, ◌≤◌, ℕ, zero, suc, Bool, true, false, List, [], ◌∷◌, length, refl, sym, ap, subst, Option, Some, Result, IsOk}
-use Rattle.laws_commands.proofs.Common.{list_all, Files, Chrn, Code, Disk, IsDisk, HasTrack, track_of, Two, with_bay, in_bay, user_bytes, bytes_from, Counters, IsFaultless, faults_of, IsAddressAt, IsLaid, HasFieldFor, IsTidy, written_laid, Entry, IsOnMap, IsRegularDisk, KeepsTracks, key_of, alike_tracks, keeps_itself, keeps_both, Reply, write_refusal, StationState, Bay, bay_of, State, Does, IsDriverCall, reply_of, is_refusal, WritesDrive, WritesTo, written_from, Taken, DoesAll, record_address, write_record, write_records, copied_entry}
+-- A blank disk is regular, since nothing is recorded on it.
+use Rattle.std.proofs.Common.{arith, ◌≡◌, ◌∙◌, ◌+◌, ◌-◌, ◌*◌, take, replicate, ℕ, List, length, sym, ap, subst, inl, inr, ◌≢◌, ◌↔◌, ◌<◌, ◌≤◌, zero, suc, Bool, true, false, [], ◌∷◌, refl, Option, Some, Result, IsOk}
+use Rattle.laws_commands.proofs.Common.{cases_lt, take_all, take-replicate, drop-replicate, length-replicate, words_at, Rate, track_of, IsRegular, IsRegularDisk, HasNothing, nothing_unrecorded, blank_of, HasLaidFields, list_all, Files, Chrn, Code, Disk, IsDisk, HasTrack, Two, with_bay, in_bay, user_bytes, bytes_from, Counters, IsFaultless, faults_of, IsAddressAt, IsLaid, HasFieldFor, IsTidy, written_laid, Entry, IsOnMap, KeepsTracks, key_of, alike_tracks, keeps_itself, keeps_both, Reply, write_refusal, StationState, Bay, bay_of, State, Does, IsDriverCall, reply_of, is_refusal, WritesDrive, WritesTo, written_from, Taken, DoesAll, record_address, write_record, write_records, copied_entry}
+use Rattle.sector_map.specs.Met.{unrecorded}
 use Rattle.std.specs.Prelude.{◌==◌, if◌then◌else◌}
 use Rattle.laws_commands.proofs.Prepared.{in_with}
 use Rattle.laws_commands.proofs.DiskRecords.{keys_from}
-use Rattle.laws_commands.proofs.UserMemory.{length-bytes_from}
-use Rattle.laws_commands.proofs.Steps.{NeverFell, begins, ends_there, step_never_fell, never_fell, keeps_drives, ok_called, reached}
+use Rattle.laws_commands.proofs.Steps.{NeverFell, begins, ends_there, step_never_fell, never_fell, keeps_drives, ok_called, reached, length-bytes_from}
 use Rattle.laws_commands.proofs.WrittenHere.{WritesHere, writes_here}
+
+-- a track on which nothing is recorded is regular
+none_regular : (track : List ℕ) (c h : ℕ) → HasNothing track → IsRegular track c h
+none_regular track c h none = record {
+  plain = λ p mark. absurd (none.marks (p, mark));
+  keys = record {
+    distinct = λ p q key at other. absurd (none.addresses p key at);
+    cylinder = λ p key at. absurd (none.addresses p key at);
+    head = λ p key at. absurd (none.addresses p key at);
+    coded = λ p key at. absurd (none.addresses p key at);
+  };
+  spans = record {
+    inside = λ p key at. absurd (none.addresses p key at);
+    apart = λ p q key other at next before. absurd (none.addresses p key at);
+  };
+  gaps = λ p q key at from below mark. absurd (none.addresses p key at);
+  ends = λ p q key at from below mark. absurd (none.addresses p key at);
+}
+
+abbrev zeroes : ℕ → List ℕ
+zeroes m = replicate m 0
+
+some_zeroes : (w m : ℕ) → (k : ℕ) × (take w (zeroes m) ≡ unrecorded k)
+unfolding unrecorded
+some_zeroes w m =
+    let long : length (zeroes m) ≡ m = length-replicate m 0 in
+    elim (cases_lt m w) [
+      | inl short ↦ (m, take_all w (zeroes m) (omega (arith, long)))
+      | inr enough ↦ (w, take-replicate w m 0 (omega arith))
+    ]
+
+blank_nothing : (count : ℕ) (rate : Rate) (c h : ℕ) → HasNothing (track_of (blank_of count rate) c h)
+blank_nothing count rate c h =
+    let words = count * 2 * words_at rate in
+    let start = (c * 2 + h) * words_at rate in
+    let row = some_zeroes (words_at rate) (words - start) in
+    let is : track_of (blank_of count rate) c h ≡ unrecorded row.0 = ap (λ (rest : List ℕ). take (words_at rate) rest) (drop-replicate start words 0) ∙ row.1 in
+    subst HasNothing (sym is) (nothing_unrecorded row.0)
+
+pub blank_regular : (count : ℕ) (rate : Rate) → IsRegularDisk (blank_of count rate)
+blank_regular count rate c h has = none_regular (track_of (blank_of count rate) c h) c h (blank_nothing count rate c h)
+
+-- a blank disk has no address field, so it has Laid fields
+pub blank_fields : (count : ℕ) (rate : Rate) → HasLaidFields (blank_of count rate)
+blank_fields count rate c h p key has address = absurd ((blank_nothing count rate c h).addresses p key address)
+
+-- ---- writes of the records of a formatted track, in one bay
 
 -- writes to Laid tracks are Tidy: they bring up no address mark, however short they stop
 abbrev pub AllTidy : Type 0

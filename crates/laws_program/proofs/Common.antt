@@ -60,9 +60,9 @@ pub use Rattle.laws_commands.proofs.CommandEnds.{copy_complete, format_complete,
 pub use Rattle.laws_commands.proofs.FlatEnds.{export_complete, import_complete, taken_flat}
 pub use Rattle.laws_commands.proofs.Order.{stores_in_order}
 pub use Rattle.laws_commands.proofs.Prepared.{blank_valid}
-pub use Rattle.laws_commands.proofs.RescueEnds.{each_standard, new_rescue_complete}
+pub use Rattle.laws_commands.proofs.Storing.{each_standard, new_rescue_complete}
 pub use Rattle.laws_commands.proofs.Steps.{and_both, done_does}
-pub use Rattle.laws_commands.proofs.StoredFiles.{file_fits, image_there}
+pub use Rattle.laws_commands.proofs.Verified.{file_fits, image_there}
 pub use Rattle.laws_commands.proofs.Storing.{all_first, end_stops, ends_store, no_run, nothing_first, run_then, step_stores}
 pub use Rattle.laws_commands.proofs.Turns.{HasTurns, told_short}
 pub use Rattle.laws_commands.proofs.Verified.{one_image}

@@ -4,7 +4,7 @@ use Rattle.laws_program.proofs.Common.{Files, Chrn, Disk, Counters, DriveCounts,
 use Rattle.flop_base.specs.declared.answers.Status.TheVariants as status
 use Rattle.floppy_words.specs.declared.form.Form.TheVariants as form
 use Rattle.laws_commands.specs.Targets.{HoldsTarget}
-use Rattle.laws_commands.proofs.Reading.{key_is}
+use Rattle.laws_commands.proofs.Verified.{key_is}
 use Rattle.laws_commands.proofs.CopyRun.{copy_stores}
 use Rattle.laws_commands.proofs.RescueTargets.{sectors_target}
 use Rattle.laws_program.proofs.OnBoards.{faultless_first, faultless_second}

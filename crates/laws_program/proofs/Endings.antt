@@ -4,7 +4,7 @@ use Rattle.laws_program.proofs.Common.{Files, file_at, sectors_at, Rate, R250, R
 use Rattle.flop_base.specs.declared.answers.Status.TheVariants as status
 use Rattle.floppy_words.specs.declared.form.Form.TheVariants as form
 use Rattle.laws_commands.specs.FlatComplete.{IsWholeDisk}
-use Rattle.laws_commands.proofs.RescueFurther.{further_rescue_complete}
+use Rattle.laws_commands.proofs.RescueTargets.{further_rescue_complete}
 use Rattle.laws_program.proofs.OnBoards.{nothing_left}
 use Rattle.laws_program.proofs.OfForms.{form_done, world_before, world_after}
 use Rattle.laws_program.proofs.Telling.{ByFlag, ends_so}

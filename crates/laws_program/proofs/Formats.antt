@@ -3,7 +3,7 @@ use Rattle.std.proofs.Common.{ℕ, List, Some}
 use Rattle.laws_program.proofs.Common.{R250, R500, DriveCounts, Board, Outside, world, RunsOver, StoresFormatted, HadNoFault}
 use Rattle.flop_base.specs.declared.answers.Status.TheVariants as status
 use Rattle.floppy_words.specs.declared.form.Form.TheVariants as form
-use Rattle.laws_commands.proofs.FormatRun.{format_stores}
+use Rattle.laws_commands.proofs.CopyRun.{format_stores}
 use Rattle.laws_program.proofs.OnBoards.{faultless_first}
 use Rattle.laws_program.proofs.OfForms.{form_well}
 

@@ -7,7 +7,7 @@ use Rattle.floppy_jobs.specs.declared.request.Request.TheVariants as request
 use Rattle.sector_model.specs.declared.reply.Reply.TheVariants as reply
 use Rattle.commands.specs.Parts.{needs, carries, may_starve, opens}
 use Rattle.disk_commands.specs.Rescue.{acknowledges_both, prepares_old, prepares, rescues_all, rescue_found}
-use Rattle.laws_commands.proofs.PutIn.{put_shape}
+use Rattle.laws_commands.proofs.TrackParts.{put_shape}
 use Rattle.laws_program.proofs.Telling.{EndsBy, IsFaithful, acknowledges_tells, SaysRefused, prints_as, stop_as, script_tells, unrefused}
 use Rattle.laws_program.proofs.RescueStatus.{records_by, behind}
 

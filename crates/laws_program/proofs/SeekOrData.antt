@@ -30,14 +30,12 @@ use Rattle.fdc_core.specs.declared.controller.Fdc.{Fdc}
 use Rattle.fdc_core.specs.declared.controller.Lines.{Lines}
 use Rattle.pc_bus.specs.Steps.{Step}
 use Rattle.laws_machine.proofs.Facts.{idle_read, polled_phase, told_busy}
-use Rattle.laws_machine.proofs.OnAwaits.Words.{word_leaves}
+use Rattle.laws_machine.proofs.OnAwaits.Turning.{word_leaves}
 use Rattle.laws_machine.proofs.OnQuiet.Listening.{word_heard}
-use Rattle.laws_machine.proofs.OnSteps.Acts.{Touches, at_controller}
-use Rattle.laws_machine.proofs.OnSteps.Controllers.{by_phase, controller_dma, polled_seek}
-use Rattle.laws_machine.proofs.OnSteps.DataEnds.{port_is, zero_of}
-use Rattle.laws_machine.proofs.OnSteps.Transfers.{after_step}
-use Rattle.laws_machine.proofs.OnSteps.Words.{controller}
-use Rattle.laws_machine.proofs.OnWrites.Stillness.{no_bits}
+use Rattle.laws_machine.proofs.OnSteps.Transfers.{Touches, at_controller, after_step}
+use Rattle.laws_machine.proofs.OnSteps.Words.{by_phase, controller_dma, polled_seek, controller}
+use Rattle.laws_machine.proofs.OnSteps.Moves.{port_is, zero_of}
+use Rattle.laws_machine.proofs.OnWrites.Guards.{no_bits}
 
 -- ---- the seeks
 

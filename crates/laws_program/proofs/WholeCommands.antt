@@ -5,7 +5,7 @@ use Rattle.floppy_words.specs.declared.form.Form.TheVariants as form
 use Rattle.laws_commands.proofs.CommandTimes.{copy_most, export_most, format_most, imports_most, verify_most}
 use Rattle.laws_commands.proofs.RequestTimes.{AreCharged, port_accesses_charged, port_access_sum, time_sum, times_charged}
 use Rattle.laws_commands.proofs.RescueTimes.{further_most, rescue_most}
-use Rattle.laws_commands.proofs.ScriptTimes.{IsSum, idle_cost}
+use Rattle.laws_commands.proofs.CommandEnds.{IsSum, idle_cost}
 use Rattle.laws_program.proofs.FormTimes.{machine_lasts, machine_uses}
 
 -- at first both bays are empty, and three attempts are set

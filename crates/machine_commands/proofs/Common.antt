@@ -66,7 +66,7 @@ pub use Rattle.floppy_driver.specs.declared.driver.Notes.{Notes}
 pub use Rattle.irq_events.specs.Entries.{next_entry}
 pub use Rattle.irq_events.specs.Holds.{AreShort, Holds, IsShort, counted, shown}
 pub use Rattle.irq_events.specs.declared.holding.DmaRequest.TheVariants.{Low}
-pub use Rattle.laws_machine.proofs.OnAwaits.Courses.{goes_begins, goes_status, goes_stray, goes_wait, goes_waits, going}
+pub use Rattle.laws_machine.proofs.OnAwaits.Accesses.{goes_begins, goes_status, goes_stray, goes_wait, goes_waits, going}
 pub use Rattle.laws_machine.proofs.OnOrders.Ends.{id_ended, id_memory, only, read_ended, read_outside}
 pub use Rattle.laws_machine.proofs.OnReads.TrackMet.{met_is}
 pub use Rattle.laws_machine.proofs.OnSteps.Lasting.{lasts_clock, lasts_input, lasts_none, lasts_output, lasts_taken, lasts_twice, lasts_unset, lasts_wait, lasts_within}

@@ -3,8 +3,8 @@ use Rattle.std.proofs.Common.{◌≡◌, inl, inr, ℕ, zero, suc, ◌+◌, ◌-
 use Rattle.machine_commands.proofs.Common.{Seeking, seek_bits, has_ended, is_executing, is_held, Fdc, Phase, Command, Execute, Result, is_unread, with_one, Order, Scene, Steady, controller, Board, controller_of, holds_of, Inputs, Step, stirred, Watch, Watches, AwaitsResults, latch_taken, bit_or, option_map_or, false_from_ne_true, true_from_ne_false, false≢true, is_begun, main_status, phase_bits, steps_left, EndsIn, AreShort, IsAwaited, most_steps_of, steps_taken, Lasts, Uses, going, goes_status, goes_stray, goes_wait, goes_waits, lasts_input, lasts_none, lasts_taken, lasts_twice, lasts_unset, lasts_wait, lasts_within, inputs, unset, wait, waits, uses_input, uses_look, uses_none, uses_taken, uses_twice, uses_wait, uses_waits, latch_of}
 use Rattle.fdc_registers.specs.declared.drive_lines.Dor.{Dor}
 use Rattle.laws_machine.specs.OnAwaits.Goes.{GoesOn}
-use Rattle.laws_machine.proofs.OnAwaits.Few.{few}
-use Rattle.laws_machine.proofs.OnSteps.DataEnds.{step_ends}
+use Rattle.laws_machine.proofs.OnAwaits.Accesses.{few}
+use Rattle.laws_machine.proofs.OnSteps.Moves.{step_ends}
 use Rattle.pc_bus.specs.Steps.{RunsUnset}
 use Rattle.machine_commands.proofs.Idling.{Idles, IsResting}
 use Rattle.machine_commands.proofs.Settling.{runs_one}

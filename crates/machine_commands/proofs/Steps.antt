@@ -2,7 +2,7 @@
 use Rattle.std.proofs.Common.{◌≡◌, ℕ, ◌+◌, ◌<◌, ◌≤◌, ◌==◌, ◌&&◌, ◌||◌, not, Bool, true, false, List, Option, Some, None, if◌then◌else◌, nat_lt, is_some, min, refl, sym, ◌∙◌, ap, subst, arith}
 use Rattle.machine_commands.proofs.Common.{spends_twice, DriveState, turns, track_words, Seeking, stepped_seek, is_seeking, has_ended, pulse_due, pulse_of, Motion, Ended, is_executing, asks, interrupts, is_held, polled, seek_stepped, RestsIn, MovesIn, Moves, Fdc, Phase, Execute, Low, Board, controller_of, channel_of, holds_of, regapped, Marching, Steady, march_wait, controller, Step, stirred, Chips, is_up, and_right, option_map_or, nat_tests, spends_itself, is_gated, let_pass, Runs}
 use Rattle.fdc_commands.specs.declared.motion.Seek.{Seek}
-use Rattle.laws_machine.proofs.OnQuiet.Turning.{turned_calmly}
+use Rattle.laws_machine.proofs.OnQuiet.Steps.{turned_calmly}
 use Rattle.laws_machine.proofs.OnSteps.Words.{drives}
 use Rattle.pc_bus.specs.Transfers.{dma_stepped}
 use Rattle.machine_commands.proofs.Idling.{IsResting, KeepsDrive, KeepsSpeed, KeepsAll, StaysIdle, Idles}

@@ -5,9 +5,7 @@ use Rattle.flop_base.specs.Counts.{RoseBy}
 use Rattle.floppy_jobs.specs.declared.ports.PortLine.TheVariants as line
 use Rattle.irq_events.specs.Entries.{next_entry}
 use Rattle.laws_machine.specs.OnSteps.Moves.{Acts, Goes}
-use Rattle.laws_machine.proofs.OnSteps.Counted.{goes_counted}
-use Rattle.laws_machine.proofs.OnSteps.DataEnds.{data_over}
-use Rattle.laws_machine.proofs.OnSteps.Moves.{input_goes, output_goes, wait_goes, goes_on}
+use Rattle.laws_machine.proofs.OnSteps.Moves.{goes_counted, data_over, input_goes, output_goes, wait_goes, goes_on}
 use Rattle.laws_machine.proofs.OnSteps.SeekEnds.{seek_ends_in_time}
 use Rattle.text_commands.specs.declared.ports.answer.LineAnswer.TheVariants as answer
 use Rattle.text_commands.specs.PortCourses.{Taken}

@@ -3,13 +3,10 @@ use Rattle.std.proofs.Common.{inl, inr, ◌≡◌, ℕ, ◌%◌, ◌≤◌, ◌=
 use Rattle.laws_machine.proofs.Common.{DriveState, at_index, is_stray_due, Dor, is_executing, ExecutesIn, interrupts, is_gated, dor_of, polled, seek_stepped, MovesIn, RestsIn, Stays, WritesIn, Fdc, Phase, Execute, Board, controller_of, latch_of, drive_in, Works, Step, strayed_if, lined, Chips, IsHushed, regapped, Steady, TurnsOn, IsLetOut, HoldsSet, is_unread, IsAwaited, false≢true, dma_stepped, HasEnded, and_right}
 use Rattle.laws_machine.proofs.Facts.{either_is, lined_rose, lined_set, strayed_level, strayed_set, told_busy}
 use Rattle.laws_machine.proofs.OnQuiet.Listening.{stepped_none, pulse_none}
-use Rattle.laws_machine.proofs.OnQuiet.Standing.{polled_same}
-use Rattle.laws_machine.proofs.OnSteps.Controllers.{idle_dma, dma_only, phase_dma, with_moved}
-use Rattle.laws_machine.proofs.OnQuiet.Turning.{turned_moves}
-use Rattle.laws_machine.proofs.OnSteps.Words.{drives, some_drive}
-use Rattle.laws_machine.proofs.OnAwaits.Turning.{as_turned, on_calm, on_further}
-use Rattle.laws_machine.proofs.OnAwaits.Words.{word_leaves}
+use Rattle.laws_machine.proofs.OnSteps.Words.{drives, some_drive, idle_dma, dma_only, phase_dma, with_moved}
+use Rattle.laws_machine.proofs.OnAwaits.Turning.{as_turned, on_calm, on_further, word_leaves}
 use Rattle.laws_machine.proofs.OnSteps.Outcomes.{Leaves}
+use Rattle.laws_machine.proofs.OnQuiet.Steps.{polled_same, turned_moves}
 
 -- ---- the word time
 

@@ -6,8 +6,7 @@ use Rattle.sector_map.specs.Layings.{Format, IsLaying, Laying, format_keys, form
 use Rattle.flop_base.specs.Standard.{standard_code}
 use Rattle.fdc_stages.proofs.Ended.{stopped_formatted}
 use Rattle.fdc_stages.specs.declared.formatting.FormatStage.{FormatStage}
-use Rattle.laws_machine.proofs.OnWrites.Content.{handed_rest}
-use Rattle.laws_machine.proofs.OnWrites.Results.{take_less}
+use Rattle.laws_machine.proofs.OnWrites.Results.{take_less, handed_rest}
 
 -- ---- the words
 

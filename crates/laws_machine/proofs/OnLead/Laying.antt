@@ -1,14 +1,18 @@
 -- Commands that write, whatever the drive's speed was when they began.
 use Rattle.std.proofs.Common.{◌≡◌, ◌⊎◌, inl, inr, ℕ, zero, suc, ◌+◌, ◌*◌, ◌≤◌, Bool, true, false, List, [], ◌∷◌, length, refl, sym, ◌∙◌, ap, subst, arith}
-use Rattle.laws_machine.proofs.Common.{Chrn, DriveState, is_protected, Fifo, Past, heard, Numbers, is_first, is_next, IsAtPart, IsWriting, FormatPart, Await, Due, Lay, Barred, WriteStage, FormatDoes, stepped, is_executing, let_pass, WordTime, Saw, KeptOut, Wrote, Stopped, IsTime, after_time, WritesIn, WritesTask, WriteDoes, MayWriteTask, MayFormatTask, Fdc, Execution, Execute, Task, Formatting, Writing, turns_led, turn_led, led, IsSpinning, IsUnheard, IsLed, Laid, Window, Track, Write, MayLayIn, LaysOn, Scene, IsScene, head_sent, IsAtDrive, false_from_ne_true, false≢true, address_in, few_led, time_led, no_index, hears_none, turning_on, outset_of, is_word_due as is_due}
-use Rattle.fdc_phases.specs.declared.phases.Task.TheVariants as task
-use Rattle.laws_machine.proofs.OnLead.Listening.{led_at, led_over, spun}
-use Rattle.laws_machine.proofs.OnLead.Spinning.{nothing_heard}
-use Rattle.laws_machine.proofs.OnQuiet.Turning.{calmly}
-use Rattle.laws_machine.proofs.OnOrders.Behind.{IsTimed, Laying, laid_on}
-use Rattle.laws_machine.proofs.OnOrders.Words.{laying, timed_led}
+use Rattle.laws_machine.proofs.Common.{Chrn, DriveState, is_protected, Fifo, Past, heard, Numbers, is_first, is_next, IsAtPart, IsWriting, FormatPart, Await, Due, Lay, Barred, WriteStage, FormatDoes, stepped, is_executing, let_pass, WordTime, Saw, KeptOut, Wrote, Stopped, IsTime, after_time, WritesIn, WritesTask, WriteDoes, MayWriteTask, MayFormatTask, Fdc, Execution, Execute, Task, Formatting, Writing, turns_led, turn_led, led, IsSpinning, IsUnheard, IsLed, Laid, Window, Track, Write, MayLayIn, LaysOn, Scene, IsScene, head_sent, IsAtDrive, false_from_ne_true, false≢true, address_in, few_led, time_led, no_index, hears_none, turning_on, outset_of, is_word_due as is_due, Works, Chips, WarmsUp, Order, Identify, Read, IsDoneBy, Steady, drive_in, Board, controller_of, Inputs, Outputs, IsTurningIn, IsGuarded, CanBegin, Leaves, StandsStill, new_past, slow_or_fast, CanWarm}
+use Rattle.laws_machine.proofs.OnLead.Spinning.{nothing_heard, turning_of, led_at, led_over, spun, led_less, brief_led, led_bytes, listening_led}
+use Rattle.laws_machine.proofs.OnOrders.Behind.{IsTimed, Laying, laid_on, KeepsOn, IsDoing}
+use Rattle.laws_machine.proofs.OnOrders.Words.{laying, timed_led, laid_timed}
 use Rattle.laws_machine.proofs.OnWrites.Steps.{is_stopped, due_now, opens_due, time_here}
 use Rattle.laws_machine.proofs.OnSteps.Outcomes.{covered as refused, format_outcome, over_stopped, write_outcome}
+use Rattle.laws_machine.proofs.OnQuiet.Steps.{calmly}
+use Rattle.laws_machine.proofs.OnOrders.Steps.{goes_on, still_goes}
+use Rattle.laws_machine.proofs.OnOrders.Accesses.{inputs_go, begins_on, outputs_go}
+use Rattle.fdc_phases.specs.declared.phases.Task.TheVariants as task
+use Rattle.laws_machine.proofs.OnReads.IdWords as ids
+use Rattle.laws_machine.proofs.OnReads.Steps as reads
+use Rattle.fdc_phases.specs.declared.phases.Phase.TheVariants as phase
 
 -- ---- a word time in which the medium spins up
 
@@ -198,4 +202,70 @@ laying_led laid scene whole = record {
       (works_led laid scene was.lead was.late drive after polls between asking fifo whole rate was.short was.guarded was.drive_is execution
       (subst (λ p. MayLayIn laid scene p (Execute execution) asking fifo) was.past_is may) does);
   rests = λ past drive after was same falls. rests_led laid scene past drive after whole was same falls;
+}
+
+-- ---- A device step of a data command, whatever the drive's speed was when it began
+
+word_time : (order : Order) (scene : Scene) (past : Past) (chips : Chips) (drive : DriveState) (between : Fdc) (after : DriveState) → IsScene scene
+    → IsDoneBy order scene past chips → IsLed order scene past (is_executing chips.controller.phase) drive → Works chips.controller drive between after
+    → IsDoing order scene (λ past executes. IsLed order scene past executes after) (record chips { controller = between })
+word_time Identify scene past chips drive between after whole known at works =
+    ids.listened scene (IsLed Identify scene) (listening_led Identify scene tt whole) (brief_led scene whole) past chips drive between after known at works
+word_time Read scene past chips drive between after whole known at works =
+    reads.listened scene (IsLed Read scene) (listening_led Read scene tt whole) past chips drive between after known at works
+word_time (Write laid) scene past chips drive between after whole known at works =
+    laid_timed laid scene (IsLed (Write laid) scene) (laying_led laid scene whole) past chips drive between after known at works
+
+pub led_keeps : (order : Order) (scene : Scene) → KeepsOn order scene (IsLed order scene)
+led_keeps order scene = record { word_time = word_time order scene; bytes = led_bytes order scene; less = led_less order scene }
+
+pub warming : (order : Order) (scene : Scene) → Steady (WarmsUp order scene)
+warming order scene = goes_on order scene (IsLed order scene) (led_keeps order scene)
+
+-- ---- port accesses of a data command, whatever the drive's speed was when it began
+
+pub inputs_keep : (order : Order) (scene : Scene) (port value : ℕ) (old new : Board) → Inputs port old value new → WarmsUp order scene old
+    → WarmsUp order scene new ⊎ ((controller_of new).phase ≡ phase.Command)
+inputs_keep order scene = inputs_go order scene (IsLed order scene) (led_keeps order scene)
+
+pub outputs_keep : (order : Order) (scene : Scene) (port value : ℕ) (old new : Board) → Outputs port value old new → Leaves port value old → WarmsUp order scene old → WarmsUp order scene new
+outputs_keep order scene = outputs_go order scene (IsLed order scene) (led_keeps order scene)
+
+pub still_keeps : (order : Order) (scene : Scene) (old new : Board) → StandsStill old new → WarmsUp order scene old → WarmsUp order scene new
+still_keeps order scene = still_goes order scene (IsLed order scene) (led_keeps order scene)
+
+-- ---- the write that begins it
+
+first_guarded : (order : Order) (scene : Scene) → IsGuarded order scene 0
+first_guarded (Write laid) scene = λ some. absurd (omega arith)
+first_guarded _ scene = tt
+
+begun_led : (order : Order) (scene : Scene) (executes : Bool) (drive : DriveState) → IsScene scene → IsTurningIn scene drive
+    → IsLed order scene new_past executes drive
+begun_led order scene executes drive whole is = record {
+  lead = 0;
+  late = new_past;
+  past_is = refl;
+  short = omega arith;
+  guarded = first_guarded order scene;
+  drive_is = elim (slow_or_fast drive.spin) [
+    | inl slow ↦ inl (refl, record { turning = is; slow = slow; since = omega arith })
+    | inr fast ↦ inr (nothing_heard order scene new_past executes drive whole refl is (λ _. fast))
+  ];
+}
+
+pub begins : (order : Order) (scene : Scene) (byte : ℕ) (old new : Board) → Outputs 0x3F5 byte old new → CanWarm order scene byte old → WarmsUp order scene new
+begins order scene = begins_on order scene (IsLed order scene) (led_keeps order scene) IsTurningIn (begun_led order scene)
+
+-- ---- if the drive was at speed
+
+pub can_warm : (order : Order) (scene : Scene) (byte : ℕ) (board : Board) → CanBegin order scene byte board → CanWarm order scene byte board
+can_warm order scene byte board can = record {
+  scene_is = can.scene_is;
+  dor = can.dor;
+  rate = can.rate;
+  drive = turning_of scene (drive_in board scene.bay) can.drive;
+  memory = can.memory;
+  channel = can.channel;
+  last = can.last;
 }

@@ -1,12 +1,12 @@
 -- What a command that writes leaves, and IC 00 of it, whatever the drive's speed was when it began.
 use Rattle.std.proofs.Common.{◌≡◌, ◌⊎◌, inl, inr, ℕ, ◌*◌, Bool, false, List, [], ◌∷◌, length, refl, sym, ap, subst, arith}
 use Rattle.laws_machine.proofs.Common.{Chrn, content_size, Results, Past, Done, Numbers, HasLaid, IsBehindFirst, IsWholeTurn, IsWhole, is_executing, MayWriteIn, MayFormatIn, Long, Fdc, Result, Board, controller_of, memory_of, channel_of, drive_in, AreKeysOf, turn_led, turns_led, led, IsLed, WarmsUp, Laid, Window, Track, Write, LaysOn, IsFor, Only, Scene, IsTaken, FormatEnded, address_in, few_led, IsDoneOn, WriteEnded}
+use Rattle.laws_machine.proofs.OnWrites.Results.{IsOfWindow}
+use Rattle.laws_machine.proofs.OnLead.Spinning.{led_over}
 use Rattle.laws_machine.specs.OnFormats.Results as format_says
 use Rattle.laws_machine.proofs.OnFormats.Results as formats
-use Rattle.laws_machine.proofs.OnLead.Listening.{led_over}
 use Rattle.laws_machine.specs.OnWrites.Results as write_says
 use Rattle.laws_machine.proofs.OnWrites.Results as writes
-use Rattle.laws_machine.proofs.OnWrites.Results.{IsOfWindow}
 
 -- ---- without the words 0000
 

@@ -1,17 +1,18 @@
 -- Port accesses of a data command: the write that begins it, and reads.
-use Rattle.std.proofs.Common.{◌≡◌, ◌⊎◌, inl, inr, ℕ, ◌+◌, ◌==◌, ◌||◌, nat_le, Bool, true, false, not, Option, List, if◌then◌else◌, refl, sym, ◌∙◌, subst}
-use Rattle.laws_machine.proofs.Common.{DriveState, Channel, Fifo, Past, Ending, Results, is_executing, given, phase_after, Short, Long, Fdc, Phase, Board, controller_of, drive_in, is_controllers, port_read, WritesPort, Inputs, Outputs, shown_again, Chips, drive_stays, IsScene, Scene, read_from, IsUnderwayOn, Window, Order, Identify, Read, Write, MayIn, Shows, AtDrive, IsDoneBy, Underway, CanBegin, IsDriveOf, new_past, CanBeginAt, refuses, false≢true, Moved as Moves}
-use Rattle.dma_8237.specs.Channel.{grants, after_read}
-use Rattle.fdc_phases.specs.declared.phases.Phase.TheVariants as phase
-use Rattle.laws_machine.proofs.OnReads.Accesses.{busy_before, still_busy, calm_read}
-use Rattle.laws_machine.proofs.OnSteps.Controllers.{step_command}
-use Rattle.laws_machine.proofs.OnReads.Steps.{same_drive}
-use Rattle.laws_machine.proofs.OnSteps.Runs.{gap, outputs}
+use Rattle.std.proofs.Common.{◌≡◌, ◌⊎◌, inl, inr, ℕ, ◌+◌, ◌==◌, ◌||◌, nat_le, Bool, true, false, not, Option, List, if◌then◌else◌, refl, sym, ◌∙◌, subst, ap, ◌%◌, arith}
+use Rattle.laws_machine.proofs.Common.{DriveState, Channel, Fifo, Past, Ending, Results, is_executing, given, phase_after, Short, Long, Fdc, Phase, Board, controller_of, drive_in, is_controllers, port_read, WritesPort, Inputs, Outputs, shown_again, Chips, drive_stays, IsScene, Scene, read_from, IsUnderwayOn, Window, Order, Identify, Read, Write, MayIn, Shows, AtDrive, IsDoneBy, Underway, CanBegin, IsDriveOf, new_past, CanBeginAt, refuses, false≢true, Moved as Moves, takes_in, is_held, channel_of, lines_of, sets_lines, May, Leaves, PortWrites as Writes, Seeking, seek_bits, next_entry, selected_of, LeavesOthers, HasNoSeek, StaysStill, IsLast}
+use Rattle.dma_8237.specs.Channel.{grants, after_read, after_write}
+use Rattle.laws_machine.proofs.OnReads.Steps.{same_drive, busy_before, still_busy, calm_read, gapped}
+use Rattle.laws_machine.proofs.OnSteps.Runs.{gap, outputs, goes_runs, runs}
 use Rattle.laws_machine.proofs.OnOrders.Behind.{KeepsOn}
 use Rattle.laws_machine.proofs.OnLead.Spinning.{none_heard}
 use Rattle.laws_machine.proofs.OnOrders.Beginning.{begun_at, begun_by}
 use Rattle.laws_machine.proofs.OnOrders.Steps.{goes_on, at_drive}
-use Rattle.laws_machine.proofs.Facts.{either_is, given_down}
+use Rattle.laws_machine.proofs.Facts.{either_is, given_down, number_is}
+use Rattle.laws_machine.proofs.OnSteps.Words.{step_command}
+use Rattle.laws_machine.proofs.OnOrders.Words.{views}
+use Rattle.laws_machine.proofs.OnWrites.Guards.{leaves_on, leaving, no_bits, stilling, still_same}
+use Rattle.fdc_phases.specs.declared.phases.Phase.TheVariants as phase
 
 -- ---- a read of the data port
 
@@ -164,3 +165,123 @@ begun_underway order scene = between_begun order scene (AtDrive order scene) (at
 
 pub begins : (order : Order) (scene : Scene) (byte : ℕ) (old new : Board) → Outputs 0x3F5 byte old new → CanBegin order scene byte old → Underway order scene new
 begins order scene = begins_on order scene (AtDrive order scene) (at_drive order scene) IsDriveOf (none_heard order scene)
+
+-- ---- port writes that leave a data command as it is. They are a byte to the data port, which takes none, a write
+-- that clears the channel's flip-flop, and a write to a port where nothing answers.
+
+-- the data port takes no byte in this phase
+taking_in : (p : Phase) → (p ≡ phase.Command → ⊥) → (held : Bool) → takes_in p held ≡ false
+taking_in phase.Command busy held = absurd (busy refl)
+taking_in _ busy held = refl
+
+pub not_command : (order : Order) (scene : Scene) (past : Past) (fdc : Fdc) → May order scene past fdc → fdc.phase ≡ phase.Command → ⊥
+not_command Identify scene past fdc may is = subst (λ p. MayIn Identify scene past p fdc.asking fdc.fifo) is may
+not_command Read scene past fdc may is = subst (λ p. MayIn Read scene past p fdc.asking fdc.fifo) is may
+not_command (Write laid) scene past fdc may is = views laid scene past phase.Command fdc.asking fdc.fifo (subst (λ p. MayIn (Write laid) scene past p fdc.asking fdc.fifo) is may)
+
+pub same_fdc : (order : Order) (scene : Scene) (past : Past) (port value : ℕ) (board : Board) (new : Fdc) → Leaves port value board → May order scene past (controller_of board) → Writes port value (lines_of board) (controller_of board) new → new ≡ controller_of board
+same_fdc order scene past port value board new leaves may writes = elim (either_is (port == 0x3F5)) [
+  | inl is ↦ (writes.bytes (number_is port 0x3F5 is)).1 (taking_in (controller_of board).phase (not_command order scene past (controller_of board) may) (is_held (controller_of board)))
+  | inr is ↦ writes.others leaves.output leaves.select is leaves.control
+]
+
+pub same_chips : (order : Order) (scene : Scene) (past : Past) (port value : ℕ) (old between : Board) → Leaves port value old → IsDoneBy order scene past old.bus.chips → (writes : WritesPort port value old between)
+    → (b : Bool) → is_controllers port ≡ b → IsDoneBy order scene past between.bus.chips × (between.bus.chips.controller ≡ controller_of old)
+same_chips order scene past port value old between leaves was writes true is =
+    let (controller, does, chips) = writes.writes.controllers is in
+    let same = same_fdc order scene past port value old controller leaves was.may does in
+    let now : between.bus.chips ≡ shown_again (record old.bus.chips { controller = controller_of old }) = ap (λ bus. bus.chips) writes.bus ∙ (chips ∙ ap (λ c. shown_again (record old.bus.chips { controller = c })) same) in
+    (subst (IsDoneBy order scene past) (sym now) (record { may = was.may; shows = was.shows; dor = was.dor; rate = was.rate; moves = was.moves }), ap (λ c. c.controller) now)
+same_chips order scene past port value old between leaves was writes false is =
+    let (high, flipped) = leaves.channel is in
+    let now : between.bus.chips ≡ record old.bus.chips { channel = record (channel_of old) { high_byte_next = high } } =
+    ap (λ bus. bus.chips) writes.bus ∙ (writes.writes.channels is ∙ ap (λ (c : Channel). record old.bus.chips { channel = c }) flipped) in
+    let moves = moves_flipped order scene past old.bus.chips.memory (channel_of old) high (channel_of old).terminal_count was.moves in
+    (subst (IsDoneBy order scene past) (sym now) (record { may = was.may; shows = was.shows; dor = was.dor; rate = was.rate; moves = moves }), ap (λ c. c.controller) now)
+
+pub no_lines : (port value : ℕ) → (port == 0x3F2) ≡ false → (port == 0x3F4) ≡ false → sets_lines port value ≡ false
+no_lines port value output select = rw (output, select) refl
+
+pub outputs_go : (order : Order) (scene : Scene) (On : Past → Bool → DriveState → Type 0) → KeepsOn order scene On → (port value : ℕ) (old new : Board) → Outputs port value old new → Leaves port value old
+    → IsUnderwayOn On order scene old → IsUnderwayOn On order scene new
+outputs_go order scene On keeps port value old new access leaves (past, was) = outputs (IsUnderwayOn On order scene) (goes_on order scene On keeps) port value old new (λ between writes.
+    let (chips, same) = same_chips order scene past port value old between leaves was.chips writes (is_controllers port) refl in
+    let calm = no_lines port value leaves.output leaves.select in
+    let drive_is : drive_in between scene.bay ≡ drive_in old scene.bay =
+    same_drive old.first old.second between.first between.second (drive_stays writes.lines.first calm) (drive_stays writes.lines.second calm) (scene.bay == 0) in (
+      past,
+      record {
+        scene_is = was.scene_is;
+        chips = chips;
+        drive = subst (λ (fdc : Fdc). On past (is_executing fdc.phase) (drive_in between scene.bay)) (sym same) (subst (On past (is_executing (controller_of old).phase)) (sym drive_is) was.drive);
+      },
+    )) access
+
+pub outputs_keep : (order : Order) (scene : Scene) (port value : ℕ) (old new : Board) → Outputs port value old new → Leaves port value old → Underway order scene old → Underway order scene new
+outputs_keep order scene = outputs_go order scene (AtDrive order scene) (at_drive order scene)
+
+-- ---- which they are
+
+-- a byte to the data port
+pub leaves_data : (value : ℕ) (board : Board) → Leaves 0x3F5 value board
+leaves_data value board = record { output = refl; select = refl; control = refl; channel = λ no. absurd (false≢true (sym no)) }
+
+-- 0C clears the flip-flop
+pub leaves_clear : (value : ℕ) (board : Board) → Leaves 0x0C value board
+unfolding after_write
+leaves_clear value board = record { output = refl; select = refl; control = refl; channel = λ _. (false, refl) }
+
+-- ---- what the port write that begins a data command leaves of the drives
+
+-- the controller's seeks and its output register are as they were
+record KeepsSeeks (old new : Fdc) : Type 0 where
+  pub seeks : new.seeks ≡ old.seeks
+  pub dor : new.dor ≡ old.dor
+
+selected_same : (old new : Board) → KeepsSeeks (controller_of old) (controller_of new) → selected_of new ≡ selected_of old
+selected_same old new same = ap (λ dor. dor.0 % 4) same.dor
+
+between_still : (byte : ℕ) (old new : Board) (access : Outputs 0x3F5 byte old new) → KeepsSeeks (controller_of old) (controller_of access.between) → HasNoSeek old → StaysStill old (gapped access.between)
+between_still byte old new access same was =
+    let selects = was.selects in
+    let selected = selected_same old access.between same in
+    record {
+      no_seek = record { selects = omega arith; none = ap (λ (s : Seeking). s.seek) same.seeks ∙ was.none };
+      first = still_same old.first access.between.first (drive_stays access.writes.lines.first refl);
+      second = still_same old.second access.between.second (drive_stays access.writes.lines.second refl);
+      numbers = ap (λ (s : Seeking). s.cylinders) same.seeks;
+    }
+
+begins_still : (byte : ℕ) (old new : Board) (access : Outputs 0x3F5 byte old new) → KeepsSeeks (controller_of old) (controller_of access.between) → HasNoSeek old → StaysStill old new
+begins_still byte old new access same was =
+    let between = between_still byte old new access same was in
+    runs (StaysStill old) (stilling old) (next_entry access.between.bus.gaps) (gapped access.between) new access.gap.runs between
+
+begins_leaving : (byte : ℕ) (old new : Board) (access : Outputs 0x3F5 byte old new) → KeepsSeeks (controller_of old) (controller_of access.between) → LeavesOthers old new
+begins_leaving byte old new access same =
+    let between : LeavesOthers old (gapped access.between) = record {
+      dor = ap (λ dor. dor.0) same.dor;
+      first = λ _. ap (λ s. s.medium) (drive_stays access.writes.lines.first refl);
+      second = λ _. ap (λ s. s.medium) (drive_stays access.writes.lines.second refl);
+    } in
+    leaves_on old (gapped access.between) new between (goes_runs LeavesOthers leaving (next_entry access.between.bus.gaps) (gapped access.between) new access.gap.runs)
+
+-- a data command that begins leaves the seeks and the output register as they were
+begin_keeps : (order : Order) (scene : Scene) (byte : ℕ) (old new : Board) (access : Outputs 0x3F5 byte old new) → CanBegin order scene byte old → KeepsSeeks (controller_of old) (controller_of access.between)
+begin_keeps order scene byte old new access can =
+    let (has, chips_are) = begun_at order scene byte old access.between access.writes can.last in
+    record { seeks = ap (λ (fdc : Fdc). fdc.seeks) has.after; dor = ap (λ (fdc : Fdc). fdc.dor) has.after }
+
+no_bits_last : (order : Order) (scene : Scene) (byte : ℕ) (fdc : Fdc) → IsLast order scene byte fdc → seek_bits fdc.seeks ≡ 0
+no_bits_last (Write (Window deleted)) scene byte fdc last = last.no_seek
+no_bits_last _ scene byte fdc last = last.no_seek
+
+pub begin_still : (order : Order) (scene : Scene) (byte : ℕ) (old new : Board) → Outputs 0x3F5 byte old new → CanBegin order scene byte old → StaysStill old new
+begin_still order scene byte old new access can =
+    let small = can.scene_is.bay in
+    let selected : selected_of old ≡ scene.bay = ap (λ b. b % 4) can.dor ∙ can.scene_is.selects in
+    begins_still byte old new access (begin_keeps order scene byte old new access can)
+    (record { selects = omega arith; none = no_bits (controller_of old).seeks (no_bits_last order scene byte (controller_of old) can.last) })
+
+pub begin_leaves : (order : Order) (scene : Scene) (byte : ℕ) (old new : Board) → Outputs 0x3F5 byte old new → CanBegin order scene byte old → LeavesOthers old new
+begin_leaves order scene byte old new access can = begins_leaving byte old new access (begin_keeps order scene byte old new access can)

@@ -3,8 +3,8 @@ use Rattle.std.proofs.Common.{◌≡◌, ℕ, Bool, true, false, List, [], ◌�
 use Rattle.laws_machine.proofs.Common.{Channel, answer, kept, Ready, ReadData, FormatTrack, emptied, seek_bits, Obeys, TakesAs, WaitsAtFirst, asked, Sent, is_taking, dor_of, Fdc, Lines, Task, Board, controller_of, lines_of, WritesPort, shown_again, Chips, Scene, write_of, Window, Track, Order, Identify, Read, Write, May, Shows, IsDoneBy, IsLast, IsSetFor, false≢true, new_past, BeginsAsking, begun_with, IsWritingData, PortWrites as Writes, Moved as Moves}
 use Rattle.fdc_commands.specs.declared.command.Command.{Command}
 use Rattle.fdc_commands.specs.declared.command.Command.TheVariants.{ReadId}
-use Rattle.laws_machine.proofs.OnReads.Accesses as reads
-use Rattle.laws_machine.proofs.OnWrites.Bytes.{none_taken}
+use Rattle.laws_machine.proofs.OnWrites.Filling.{none_taken}
+use Rattle.laws_machine.proofs.OnReads.Steps as reads
 
 -- a command that writes asks for bytes at once
 abbrev pub first_line : Order → Fdc → Bool

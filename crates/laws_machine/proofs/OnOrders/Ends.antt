@@ -1,10 +1,10 @@
 -- What a data command leaves, and what its results say.
 use Rattle.std.proofs.Common.{◌≡◌, false, List, ◌∙◌, arith}
 use Rattle.laws_machine.proofs.Common.{Chrn, IsSizeCode, content_size, read_tells, id_tells, is_executing, Fdc, Board, controller_of, memory_of, channel_of, drive_in, IdEnded, ReadEnded, StaysOutside, Scene, Laid, Window, Track, Identify, Read, Write, Underway, IsFor, Only, Ended}
-use Rattle.laws_machine.proofs.OnReads.IdResults as ids
-use Rattle.laws_machine.proofs.OnReads.Results as reads
 use Rattle.laws_machine.proofs.OnWrites.Results as writes
 use Rattle.laws_machine.proofs.OnFormats.Results as formats
+use Rattle.laws_machine.proofs.OnReads.Steps as reads
+use Rattle.laws_machine.proofs.OnReads.Beginnings as ids
 
 pub only : (laid : Laid) (scene : Scene) (keys : List Chrn) (board : Board) → IsFor laid scene keys → Underway (Write laid) scene board → Only laid scene keys board
 only (Window deleted) scene keys board size (past, was) =

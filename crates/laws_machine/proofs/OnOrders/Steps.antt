@@ -2,17 +2,16 @@
 use Rattle.std.proofs.Common.{◌≡◌, ℕ, ◌+◌, ◌%◌, ◌≤◌, ◌==◌, Bool, true, false, List, length, [], ◌∷◌, ◌++◌, if◌then◌else◌, refl, sym, ◌∙◌, ap, subst}
 use Rattle.laws_machine.proofs.Common.{DriveState, after_transfer, Past, taken_in, told_count, told_in, is_executing, is_reading, asks, Fdc, Phase, Short, Long, Fifo, Board, controller_of, drive_in, Step, can_move, moved_to_memory, moved_from_memory, byte_read, told_if, Chips, Scene, StandsStill, IsTaken, refuses, Steady, Moving, IsUnderwayOn, Laid, Window, Track, Order, Identify, Read, Write, MayLayIn, MayLay, AtDrive, IsDoneBy, Underway, false≢true, grants, took, outset_of, drive_less, in_writes, in_formats, told_writes, told_formats, and_parts}
 use Rattle.laws_machine.proofs.Facts.{told_busy, told_keeps}
-use Rattle.fdc_phases.specs.declared.phases.Phase.TheVariants as phase
 use Rattle.pc_bus.specs.Transfers.{moved}
-use Rattle.laws_machine.proofs.OnReads.Steps as reads
-use Rattle.laws_machine.proofs.OnWrites.Bytes as taking_bytes
 use Rattle.laws_machine.proofs.OnSteps.Transfers.{after_moves}
 use Rattle.laws_machine.proofs.OnSteps.Words.{selected}
 use Rattle.laws_machine.proofs.OnOrders.Behind.{KeepsOn, laid_on, IsDoing, IsOfWords}
-use Rattle.laws_machine.proofs.OnOrders.Fetching.{fetched, must_ask}
-use Rattle.laws_machine.proofs.OnOrders.Words.{views, word_time}
-use Rattle.laws_machine.proofs.OnReads.Accesses.{hearing_less}
+use Rattle.laws_machine.proofs.OnOrders.Words.{views, word_time, fetched, must_ask}
 use Rattle.laws_machine.proofs.OnWrites.Filling.{not_reading}
+use Rattle.laws_machine.proofs.OnReads.Steps.{hearing_less}
+use Rattle.fdc_phases.specs.declared.phases.Phase.TheVariants as phase
+use Rattle.laws_machine.proofs.OnReads.Steps as reads
+use Rattle.laws_machine.proofs.OnWrites.Filling as taking_bytes
 
 -- ---- one transfer
 

@@ -1,12 +1,11 @@
 -- Between two data commands: what port accesses set.
 use Rattle.std.proofs.Common.{◌≡◌, ℕ, ◌==◌, not, ◌||◌, Bool, true, false, [], ◌∷◌, ◌++◌, if◌then◌else◌, refl, sym, ◌∙◌, ap, subst, List}
-use Rattle.laws_machine.proofs.Common.{answer, kept, More, TakesAs, is_executing, given, interrupt_after, phase_after, takes_in, is_taking, dsr_resets, is_held, Fdc, Phase, Command, Execute, Result, Board, controller_of, lines_of, is_controllers, port_read, WritesPort, RunsGap, Inputs, Outputs, sets_lines, shown_again, Chips, drive_stays, only_listens, HoldsOn, HaveTurned, IsHushed, Setting, ChipsStand, Stands, false_from_ne_true, false≢true, after_write, after_read, result_byte, dor_resets, DataRate, rate_chosen, is_fresh}
+use Rattle.laws_machine.proofs.Common.{answer, kept, More, TakesAs, is_executing, given, interrupt_after, phase_after, takes_in, is_taking, dsr_resets, is_held, Fdc, Phase, Command, Execute, Result, Board, controller_of, lines_of, is_controllers, port_read, WritesPort, RunsGap, Inputs, Outputs, sets_lines, shown_again, Chips, drive_stays, only_listens, HoldsOn, HaveTurned, IsHushed, Setting, ChipsStand, Stands, false_from_ne_true, false≢true, after_write, after_read, result_byte, dor_resets, DataRate, rate_chosen, is_fresh, Results, Long, Ending, setting_of, IsQuiet}
 use Rattle.laws_machine.proofs.Facts.{if_both, idle_read, number_is, shown_stalls}
 use Rattle.laws_machine.specs.OnQuiet.Settings.{with_byte, with_rate, with_write, with_read}
-use Rattle.laws_machine.proofs.OnQuiet.Steps.{drives_on, like_holds, like_mode}
-use Rattle.laws_machine.proofs.OnQuiet.Standing.{standing, stands_beside}
+use Rattle.laws_machine.proofs.OnQuiet.Steps.{drives_on, like_holds, like_mode, standing, stands_beside, turned_still, starts_standing}
 use Rattle.laws_machine.proofs.OnSteps.Runs.{gap}
-use Rattle.laws_machine.proofs.OnQuiet.Turning.{turned_still}
+use Rattle.laws_machine.specs.OnQuiet.Results.{GivesBytes, HasGiven}
 
 -- ---- the gap
 
@@ -168,3 +167,41 @@ input_stands start set port value old new access was =
 -- what the data port gives
 pub input_gives : (start : Board) (set : Setting) (value : ℕ) (old new : Board) → Inputs 0x3F5 old value new → Stands set start old → value ≡ result_byte set.phase
 input_gives start set value old new access was = access.value_is ∙ ap result_byte was.chips.phase
+
+-- ---- the result bytes of a data command
+
+-- a setting in which so many of the results were read
+abbrev at : Ending → Results → ℕ → Setting → Setting
+at ending results taken set = record set { phase = Result (Long ending results taken) }
+
+same_bytes : (a b c d e f g a' b' c' d' e' f' g' : ℕ) → a ≡ a' → b ≡ b' → c ≡ c' → d ≡ d' → e ≡ e' → f ≡ f' → g ≡ g'
+    → a ∷ b ∷ c ∷ d ∷ e ∷ f ∷ g ∷ [] ≡ a' ∷ b' ∷ c' ∷ d' ∷ e' ∷ f' ∷ g' ∷ []
+same_bytes a b c d e f g a' b' c' d' e' f' g' p q r s t u v = cc
+
+seven_given : (ending : Ending) (results : Results) (set : Setting) (start old new : Board) (a b c d e f g : ℕ) → Stands (at ending results 0 set) start old
+    → GivesBytes old (a ∷ b ∷ c ∷ d ∷ e ∷ f ∷ g ∷ []) new → HasGiven results set start (a ∷ b ∷ c ∷ d ∷ e ∷ f ∷ g ∷ []) new
+seven_given ending results set start old new a b c d e f g was (one, first, (two, second, (three, third, (four, fourth, (five, fifth, (six, sixth, (seven, seventh, end))))))) =
+    let in_one = input_stands start (at ending results 0 set) 0x3F5 a old one first was in
+    let in_two = input_stands start (at ending results 1 set) 0x3F5 b one two second in_one in
+    let in_three = input_stands start (at ending results 2 set) 0x3F5 c two three third in_two in
+    let in_four = input_stands start (at ending results 3 set) 0x3F5 d three four fourth in_three in
+    let in_five = input_stands start (at ending results 4 set) 0x3F5 e four five fifth in_four in
+    let in_six = input_stands start (at ending results 5 set) 0x3F5 f five six sixth in_five in
+    let in_seven = input_stands start (at ending results 6 set) 0x3F5 g six seven seventh in_six in
+    record {
+      bytes_are = same_bytes a b c d e f g _ _ _ _ _ _ _
+          (input_gives start (at ending results 0 set) a old one first was)
+          (input_gives start (at ending results 1 set) b one two second in_one)
+          (input_gives start (at ending results 2 set) c two three third in_two)
+          (input_gives start (at ending results 3 set) d three four fourth in_three)
+          (input_gives start (at ending results 4 set) e four five fifth in_four)
+          (input_gives start (at ending results 5 set) f five six sixth in_five)
+          (input_gives start (at ending results 6 set) g six seven seventh in_six);
+      stands = subst (Stands (record set { phase = Command }) start) (sym end) in_seven;
+    }
+
+pub results_given : (ending : Ending) (results : Results) (old new : Board) (a b c d e f g : ℕ) → IsQuiet (controller_of old) → (controller_of old).asking ≡ false
+    → (controller_of old).phase ≡ Result (Long ending results 0) → GivesBytes old (a ∷ b ∷ c ∷ d ∷ e ∷ f ∷ g ∷ []) new → HasGiven results (setting_of old) old (a ∷ b ∷ c ∷ d ∷ e ∷ f ∷ g ∷ []) new
+results_given ending results old new a b c d e f g quiet low is gives =
+    seven_given ending results (setting_of old) old old new a b c d e f g
+    (subst (λ phase. Stands (record (setting_of old) { phase = phase }) old old) is (starts_standing old quiet (ap is_executing is) low)) gives

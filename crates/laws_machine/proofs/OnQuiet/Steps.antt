@@ -1,11 +1,68 @@
--- A quiet machine, through device steps.
-use Rattle.std.proofs.Common.{◌≡◌, ℕ, ◌==◌, Bool, true, false, None, List, refl, sym, ◌∙◌, ap, subst}
-use Rattle.laws_machine.proofs.Common.{DriveState, phase_told, task_told, ExecutesIn, is_listening, polled, RestsIn, Stays, MovesIn, MovesTask, Fdc, Phase, Execute, Board, controller_of, Works, WorksAlone, Step, Turned, only_listens, IsQuiet, HoldsOn, HaveTurned, GoesQuietly, StandsStill, regapped, Steady, Chips, dma_stepped}
-use Rattle.laws_machine.proofs.Facts.{polled_phase, each_task, told_keeps}
+-- Drives that go on turning.
+use Rattle.std.proofs.Common.{◌≡◌, ℕ, ◌+◌, ◌<◌, ◌≤◌, ◌==◌, ◌&&◌, nat_lt, Bool, true, false, Option, None, if◌then◌else◌, refl, sym, ◌∙◌, ap, subst, arith, List, ◌||◌}
+use Rattle.laws_machine.proofs.Common.{spends_twice, DriveState, Becomes, at_speed, turns, track_words, let_pass, Moves, Turned, spends_itself, becomes_at, Spends, phase_told, task_told, ExecutesIn, is_listening, polled, RestsIn, Stays, MovesIn, MovesTask, Fdc, Phase, Execute, Board, controller_of, Works, WorksAlone, Step, only_listens, IsQuiet, HoldsOn, HaveTurned, GoesQuietly, StandsStill, regapped, Steady, Chips, dma_stepped, Low, is_executing, seek_stepped, Seeking, is_seeking, interrupts, is_gated, IsHushed, Setting, setting_of, ChipsStand, Stands, and_right, Channel, Holds}
+use Rattle.laws_machine.proofs.Facts.{different, spin_on, polled_phase, each_task, told_keeps, polled_asking}
 use Rattle.laws_machine.proofs.OnQuiet.Listening.{pulse_none, Listened, word_listens}
-use Rattle.laws_machine.proofs.OnSteps.Words.{controller, drives}
-use Rattle.laws_machine.proofs.OnQuiet.Turning.{turned_calmly, turned_let, turned_moves, turned_still, turned_on}
-use Rattle.laws_machine.proofs.OnSteps.Controllers.{polled_cylinders, polled_seek, dma_only, phase_dma}
+use Rattle.laws_machine.proofs.OnSteps.Words.{controller, drives, polled_cylinders, polled_seek, dma_only, phase_dma, idle_dma, rests_polled}
+
+place_on : (fast : Bool) (place words : ℕ) → place < words
+    → (if fast && (place + 1 == words) then 0 else (if fast then place + 1 else place)) < words
+place_on false place words below = below
+place_on true place words below = by_end (place + 1 == words) refl
+  where
+    by_end : (b : Bool) → (place + 1 == words) ≡ b → (if b then 0 else place + 1) < words
+    by_end true is = omega arith
+    by_end false is = let unlike = different (place + 1) words is in omega arith
+
+pub turned_let : (old new : DriveState) → Becomes (let_pass old) old new → Turned old new
+turned_let old new is = record {
+  medium = ap (λ s. s.medium) is.becomes;
+  cylinder = ap (λ s. s.cylinder) is.becomes;
+  motor = ap (λ s. s.motor) is.becomes;
+  change = ap (λ s. s.change) is.becomes;
+  spin = subst (λ n. old.spin ≤ n) (sym (ap (λ s. s.spin) is.becomes)) (spin_on (turns old && nat_lt old.spin 6250) old.spin);
+  place = λ inside. subst (λ n. n < track_words old.medium) (sym (ap (λ s. s.place) is.becomes))
+      (place_on (at_speed old) old.place (track_words old.medium) inside);
+  faults = is.never_falls;
+  spends = is.spends;
+}
+
+-- a word time in which no fault comes
+pub calmly : (before after : DriveState) → after ≡ let_pass before → Becomes (let_pass before) before after
+calmly before after is = becomes_at (let_pass before) before after is refl refl
+
+pub turned_calmly : (old new : DriveState) → new ≡ let_pass old → Turned old new
+turned_calmly old new is = turned_let old new (calmly old new is)
+
+pub turned_moves : (pulse : Option Bool) (old new : DriveState) → pulse ≡ None → Moves pulse old new → Turned old new
+turned_moves pulse old new none moves = turned_calmly old new (subst (λ p. Moves p old new) none moves)
+
+pub turned_still : (old new : DriveState) → new ≡ old → Turned old new
+turned_still old new same = record {
+  medium = ap (λ s. s.medium) same;
+  cylinder = ap (λ s. s.cylinder) same;
+  motor = ap (λ s. s.motor) same;
+  change = ap (λ s. s.change) same;
+  spin = let is = ap (λ s. s.spin) same in omega arith;
+  place = λ inside. subst (λ n. n < track_words old.medium) (sym (ap (λ s. s.place) same)) inside;
+  faults = let is = ap (λ s. s.faults) same in omega arith;
+  spends = subst (λ (s : DriveState). Spends old.faults old.left s.faults s.left) (sym same) (spends_itself old.faults old.left);
+}
+
+pub turned_on : (a b c : DriveState) → Turned a b → Turned b c → Turned a c
+turned_on a b c first second = record {
+  medium = second.medium ∙ first.medium;
+  cylinder = second.cylinder ∙ first.cylinder;
+  motor = second.motor ∙ first.motor;
+  change = second.change ∙ first.change;
+  spin = let one = first.spin in let two = second.spin in omega arith;
+  place = λ inside. subst (λ medium. c.place < track_words medium) first.medium
+      (second.place (subst (λ medium. b.place < track_words medium) (sym first.medium) (first.place inside)));
+  faults = let one = first.faults in let two = second.faults in omega arith;
+  spends = spends_twice a.faults b.faults c.faults a.left b.left c.left first.spends second.spends;
+}
+
+-- ---- A quiet machine, through device steps
 
 -- ---- the word time
 
@@ -150,3 +207,134 @@ idles_still old gaps fresh = record { chips = refl; first = refl; second = refl;
 pub quietly : (begun : ℕ) (start : Board) → Steady (GoesQuietly begun start)
 quietly begun start =
     record { step = step_quietly begun start; idle = λ old gaps fresh. still_quietly begun start old (regapped gaps fresh old) (idles_still old gaps fresh) }
+
+-- ---- between two data commands: device steps leave a setting
+
+-- outside execution a controller stays in its phase, with DRQ as it was
+pub record Stayed (old new : Fdc) : Type 0 where
+  pub phase : new.phase ≡ old.phase
+  pub asking : new.asking ≡ old.asking
+
+pub rested : (old new : Fdc) (track0 : Bool) → is_executing old.phase ≡ false → RestsIn (polled old).phase track0 (polled old) new → Stayed old new
+rested old new track0 idle rests =
+    let is = rests_polled old new track0 idle rests in
+    record { phase = ap (λ fdc. fdc.phase) is ∙ polled_phase old; asking = ap (λ fdc. fdc.asking) is ∙ polled_asking old }
+
+-- ---- INT
+
+-- INT stays low if no seek runs and no poll is to come
+record StaysLow (new : Fdc) : Type 0 where
+  low : new.interrupt ≡ false
+  polled : new.poll_due ≡ false
+
+pub polled_same : (old : Fdc) → old.poll_due ≡ false → polled old ≡ old
+polled_same old none = rw none refl
+
+low_or : (seeking : Bool) → seeking ≡ false → (interrupt rest : Bool) → interrupt ≡ false → (interrupt || (seeking && rest)) ≡ false
+low_or seeking none interrupt rest low = rw (low, none) refl
+
+low_rested : (old new : Fdc) (track0 : Bool) → is_executing old.phase ≡ false → old.seeks.seek ≡ None → old.poll_due ≡ false → old.interrupt ≡ false
+    → RestsIn (polled old).phase track0 (polled old) new → StaysLow new
+low_rested old new track0 idle none unpolled low rests =
+    let same : new ≡ seek_stepped track0 old = rests_polled old new track0 idle rests ∙ ap (seek_stepped track0) (polled_same old unpolled) in
+    record {
+      low = ap (λ fdc. fdc.interrupt) same ∙ low_or (is_seeking old.seeks) (not_seeking old.seeks none) old.interrupt _ low;
+      polled = ap (λ fdc. fdc.poll_due) same ∙ unpolled;
+    }
+  where
+    not_seeking : (seeks : Seeking) → seeks.seek ≡ None → is_seeking seeks ≡ false
+    not_seeking seeks none = rw none refl
+
+step_low : (old new : Board) → is_executing (controller_of old).phase ≡ false → (controller_of old).seeks.seek ≡ None → IsHushed old → (step : Step old new) → StaysLow step.between
+step_low old new idle none hushed step = let low = low_rested (controller_of old) step.between in
+    controller (StaysLow step.between) old new step (λ before after works. low (before.cylinder == 0) idle none hushed.polled hushed.low works.rests)
+    (λ works. low false idle none hushed.polled hushed.low works.rests)
+
+step_hushed : (old new : Board) → (step : Step old new) → step.between.asking ≡ false → StaysLow step.between → IsHushed new
+step_hushed old new step quiet low =
+    let chips : Chips = record old.bus.chips { controller = step.between } in
+    let same : (dma_stepped chips).controller ≡ step.between = ap (λ c. c.controller) (idle_dma chips quiet) in
+    let now : controller_of new ≡ step.between = ap (λ bus. bus.chips.controller) step.bus ∙ same in
+    record {
+      low = ap (λ fdc. fdc.interrupt) now ∙ low.low;
+      polled = ap (λ fdc. fdc.poll_due) now ∙ low.polled;
+      level = ap (λ bus. bus.latch.level) step.bus ∙ (ap interrupts same ∙ and_right (is_gated step.between) step.between.interrupt low.low);
+    }
+
+pub step_stayed : (old new : Board) → is_executing (controller_of old).phase ≡ false → (step : Step old new)
+    → Stayed (controller_of old) step.between × Stays (controller_of old) step.between
+step_stayed old new idle step = controller (Stayed (controller_of old) step.between × Stays (controller_of old) step.between) old new step
+    (λ before after works. (rested (controller_of old) step.between (before.cylinder == 0) idle works.rests, works.stays))
+    (λ works. (rested (controller_of old) step.between false idle works.rests, works.stays))
+
+-- another channel that is set so, and another request
+pub stands_beside : (old : Chips) (set : Setting) (now : Chips) (channel set_channel : Channel) (holding : Holds) → channel ≡ set_channel → holding.stalls ≡ now.holding.stalls → ChipsStand set old now
+    → ChipsStand (record set { channel = set_channel }) old (record now { channel = channel; holding = holding })
+stands_beside old set now channel set_channel holding is stalls was = record {
+  controller = was.controller;
+  phase = was.phase;
+  command = was.command;
+  rate = was.rate;
+  low = was.low;
+  channel = is;
+  memory = was.memory;
+  stalls = stalls ∙ was.stalls;
+}
+
+stands_dma : (old : Chips) (set : Setting) (now : Chips) → ChipsStand set old now → ChipsStand set old (dma_stepped now)
+stands_dma old set now was =
+    subst (ChipsStand set old) (sym (idle_dma now was.low)) (stands_beside old set now now.channel set.channel (record now.holding { request = Low }) was.channel refl was)
+
+stands_word : (old : Chips) (set : Setting) (now : Chips) (between : Fdc) → ChipsStand set old now → HoldsOn old.controller.data_commands old.controller between
+    → Stayed now.controller between → Stays now.controller between → ChipsStand set old (record now { controller = between })
+stands_word old set now between was holds stayed stays = record {
+  controller = holds;
+  phase = stayed.phase ∙ was.phase;
+  command = stays.command ∙ was.command;
+  rate = stays.rate ∙ was.rate;
+  low = stayed.asking ∙ was.low;
+  channel = was.channel;
+  memory = was.memory;
+  stalls = was.stalls;
+}
+
+pub step_stands : (start : Board) (set : Setting) (old new : Board) → Step old new → Stands set start old → Stands set start new
+step_stands start set old new step was =
+    let works = step_works (controller_of start).data_commands (controller_of start) old new was.chips.controller step in
+    let (stayed, stays) = step_stayed old new (ap is_executing was.chips.phase ∙ was.idle) step in
+    record {
+      idle = was.idle;
+      chips = subst (ChipsStand set start.bus.chips) (sym (ap (λ bus. bus.chips) step.bus))
+          (stands_dma start.bus.chips set (record old.bus.chips { controller = step.between })
+          (stands_word start.bus.chips set old.bus.chips step.between was.chips works.controller stayed stays));
+      drives = drives_on start old new was.drives works.drives;
+      hush = λ first. step_hushed old new step (stayed.asking ∙ was.chips.low)
+          (step_low old new (ap is_executing was.chips.phase ∙ was.idle) was.chips.controller.quiet.no_seek (was.hush first) step);
+    }
+
+pub still_stands : (start : Board) (set : Setting) (old new : Board) → StandsStill old new → Stands set start old → Stands set start new
+still_stands start set old new still was = record {
+  idle = was.idle;
+  chips = subst (ChipsStand set start.bus.chips) (sym still.chips) was.chips;
+  drives = drives_on start old new was.drives (drives_still old new still);
+  hush = λ first. let before = was.hush first in record {
+    low = ap (λ chips. chips.controller.interrupt) still.chips ∙ before.low;
+    polled = ap (λ chips. chips.controller.poll_due) still.chips ∙ before.polled;
+    level = still.level ∙ before.level;
+  };
+}
+
+pub starts_standing : (board : Board) → IsQuiet (controller_of board) → is_executing (controller_of board).phase ≡ false → (controller_of board).asking ≡ false
+    → Stands (setting_of board) board board
+starts_standing board quiet idle low =
+    let all = starts_quietly board quiet in
+    record {
+      idle = idle;
+      chips = record { controller = all.controller; phase = refl; command = refl; rate = refl; low = low; channel = refl; memory = refl; stalls = refl };
+      drives = all.drives;
+      hush = λ first. first;
+    }
+
+pub standing : (start : Board) (set : Setting) → Steady (Stands set start)
+standing start set =
+    record { step = step_stands start set; idle = λ old gaps fresh. still_stands start set old (regapped gaps fresh old) (idles_still old gaps fresh) }

@@ -2,18 +2,15 @@
 use Rattle.std.proofs.Common.{◌≡◌, ◌⊎◌, inl, inr, ℕ, ◌≤◌, ◌==◌, ◌&&◌, Bool, true, false, length, if◌then◌else◌, refl, sym, ap, subst, arith, []}
 use Rattle.laws_machine.proofs.Common.{begun, IsReadingData, Sent, is_executing, given, phase_after, interrupt_after, asks, is_gated, Fdc, Phase, Command, Execute, Task, AreShort, Holds, IsShort, shown, Board, controller_of, holds_of, is_controllers, WritesPort, Inputs, Outputs, shown_again, Chips, StandsStill, read_from, CanBegin, Scene, wait_left, IsSoonOver, ReadSoon, ReadPrompt, false≢true, after_read, controller_after, IsGrantedSoon, new_past, Stalled}
 use Rattle.laws_machine.proofs.Facts.{quiet_task}
-use Rattle.laws_machine.proofs.OnSteps.Runs.{gap, outputs}
-use Rattle.laws_machine.proofs.OnSteps.Stalls.{gap_since}
-use Rattle.laws_machine.specs.OnOrders.Orders as order
-use Rattle.laws_machine.proofs.OnReads.Accesses.{busy_before, calm_read}
+use Rattle.laws_machine.proofs.OnSteps.Runs.{gap, outputs, gap_since, shown_short}
 use Rattle.laws_machine.proofs.OnOrders.Accesses.{begun_underway, read_between}
 use Rattle.laws_machine.proofs.OnOrders.Steps.{still_keeps}
-use Rattle.laws_machine.proofs.OnReads.HeldCalls.{still_in_time, read_in_time, read_since}
-use Rattle.laws_machine.proofs.OnReads.InTime.{begun_in_time}
-use Rattle.laws_machine.proofs.OnSteps.Short.{shown_short}
+use Rattle.laws_machine.proofs.OnReads.InTime.{begun_in_time, still_in_time, read_in_time, read_since}
 use Rattle.laws_machine.proofs.OnReads.EndMoves.{request_short, asks_up}
 use Rattle.laws_machine.proofs.OnReads.EndSteps.{soon_over, prompting}
 use Rattle.laws_machine.proofs.OnOrders.Beginning.{begun_at}
+use Rattle.laws_machine.proofs.OnReads.Steps.{busy_before, calm_read}
+use Rattle.laws_machine.specs.OnOrders.Orders as order
 
 -- ---- a call that leaves the chips
 

@@ -2,11 +2,11 @@
 use Rattle.std.proofs.Common.{◌≡◌, ◌⊎◌, inl, inr, ℕ, ◌+◌, ◌-◌, ◌*◌, ◌≤◌, ◌==◌, ◌&&◌, ◌||◌, not, nat_le, nat_lt, Bool, true, false, [], length, drop, if◌then◌else◌, refl, sym, ◌∙◌, ap, subst, arith}
 use Rattle.laws_machine.proofs.Common.{Rose, Fifo, room_of, worth_fetching, ReadStage, fifo_told, taken_out, phase_asks, task_asks, phase_told, is_executing, is_over, is_reading, asks, is_gated, phase_counted, Fdc, Phase, Execute, Task, next_entry, Holds, IsShort, is_due, looked, shown, waited, counted, DmaRequest, Low, High, can_move, moved_to_memory, moved_from_memory, told_if, looked_at, shown_again, Chips, IsRuled, lingers, task_lingers, steps_taken, wait_left, most_steps_of, IsSoonOver, and_from, cases_lt, cond-true, eqb-false, false_from_ne_true, false≢true, lt-ltb, grants, moved_up_to, dma_stepped, ReadTask as Read, is_late}
 use Rattle.pc_bus.specs.Transfers.{moved}
-use Rattle.laws_machine.proofs.OnSteps.Stalls.{up_to_holding}
 use Rattle.laws_machine.proofs.OnSteps.Transfers.{up_to, by_request}
 use Rattle.laws_machine.proofs.OnReads.Served.{served, left_reading}
-use Rattle.laws_machine.proofs.OnReads.EndWords.{IsReadingAt, HasEnded}
-use Rattle.laws_machine.proofs.OnSteps.Controllers.{by_bytes}
+use Rattle.laws_machine.proofs.OnSteps.Words.{by_bytes}
+use Rattle.laws_machine.proofs.OnSteps.Runs.{up_to_holding}
+use Rattle.laws_machine.proofs.OnReads.Words.{IsReadingAt, HasEnded}
 
 -- ---- how a request is dealt with
 

@@ -2,18 +2,15 @@
 use Rattle.std.proofs.Common.{◌≡◌, ◌⊎◌, inl, inr, ℕ, ◌+◌, ◌*◌, ◌%◌, ◌≤◌, ◌==◌, bit_and, Bool, true, false, List, length, refl, sym, ◌∙◌, ap, subst, arith}
 use Rattle.laws_machine.proofs.Common.{Rose, DriveState, gate, Past, phase_asks, Sent, MayReadIn, MayReadTask, is_executing, is_over, asks, is_gated, polled, RestsIn, phase_counted, task_counted, Fdc, Phase, Execute, Task, IsShort, Board, controller_of, drive_in, holds_of, Works, Step, looked_at, Chips, Steady, Keeping, Scene, IsScene, track_met, IsHearing, lingers, steps_taken, wait_left, most_steps, most_steps_of, IsSoonOver, ReadSoon, ReadPrompt, cases_Bool, false≢true, grants, paced, ReadTask as Read}
 use Rattle.laws_machine.proofs.Facts.{polled_phase}
-use Rattle.laws_machine.proofs.OnSteps.Short.{holds_stay_short, looked_short}
-use Rattle.laws_machine.proofs.OnSteps.Stalls.{dma_stalls}
-use Rattle.laws_machine.proofs.OnSteps.Words.{selected}
-use Rattle.laws_machine.specs.OnOrders.Orders as order
+use Rattle.laws_machine.proofs.OnSteps.Words.{selected, polled_fifo}
 use Rattle.laws_machine.proofs.OnOrders.Steps.{underway}
-use Rattle.laws_machine.proofs.OnReads.Words.{length-met}
+use Rattle.laws_machine.proofs.OnReads.Words.{length-met, GoesOn, WordOn, few_in, word_on, words_few}
 use Rattle.laws_machine.proofs.OnReads.InTime.{step_in_time}
 use Rattle.laws_machine.proofs.OnReads.Served.{phase_again}
-use Rattle.laws_machine.proofs.OnReads.Timely.{flows_in}
-use Rattle.laws_machine.proofs.OnSteps.Controllers.{polled_fifo}
 use Rattle.laws_machine.proofs.OnReads.EndMoves.{Dealt, dealt, looks_or_stalls, IsBehind, goes_soon, ends_soon}
-use Rattle.laws_machine.proofs.OnReads.EndWords.{GoesOn, WordOn, few_in, word_on, words_few}
+use Rattle.laws_machine.proofs.OnSteps.Runs.{dma_stalls, holds_stay_short, looked_short}
+use Rattle.laws_machine.proofs.OnReads.IdWords.{flows_in}
+use Rattle.laws_machine.specs.OnOrders.Orders as order
 
 -- until the terminal count the channel grants
 counted_task : (past : Past) (sent : Sent) (head_drive steps : ℕ) (task : Task) (asking : Bool) (fifo : List ℕ)

@@ -3,8 +3,7 @@ use Rattle.std.proofs.Common.{◌≡◌, ℕ, zero, suc, ◌+◌, ◌≤◌, Boo
 use Rattle.laws_machine.proofs.Common.{next_entry, rest_of, Board, RunsGap, Inputs, Outputs, Waits, stirred, irq_taken, regapped, read_from, Acts, Goes, Touches, byte_set, RunsUnset}
 use Rattle.pc_bus.specs.Steps.{Runs}
 use Rattle.laws_machine.specs.OnSteps.Lasts.{Lasts, clock_of, gap_steps, gaps_left}
-use Rattle.laws_machine.proofs.OnSteps.Counted.{goes_counted}
-use Rattle.laws_machine.proofs.OnSteps.Moves.{goes_on, wait_goes, input_goes, output_goes}
+use Rattle.laws_machine.proofs.OnSteps.Moves.{goes_on, wait_goes, input_goes, output_goes, goes_counted}
 use Rattle.laws_machine.proofs.OnSteps.Runs.{unset_runs}
 
 -- ---- gaps

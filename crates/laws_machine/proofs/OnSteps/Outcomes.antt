@@ -1,11 +1,11 @@
 -- What a word time makes of a data command in execution: the command goes on, or it gives its results.
 use Rattle.std.proofs.Common.{◌≡◌, ◌⊎◌, inl, inr, ℕ, ◌+◌, ◌≤◌, ◌==◌, ◌%◌, ◌/◌, Bool, true, false, List, length, drop, if◌then◌else◌, Option, Some, None, refl, sym, ◌∙◌, ap, subst, arith}
 use Rattle.laws_machine.proofs.Common.{DriveState, is_protected, Chrn, Ending, IsFailure, Fifo, FormatNext, WriteNext, Protected, NoMark, Overrun, Late, FormatDoes, after_laid, is_executing, is_listening, Hears, StepsOn, SearchOutcome, ReadOutcome, IsTime, WordTime, Saw, KeptOut, Wrote, Stopped, after_searched, after_heard, gone_on, gone_on_reading, over_or_on, at_stage, ending_of, is_full, pushed, finished, WritesTask, WriteDoes, after_next, without_byte, Fdc, Task, Format, Formatting, Writing, Reading, MakesTask, is_unread, refuses_as, fills, fills_task, false≢true, length-drop, refuses, false_from_ne_true, Stops, is_ended, ReadTask as Read, ReadId, WriteTask as Write}
+use Rattle.fdc_stages.specs.Writings.{EndsWell, FailsWell, IsEnd, needs_byte}
 use Rattle.fdc_phases.specs.Formatting as laying
 use Rattle.fdc_stages.specs.Formats as formats
 use Rattle.fdc_stages.specs.Readings as given
 use Rattle.fdc_stages.specs.Searches as searched
-use Rattle.fdc_stages.specs.Writings.{EndsWell, FailsWell, IsEnd, needs_byte}
 use Rattle.fdc_stages.specs.declared.formatting.FormatNext.TheVariants as format_next
 use Rattle.fdc_stages.specs.declared.writing.WriteNext.TheVariants as write_next
 

@@ -5,15 +5,12 @@ use Rattle.laws_machine.proofs.Common.{Seeking, is_seeking, sensed, seek_bits, S
 use Rattle.fdc_commands.specs.declared.motion.Motion.{Motion}
 use Rattle.fdc_commands.specs.declared.motion.Motion.TheVariants.{Outward, Toward, Ended}
 use Rattle.fdc_commands.specs.declared.command.Command.{Command}
-use Rattle.fdc_commands.specs.declared.command.Command.TheVariants as command
-use Rattle.laws_machine.proofs.OnSteps.Acts.{Touches, at_controller, by_write}
-use Rattle.laws_machine.proofs.OnSteps.DataEnds.{zero_of}
-use Rattle.laws_machine.proofs.OnSteps.Moves.{lasts, meets_act, meets_here, meets_step, meets_within}
-use Rattle.laws_machine.proofs.OnSteps.Transfers.{after_step}
-use Rattle.laws_machine.proofs.OnSteps.Words.{controller}
+use Rattle.laws_machine.proofs.OnSteps.Moves.{lasts, meets_act, meets_here, meets_step, meets_within, zero_of}
+use Rattle.laws_machine.proofs.OnSteps.Transfers.{after_step, Touches, at_controller, by_write}
+use Rattle.laws_machine.proofs.OnSteps.Words.{controller, by_bytes, polled_seek, rests_polled}
 use Rattle.laws_machine.proofs.Facts.{told_busy, idle_read, polled_phase, polled_keeps}
-use Rattle.laws_machine.proofs.OnSteps.Controllers.{by_bytes, polled_seek, rests_polled}
-use Rattle.laws_machine.proofs.OnWrites.Stillness.{no_bits}
+use Rattle.laws_machine.proofs.OnWrites.Guards.{no_bits}
+use Rattle.fdc_commands.specs.declared.command.Command.TheVariants as command
 
 -- ---- the seek itself
 

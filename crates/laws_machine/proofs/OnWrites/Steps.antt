@@ -1,9 +1,9 @@
 -- The word time of a write.
 use Rattle.std.proofs.Common.{◌≡◌, ◌⊎◌, inl, inr, ℕ, zero, suc, ◌+◌, ◌/◌, ◌%◌, ◌≤◌, Bool, true, false, List, [], ◌∷◌, ◌++◌, length, refl, sym, ◌∙◌, ap, subst, arith, length-append}
 use Rattle.laws_machine.proofs.Common.{Chrn, DriveState, is_protected, rate_of, Fifo, Past, heard, wrote, turns_after, IsWriting, WriteStage, IsAddressAt, with_word, Sent, stepped, is_executing, rate_fits, WordTime, Saw, KeptOut, Wrote, Stopped, IsTime, after_time, WritesTask, WriteDoes, MayWriteIn, MayWriteTask, Fdc, Phase, Execute, Task, Writing, led, Scene, IsRecorded, IsScene, head_sent, IsAtDrive, IsAtWindow, Window, false≢true, HasTurned, opens, IsAtStage, MayWrite, IsWritingOn, address_in, few_led, saw_on, wrote_on, stopped_on, still_unprotected, heard_met, outset_of, is_word_due as is_due, WriteTask as Write}
-use Rattle.fdc_stages.specs.declared.writing.WriteStage.TheVariants as stage
 use Rattle.laws_machine.proofs.OnSteps.Outcomes.{closes_not, covered as refused, write_outcome}
 use Rattle.laws_machine.proofs.OnOrders.Behind.{IsTimedLed}
+use Rattle.fdc_stages.specs.declared.writing.WriteStage.TheVariants as stage
 
 -- ---- stages
 

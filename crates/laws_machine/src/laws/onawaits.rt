@@ -26,7 +26,7 @@ pub fn a_data_command_is_awaited()
 /// before goes on until its end is reported. It goes on through device steps, waits, spurious interrupts that are
 /// taken, and reads of MSR. If all DMA latencies were below 256 when it began, a READ DATA ends soon after its field,
 /// whatever late DMAs are counted.
-#[tactic(auto, using(crate::proofs::OnAwaits::Courses::going))]
+#[tactic(auto, using(crate::proofs::OnAwaits::Accesses::going))]
 pub fn a_data_command_goes_on()
     ensures begins { (order : Order) (scene : Scene) (byte : ℕ) (old new : Board) → Outputs 0x3F5 byte old new → CanBegin order scene byte old
         → StandsReady old → GoesOn order scene old new }
@@ -40,7 +40,7 @@ pub fn a_data_command_goes_on()
 /// If all DMA latencies were below 256 when it began, such a data command takes no more device steps than two
 /// revolutions of the track have words, and 258 more. It is a READ DATA that may need the 258: it waits for the grant
 /// of its last bytes.
-#[tactic(auto, using(crate::proofs::OnAwaits::Few::few))]
+#[tactic(auto, using(crate::proofs::OnAwaits::Accesses::few))]
 pub fn a_data_command_takes_few_steps()
     ensures { (order : Order) (scene : Scene) (start now : Board) → GoesOn order scene start now → AreShort (holds_of start)
         → steps_taken (controller_of now).phase ≤ most_steps_of scene.disk.words_per_track }

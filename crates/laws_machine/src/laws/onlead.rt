@@ -19,7 +19,7 @@ ghost use Rattle.laws_machine.specs.OnWrites.Results.{WriteEnded};
 /// the whole window of a write stands, and the whole revolution of a FORMAT TRACK is laid out. At any time, a READ DATA
 /// has changed memory in its range alone. A command that writes has left the medium as it was, or the first words of
 /// what it writes stand there.
-#[tactic(auto, using(crate::proofs::OnLead::Steps::warming, crate::proofs::OnLead::Ends::read_outside, crate::proofs::OnLead::Written::only, crate::proofs::OnLead::Accesses::still_keeps, crate::proofs::OnLead::Accesses::can_warm, crate::proofs::OnLead::Ends::id_memory))]
+#[tactic(auto, using(crate::proofs::OnLead::Laying::warming, crate::proofs::OnLead::Spinning::read_outside, crate::proofs::OnLead::Written::only, crate::proofs::OnLead::Laying::still_keeps, crate::proofs::OnLead::Laying::can_warm, crate::proofs::OnLead::Spinning::id_memory))]
 pub fn a_command_begun_before_speed()
     ensures steady { (order : Order) (scene : Scene) → Steady (WarmsUp order scene) }
     ensures stands { (order : Order) (scene : Scene) (old new : Board) → StandsStill old new → WarmsUp order scene old → WarmsUp order scene new }

@@ -17,7 +17,7 @@ ghost use Rattle.laws_machine.specs.OnWrites.Heads.{IsIdle, RestsIdle, StaysStil
 /// The port write that completes the bytes of the command begins it, and moves no heads. A read of a port keeps what is
 /// known of the command until the last result byte was read. So does a write that leaves DOR, the rate and the channel,
 /// for example a byte to the data port, or a write that clears the channel's flip-flop.
-#[tactic(auto, using(crate::proofs::OnOrders::Steps::underway, crate::proofs::OnOrders::Steps::still_keeps, crate::proofs::OnOrders::Outputs::leaves_data))]
+#[tactic(auto, using(crate::proofs::OnOrders::Steps::underway, crate::proofs::OnOrders::Steps::still_keeps, crate::proofs::OnOrders::Accesses::leaves_data))]
 pub fn a_data_command_stays_underway()
     ensures steady { (order : Order) (scene : Scene) → Steady (Underway order scene) }
     ensures stands { (order : Order) (scene : Scene) (old new : Board) → StandsStill old new → Underway order scene old → Underway order scene new }
@@ -39,7 +39,7 @@ pub fn a_data_command_stays_underway()
 ///
 /// Once the READ DATA gives its results, the machine is idle, and it is idle after the last result byte too. While the
 /// machine is idle, no byte moves at all.
-#[tactic(auto, using(crate::proofs::OnOrders::Outside::fetching, crate::proofs::OnOrders::Outside::outside, crate::proofs::OnOrders::Outside::still_fetching, crate::proofs::OnOrders::Outside::idles))]
+#[tactic(auto, using(crate::proofs::OnOrders::Punctual::fetching, crate::proofs::OnOrders::Punctual::outside, crate::proofs::OnOrders::Punctual::still_fetching, crate::proofs::OnOrders::Punctual::idles))]
 pub fn a_read_moves_bytes_of_its_range_alone()
     ensures outside { (scene : Scene) (byte n : ℕ) (old between new : Board) → CanFetch scene byte old → Outputs 0x3F5 byte old between → Runs n between new
         → StaysOutside scene (memory_of new) }

@@ -15,7 +15,7 @@ pub fn quiet_steps_turn_drives()
 {}
 
 /// Between two data commands device steps leave what was set, memory, and the count of late DMAs, and DRQ stays low.
-#[tactic(auto, using(crate::proofs::OnQuiet::Standing::starts_standing, crate::proofs::OnQuiet::Standing::still_stands, crate::proofs::OnQuiet::Standing::standing))]
+#[tactic(auto, using(crate::proofs::OnQuiet::Steps::starts_standing, crate::proofs::OnQuiet::Steps::still_stands, crate::proofs::OnQuiet::Steps::standing))]
 pub fn steps_leave_a_setting()
     ensures starts { (board : Board) → IsQuiet (controller_of board) → is_executing (controller_of board).phase ≡ false → (controller_of board).asking ≡ false
         → Stands (setting_of board) board board }

@@ -1,4 +1,4 @@
-use Rattle.laws_commands.proofs.FormatRun.{format_stores}
+use Rattle.laws_commands.proofs.CopyRun.{format_stores}
 use Rattle.laws_commands.proofs.format_runs.format_stores_a_formatted_disk.Goals as goal
 
 pub returns : goal.returns

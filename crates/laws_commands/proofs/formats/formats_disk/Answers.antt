@@ -1,4 +1,4 @@
-use Rattle.laws_commands.proofs.Formatted.{formats_disk, stores_disk}
+use Rattle.laws_commands.proofs.Prepared.{formats_disk, stores_disk}
 use Rattle.laws_commands.proofs.formats.formats_disk.Goals as goal
 
 pub returns-clause-leaves : goal.returns-clause-leaves

@@ -1,4 +1,4 @@
-use Rattle.laws_commands.proofs.RescueFurther.{further_rescue_complete}
+use Rattle.laws_commands.proofs.RescueTargets.{further_rescue_complete}
 use Rattle.laws_commands.proofs.rescue_ends.further_rescue_ends_well.Goals as goal
 
 pub returns : goal.returns

@@ -1,4 +1,4 @@
-use Rattle.laws_commands.proofs.RescueEnds.{new_rescue_complete}
+use Rattle.laws_commands.proofs.Storing.{new_rescue_complete}
 use Rattle.laws_commands.proofs.rescue_ends.new_rescue_ends_well.Goals as goal
 
 pub returns : goal.returns

@@ -19,7 +19,7 @@ pub fn a_served_request_falls()
 /// A READ DATA that begins with the FIFO on, threshold 8 and DRQ let out ends with OR only if a late DMA was counted
 /// since. Each device step either keeps the command in time or counts a late DMA. A call that leaves the chips and the
 /// drives keeps the command in time, and so does a port read until the last result byte was read.
-#[tactic(auto, using(crate::proofs::OnReads::InTime::in_time, crate::proofs::OnReads::HeldCalls::still_in_time))]
+#[tactic(auto, using(crate::proofs::OnReads::InTime::in_time, crate::proofs::OnReads::InTime::still_in_time))]
 pub fn a_read_overruns_only_by_a_stall()
     ensures begins { (scene : Scene) (byte : ℕ) (old new : Board) → Outputs 0x3F5 byte old new → CanBegin Read scene byte old
         → (controller_of old).fifo.on ≡ true → (controller_of old).fifo.threshold ≡ 8 → is_gated (controller_of old) ≡ true

@@ -7,7 +7,7 @@ ghost use Rattle.laws_machine.specs.OnSteps.Steady.{Steady};
 
 /// If no seek was begun, device steps move no heads, change no change line and stop no medium, whatever command is in
 /// execution.
-#[tactic(auto, using(crate::proofs::OnWrites::Stillness::stays_none, crate::proofs::OnWrites::Stillness::stilling, crate::proofs::OnWrites::Stillness::no_bits))]
+#[tactic(auto, using(crate::proofs::OnWrites::Guards::stays_none, crate::proofs::OnWrites::Guards::stilling, crate::proofs::OnWrites::Guards::no_bits))]
 pub fn device_steps_move_no_heads()
     ensures starts { (board : Board) → HasNoSeek board → StaysStill board board }
     ensures steady { (start : Board) → Steady (StaysStill start) }
@@ -15,7 +15,7 @@ pub fn device_steps_move_no_heads()
 {}
 
 /// Once a data command is over, device steps change no medium and move no byte.
-#[tactic(auto, using(crate::proofs::OnWrites::Idle::idle_none, crate::proofs::OnWrites::Idle::idling))]
+#[tactic(auto, using(crate::proofs::OnWrites::Gates::idle_none, crate::proofs::OnWrites::Gates::idling))]
 pub fn an_idle_machine_stays()
     ensures starts { (board : Board) → IsIdle board → StaysIdle board board }
     ensures steady { (start : Board) → Steady (StaysIdle start) }

@@ -8,7 +8,7 @@ ghost use Rattle.laws_machine.specs.OnWrites.Timely.{IsOnTime};
 
 /// In each device step, a WRITE DATA, WRITE DELETED or FORMAT TRACK that is on time stays on time and doesn't end with
 /// OR, or else a late DMA is counted.
-#[tactic(auto, using(crate::proofs::OnWrites::OnTime::on_time))]
+#[tactic(auto, using(crate::proofs::OnWrites::IdlePorts::on_time))]
 pub fn device_steps_are_on_time()
     ensures { Keeping IsOnTime }
 {}

@@ -1,4 +1,4 @@
-use Rattle.laws_machine.proofs.OnAwaits.Courses.{goes_begins, goes_status, goes_stray}
+use Rattle.laws_machine.proofs.OnAwaits.Accesses.{goes_begins, goes_status, goes_stray}
 use Rattle.laws_machine.proofs.laws.onawaits.a_data_command_goes_on.Goals as goal
 
 pub returns-clause-begins : goal.returns-clause-begins

@@ -1,5 +1,5 @@
-use Rattle.laws_machine.proofs.OnLead.Accesses.{begins, inputs_keep, outputs_keep}
-use Rattle.laws_machine.proofs.OnLead.Ends.{id_found, read_found}
+use Rattle.laws_machine.proofs.OnLead.Laying.{begins, inputs_keep, outputs_keep}
+use Rattle.laws_machine.proofs.OnLead.Spinning.{id_found, read_found}
 use Rattle.laws_machine.proofs.OnLead.Written.{track_found, window_found}
 use Rattle.laws_machine.proofs.laws.onlead.a_command_begun_before_speed.Goals as goal
 

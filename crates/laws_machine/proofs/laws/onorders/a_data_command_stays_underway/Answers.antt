@@ -1,6 +1,4 @@
-use Rattle.laws_machine.proofs.OnOrders.Accesses.{begins, inputs_keep}
-use Rattle.laws_machine.proofs.OnOrders.Heads.{begin_leaves, begin_still}
-use Rattle.laws_machine.proofs.OnOrders.Outputs.{leaves_clear, outputs_keep}
+use Rattle.laws_machine.proofs.OnOrders.Accesses.{begins, inputs_keep, begin_leaves, begin_still, leaves_clear, outputs_keep}
 use Rattle.laws_machine.proofs.laws.onorders.a_data_command_stays_underway.Goals as goal
 
 pub returns-clause-begins : goal.returns-clause-begins

@@ -1,4 +1,4 @@
-use Rattle.laws_machine.proofs.OnOrders.Outside.{begins, outputs_fetch, read_outside, read_over, reads_on, runs_outside}
+use Rattle.laws_machine.proofs.OnOrders.Punctual.{begins, outputs_fetch, read_outside, read_over, reads_on, runs_outside}
 use Rattle.laws_machine.proofs.laws.onorders.a_read_moves_bytes_of_its_range_alone.Goals as goal
 
 pub returns-clause-outside : goal.returns-clause-outside

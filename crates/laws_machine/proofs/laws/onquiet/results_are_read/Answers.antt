@@ -1,4 +1,4 @@
-use Rattle.laws_machine.proofs.OnQuiet.Given.{results_given}
+use Rattle.laws_machine.proofs.OnQuiet.Accesses.{results_given}
 use Rattle.laws_machine.proofs.laws.onquiet.results_are_read.Goals as goal
 
 pub returns : goal.returns

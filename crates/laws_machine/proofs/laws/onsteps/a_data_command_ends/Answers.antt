@@ -1,4 +1,4 @@
-use Rattle.laws_machine.proofs.OnSteps.DataEnds.{data_ends, data_ends_in_time, data_over, ending}
+use Rattle.laws_machine.proofs.OnSteps.Moves.{data_ends, data_ends_in_time, data_over, ending}
 use Rattle.laws_machine.proofs.laws.onsteps.a_data_command_ends.Goals as goal
 
 pub returns-clause-steps : goal.returns-clause-steps

@@ -1,5 +1,4 @@
-use Rattle.laws_machine.proofs.OnSteps.Counted.{goes_counted}
-use Rattle.laws_machine.proofs.OnSteps.Moves.{waits_goes}
+use Rattle.laws_machine.proofs.OnSteps.Moves.{goes_counted, waits_goes}
 use Rattle.laws_machine.proofs.laws.onsteps.device_steps_are_counted.Goals as goal
 
 pub returns-clause-course : goal.returns-clause-course

@@ -1,4 +1,4 @@
-use Rattle.laws_machine.proofs.OnSteps.Short as short
+use Rattle.laws_machine.proofs.OnSteps.Runs as short
 use Rattle.laws_machine.proofs.laws.onsteps.holds_stay_short.Goals as goal
 
 pub returns : goal.returns

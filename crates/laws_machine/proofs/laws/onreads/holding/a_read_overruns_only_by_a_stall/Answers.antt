@@ -1,5 +1,4 @@
-use Rattle.laws_machine.proofs.OnReads.HeldCalls.{inputs_in_time}
-use Rattle.laws_machine.proofs.OnReads.InTime.{begins_in_time}
+use Rattle.laws_machine.proofs.OnReads.InTime.{inputs_in_time, begins_in_time}
 use Rattle.laws_machine.proofs.laws.onreads.holding.a_read_overruns_only_by_a_stall.Goals as goal
 
 pub returns-clause-begins : goal.returns-clause-begins
