@@ -294,13 +294,14 @@ TELWYDDUS_CALL uint32_t telwyddus_controller_run(telwyddus_controller *controlle
  *   - Results are read, and no pulse of strap_steps is still to come.
  * While heads seek, and while a command is held until they stand, it is the number of steps before the seek can end.
  * The next step then ends the seek, unless a drive loses pulses.
- * While a command reads, and while one that writes searches for its sector, it is computed from the words that pass next
- * under the head. It ends before an address field that a READ ID or a write wants, the data mark of a sector, the next
- * byte for which DRQ rises, the last byte of a sector, and the index. No line changes in so many steps if no planned
- * fault is left, if the track is Plain (docs/MODEL.md), and, for a read, if it has the sector ID once. On any other
- * track a line may change earlier.
- * It is 0 while a command writes or formats, in a VERIFY that reads, while DRQ is up, while a sector's data ends, and
- * where INT of a reset comes in the next step. DONE, EMPTY. */
+ * While a command is executed, it is computed from the words that pass next under the head. It ends before an address
+ * field that a READ ID or a write wants, before the next byte for which DRQ rises, and before the index. In a read it
+ * also ends before the data mark of the sector, and before its last byte. In a write it also ends before the last word
+ * that is written. While a sector or a track is written, no line changes in so many steps, whatever the drive does.
+ * While a command reads or searches, this holds if no planned fault is left, if the track is Plain (docs/MODEL.md), and,
+ * for a read, if it has the sector ID once. On any other track a line may change earlier.
+ * It is 0 in the first step of a command that writes or formats, in a VERIFY that reads, while DRQ is up, while a
+ * sector's data ends in a read, and where INT of a reset comes in the next step. DONE, EMPTY. */
 TELWYDDUS_CALL uint32_t telwyddus_controller_quiet(telwyddus_controller *controller, uint32_t most, uint32_t *steps);
 
 /* Gives the lines: INT, DRQ, whether bytes go to memory, and INDEX of the drive that DOR selects. INDEX is up in the

@@ -1,8 +1,8 @@
 /* quiet - for how long a device of an emulator needs no timer.
  *
- * A guest resets the controller, seeks with the strap for step times and without it, and reads a sector by DMA with the
- * FIFO on. At each moment the program asks `quiet`, makes as many steps one by one, and compares both lines after each of
- * them. Where the number was worked out by hand, it has to be that number, and the step after it has to change a line. The
+ * A guest resets the controller, and seeks with the strap for step times and without it. Then it reads a sector by DMA
+ * with the FIFO on. It writes a sector and formats a track, with the FIFO on and off. At each moment the program asks
+ * `quiet`, makes as many steps one by one, and compares both lines after each of them. Where the number was worked out by hand, it has to be that number, and the step after it has to change a line. The
  * program also counts the timers that a device like c/examples/device.c sets: it waits for the steps of `quiet` and one
  * more, or for 32 steps if `quiet` gives 0. */
 #include "guest.h"
@@ -144,6 +144,42 @@ static void reads(void) {
     printf("%lu timers for a read of a sector that lasts %lu steps\n", count, guest.steps - steps);
 }
 
+/* A write of a sector by DMA, with these options of CONFIGURE: 05 sets the FIFO on with threshold 6, and 20 sets it off.
+ * Each timer but a few is set for a byte, or for 10 bytes with the FIFO on. */
+static void writes(uint8_t options, unsigned long most_timers) {
+    const uint8_t bytes[] = {WRITE, 0, 0, 0, 9, 2, 18, 0x1B, 0xFF}, again[] = {READ, 0, 0, 0, 9, 2, 18, 0x1B, 0xFF};
+    unsigned long count, steps = guest.steps;
+    static uint8_t sector[512];
+    for (int i = 0; i < 512; i++) sector[i] = (uint8_t)(i * 5 + options);
+    configure(&guest, options);
+    channel(&guest, sector, 512);
+    put(&guest, bytes, 9);
+    count = timers(SECOND);
+    finish(&guest);
+    check(guest.results == 7 && guest.result[0] == 0 && guest.passed == 512 && count <= most_timers, "a sector is written in time, with few timers");
+    printf("%lu timers for a write of a sector that lasts %lu steps\n", count, guest.steps - steps);
+    transfer(&guest, again, buffer, 512);
+    check(guest.results == 7 && guest.result[0] == 0 && memcmp(buffer, sector, 512) == 0, "the sector is written");
+}
+
+/* A FORMAT of a track of 18 sectors by DMA. */
+static void formats(uint8_t options, unsigned long most_timers) {
+    const uint8_t bytes[] = {FORMAT, 0, 2, 18, 0x6C, 0xF6};
+    unsigned long count, steps = guest.steps;
+    static uint8_t keys[4 * 18];
+    for (uint8_t r = 1; r <= 18; r++) {
+        const uint8_t key[] = {0, 0, r, 2};
+        memcpy(keys + 4 * (r - 1), key, 4);
+    }
+    configure(&guest, options);
+    channel(&guest, keys, sizeof keys);
+    put(&guest, bytes, 6);
+    count = timers(SECOND);
+    finish(&guest);
+    check(guest.results == 7 && guest.result[0] == 0 && guest.passed == sizeof keys && count <= most_timers, "a track is formatted in time, with few timers");
+    printf("%lu timers for a FORMAT of a track that lasts %lu steps\n", count, guest.steps - steps);
+}
+
 int main(void) {
     for (size_t i = 0; i < FLAT; i++) flat[i] = (uint8_t)(i * 31 + i / 512 * 7);
     import_flat(flat, image);
@@ -153,6 +189,10 @@ int main(void) {
     seeks();
     paced();
     reads();
+    writes(0x05, 100);
+    writes(0x20, 600);
+    formats(0x05, 40);
+    formats(0x20, 120);
     MUST(telwyddus_controller_free(&guest.controller));
     return 0;
 }

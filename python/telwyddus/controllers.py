@@ -168,7 +168,7 @@ class Controller(Planned):
         return int(self._telling_more(ctypes.c_size_t, "dack_block_write", *given(data)))
 
     def quiet(self, most: int) -> int:
-        """A number of device steps, at most `most`, that surely change neither INT nor DRQ. It is 0 within a command."""
+        """A number of device steps, at most `most`, that surely change neither INT nor DRQ."""
         return int(self._told(ctypes.c_uint32, "quiet", count(most)))
 
     def word_time(self) -> int:

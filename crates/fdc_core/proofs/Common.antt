@@ -20,7 +20,7 @@ pub use Rattle.fdc_core.specs.Formatting.{AwaitsIndex, FormatDoes, IsFormatStep,
 pub use Rattle.fdc_core.specs.Heard.{MayRead, MayReadId}
 pub use Rattle.fdc_core.specs.Listening.{ExecutesIn, ExecutesTask, FindsFull, Follows, HasStepsLeft, Hears, HearsIn, Listens, ListensToNone, OverrunsIn, OverrunsTask, SearchHears, SeesTask, SeesUnder, SeesWord, StageHears, StepHears, StepsOn, after_step, is_executing}
 pub use Rattle.fdc_core.specs.Ports.{Gives, GivesNext, after_read, phase_after, resets, result_byte, value_read}
-pub use Rattle.fdc_core.specs.Quiet.{Foresees, GoesOnFor, HasBytesLeft, HasMostLeft, HasNoneWanted, HasSingle, HasWords, HearsWhole, IsCertain, IsCertainOf, IsLongest, IsQuietBy, IsUndisturbed, IsUnmarked, MarksBy, MarksNothing, MayBeMarked, MeetsBy, MeetsNothing, PassNext, ReadsContent, asks_in, asks_soon, past_with, steps_left}
+pub use Rattle.fdc_core.specs.Quiet.{FillsWith, Foresees, GoesOnFor, HasBytesLeft, HasMostLeft, HasNoneWanted, HasSingle, HasSupply, HasWords, HearsWhole, IsCertain, IsCertainOf, IsLongest, IsQuietBy, IsUndisturbed, IsUnmarked, LaysWith, MarksBy, MarksNothing, MayBeMarked, MeetsBy, MeetsNothing, PassNext, ReadsContent, asks_in, asks_soon, lays_for, lays_in, past_with, searches_for, searches_in, steps_left}
 pub use Rattle.fdc_core.specs.Reading.{after_heard, after_searched, at_stage, followed, followed_by, gone_on_reading, is_full, over_or_on, pushed, settled, settled_by}
 pub use Rattle.fdc_core.specs.State.{asks, finished, is_gated, is_held}
 pub use Rattle.fdc_core.specs.Steps.{Ends, EndsIn, Flows, FlowsIn, IsCounted, Moves, MovesDrive, MovesIn, MovesTask, Rests, RestsIn, Stays, let_pass, polled, seek_stepped}
@@ -29,7 +29,7 @@ pub use Rattle.fdc_core.specs.Times.{Closes, IsHeardTime, IsTime, IsWroteTime, K
 pub use Rattle.fdc_core.specs.Transfers.{HearsToWrite}
 pub use Rattle.fdc_core.specs.Waiting.{CanWait, Feeds, Lasts, LastsIn, LastsOn}
 pub use Rattle.fdc_core.specs.Writes.{RestsWritten, WritesIn, WritesOn, WritesTask}
-pub use Rattle.fdc_core.specs.Writing.{HearsAWord, HearsWord, IsWriteStep, IsWriteTime, PutsByte, Stops, StopsWriting, WriteDoes, after_next, byte_taken, fifo_without, gone_or_over, is_end, oldest_of, without_byte}
+pub use Rattle.fdc_core.specs.Writing.{HearsAWord, HearsWord, IsWriteStep, IsWriteTime, PutsByte, PutsWord, Stops, StopsWriting, WriteDoes, after_next, byte_taken, fifo_without, gone_or_over, is_end, oldest_of, without_byte}
 pub use Rattle.fdc_core.specs.Written.{MayFormat, MayWrite}
 pub use Rattle.fdc_core.specs.declared.controller.Fdc.{Fdc}
 pub use Rattle.fdc_phases.specs.Answers.{key_after, no_key, results_of}

@@ -270,6 +270,7 @@ searches_on word writing search next hears = (
   tt,
   omega arith,
   λ up. absurd (false≢true up),
+  λ left some is no_index. absurd (cc is),
 )
 
 writing_hears : (head_drive : ℕ) (writing : Writing) (old : Fdc) → IsQuiet old → wants false false writing.counted old.fifo ≡ false → HearsEach 1 (head_of head_drive) old.rate (writes_at head_drive writing old)

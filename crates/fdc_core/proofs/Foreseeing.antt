@@ -1,8 +1,9 @@
 -- Device steps in a row that surely change neither line.
-use Rattle.std.proofs.Common.{◌≡◌, ◌≤◌, ◌<◌, ◌+◌, ℕ, zero, suc, true, false, List, [], ◌∷◌, ◌++◌, length, take, Some, refl, sym, ap, subst, ◌∙◌, arith}
-use Rattle.fdc_core.proofs.Common.{false≢true, append_assoc, CanTell, DriveState, Becomes, InRange, at_index, is_protected, rate_of, word_under, with_word, Past, heard, is_due, needs_byte, opens, Ending, Done, NoMark, NoSector, NoField, BadCheck, Overrun, NoCount, Protected, Late, head_of, is_listening, rate_fits, Execute, Task, Write, DataRate, Writing, HoldsLines, Works, ExecutesIn, Listens, SeesTask, SeesWord, StepsOn, ExecutesTask, Foresees, IsQuietBy, MovesDrive, MovesIn, MovesTask, let_pass, polled, IsTime, KeptOut, Saw, Stopped, WordTime, Wrote, WritesIn, WritesOn, HearsWord, Stops, StopsWriting, WriteDoes, byte_taken, Fdc}
+use Rattle.std.proofs.Common.{◌≡◌, ◌≤◌, ◌<◌, ◌+◌, ℕ, zero, suc, Bool, true, false, List, [], ◌∷◌, ◌++◌, length, take, Some, refl, sym, ap, subst, ◌∙◌, arith}
+use Rattle.fdc_core.proofs.Common.{false≢true, append_assoc, CanTell, DriveState, Becomes, InRange, at_index, is_protected, rate_of, word_under, with_word, Past, heard, is_due, needs_byte, opens, Ending, Done, NoMark, NoSector, NoField, BadCheck, Overrun, NoCount, Protected, Late, head_of, is_listening, rate_fits, Execute, Task, Write, DataRate, Writing, HoldsLines, Works, ExecutesIn, Listens, SeesTask, SeesWord, StepsOn, ExecutesTask, Foresees, IsQuietBy, MovesDrive, MovesIn, MovesTask, let_pass, polled, IsTime, KeptOut, Saw, Stopped, WordTime, Wrote, WritesIn, WritesOn, HearsWord, Stops, StopsWriting, WriteDoes, byte_taken, Fdc, Execution, Format, Formatting, Sent, Numbers, MayReadIdIn, MayReadIdTask, MayReadIn, MayReadTask, MayWriteIn, MayWriteTask, MayFormatIn, MayFormatTask, IsCertain, searches_in, searches_for}
 use Rattle.drive_model.specs.Ahead.{AreAhead}
 use Rattle.fdc_core.specs.Quiet.{WorksBy}
+use Rattle.fdc_stages.specs.Writings.{is_search}
 use Rattle.fdc_core.proofs.Coursing.{ahead_first, none_comes, unpolled}
 use Rattle.fdc_core.proofs.Quieting.{HasNoFaults, ahead_after, fits_after, passes_calm, sees_ahead, some_none}
 
@@ -167,7 +168,7 @@ none_by old before (suc count) new after some by = absurd (omega (arith, some))
 
 -- in no device step nothing changes
 pub nothing_foreseen : (old : Fdc) (before : DriveState) → Foresees 0 old before
-nothing_foreseen old before = record { identifies = λ past sent may certain. none_by old before; reads = λ past sent may certain single. none_by old before; writes = λ past sent deleted may certain. none_by old before }
+nothing_foreseen old before = record { identifies = λ past sent may certain. none_by old before; reads = λ past sent may certain single. none_by old before; writes = λ past sent deleted may certain. none_by old before; formats = λ past sent numbers may. none_by old before }
 
 -- some of the words ahead are ahead
 pub some_words : (head count : ℕ) (some ahead : List ℕ) (before : DriveState) → some ≡ take (length some) ahead → AreAhead head ahead before → AreAhead head (take count some) before
@@ -178,3 +179,34 @@ pub calm_told : (before : DriveState) → InRange before → before.left ≡ Som
 calm_told before range left =
     let told : CanTell before.faults (Some 0) = subst (λ left. CanTell before.faults left) left range.told in
     record { left = left; below = omega (arith, told) }
+
+-- ---- what a command that writes is foreseen to do
+
+module _ (old : Fdc) (execution : Execution) (count : ℕ) (before : DriveState) (at : old.phase ≡ Execute execution) where
+  pub foresees_write : (writing : Writing) → execution.task ≡ Write writing
+      → ((past : Past) (sent : Sent) (deleted : Bool) → MayWriteTask past sent deleted execution.head_drive execution.steps (Write writing) old.asking old.fifo → (is_search writing.stage ≡ true → IsCertain (head_of sent.head_drive) past.seen before) → IsQuietBy count old before)
+      → Foresees count old before
+  foresees_write writing is does = record {
+    identifies = λ past sent may certain.
+        absurd (subst (λ task. MayReadIdTask past sent execution.head_drive execution.steps task) is (subst (λ phase. MayReadIdIn past sent phase) at may));
+    reads = λ past sent may certain single.
+        absurd (subst (λ task. MayReadTask past sent execution.head_drive execution.steps task old.asking old.fifo.bytes) is (subst (λ phase. MayReadIn past sent phase old.asking old.fifo.bytes) at may));
+    writes = λ past sent deleted may certain.
+        does past sent deleted (subst (λ task. MayWriteTask past sent deleted execution.head_drive execution.steps task old.asking old.fifo) is (subst (λ phase. MayWriteIn past sent deleted phase old.asking old.fifo) at may))
+        (λ searching. certain (ap searches_in at ∙ ap searches_for is ∙ searching));
+    formats = λ past sent numbers may.
+        absurd (subst (λ task. MayFormatTask past sent numbers execution.head_drive execution.steps task old.asking old.fifo) is (subst (λ phase. MayFormatIn past sent numbers phase old.asking old.fifo) at may));
+  }
+
+  pub foresees_format : (formatting : Formatting) → execution.task ≡ Format formatting
+      → ((past : Past) (sent : ℕ) (numbers : Numbers) → MayFormatTask past sent numbers execution.head_drive execution.steps (Format formatting) old.asking old.fifo → IsQuietBy count old before) → Foresees count old before
+  foresees_format formatting is does = record {
+    identifies = λ past sent may certain.
+        absurd (subst (λ task. MayReadIdTask past sent execution.head_drive execution.steps task) is (subst (λ phase. MayReadIdIn past sent phase) at may));
+    reads = λ past sent may certain single.
+        absurd (subst (λ task. MayReadTask past sent execution.head_drive execution.steps task old.asking old.fifo.bytes) is (subst (λ phase. MayReadIn past sent phase old.asking old.fifo.bytes) at may));
+    writes = λ past sent deleted may certain.
+        absurd (subst (λ task. MayWriteTask past sent deleted execution.head_drive execution.steps task old.asking old.fifo) is (subst (λ phase. MayWriteIn past sent deleted phase old.asking old.fifo) at may));
+    formats = λ past sent numbers may.
+        does past sent numbers (subst (λ task. MayFormatTask past sent numbers execution.head_drive execution.steps task old.asking old.fifo) is (subst (λ phase. MayFormatIn past sent numbers phase old.asking old.fifo) at may));
+  }

@@ -1,6 +1,6 @@
 -- How long a READ ID and a READ DATA surely leave both lines as they are.
 use Rattle.std.proofs.Common.{◌≡◌, ◌≤◌, ◌<◌, ◌+◌, ◌-◌, ℕ, zero, suc, Bool, true, false, ◌==◌, List, [], ◌∷◌, ◌++◌, length, take, None, Some, refl, sym, ap, subst, ◌∙◌, inl, inr, arith, length-append, length-take-le}
-use Rattle.fdc_core.proofs.Common.{AreAhead, DriveState, InRange, rate_of, Chrn, IsDataMark, content_size, Separator, IsPart, with_word, address_stays, data_mark_stays, part_with_word, reads_mark, Fifo, room_of, wants, Past, heard, HasMark, HasRead, IsBareField, IsContent, IsFailure, IsReading, KeepsMark, ReadOutcome, mark_at, IsSearching, Ending, Done, NoMark, NoSector, NoField, BadCheck, Overrun, NoCount, Protected, Late, ReadStage, Search, over_full, Sent, MayReadIdIn, MayReadIdTask, MayReadIn, MayReadTask, MayWriteIn, MayWriteTask, head_of, rate_fits, Execution, Execute, ReadId, Read, Reading, HasRoom, with_bytes, IsQuiet, StageHears, StepsOn, Foresees, HasBytesLeft, HasNoneWanted, HasSingle, IsCertain, IsCertainOf, IsQuietBy, IsUnmarked, MarksNothing, MayBeMarked, MeetsNothing, past_with, after_heard, after_searched, at_stage, gone_on_reading, is_full, Fdc}
+use Rattle.fdc_core.proofs.Common.{AreAhead, DriveState, InRange, rate_of, Chrn, IsDataMark, content_size, Separator, IsPart, with_word, address_stays, data_mark_stays, part_with_word, reads_mark, Fifo, room_of, wants, Past, heard, HasMark, HasRead, IsBareField, IsContent, IsFailure, IsReading, KeepsMark, ReadOutcome, mark_at, IsSearching, Ending, Done, NoMark, NoSector, NoField, BadCheck, Overrun, NoCount, Protected, Late, ReadStage, Search, over_full, Sent, MayReadIdIn, MayReadIdTask, MayReadIn, MayReadTask, MayWriteIn, MayWriteTask, MayFormatIn, MayFormatTask, Numbers, head_of, rate_fits, Execution, Execute, ReadId, Read, Reading, HasRoom, with_bytes, IsQuiet, StageHears, StepsOn, Foresees, HasBytesLeft, HasNoneWanted, HasSingle, IsCertain, IsCertainOf, IsQuietBy, IsUnmarked, MarksNothing, MayBeMarked, MeetsNothing, past_with, after_heard, after_searched, at_stage, gone_on_reading, is_full, Fdc}
 use Rattle.fdc_stages.specs.Readings as given
 use Rattle.fdc_stages.specs.declared.reading.ReadStage.TheVariants as stages
 use Rattle.fdc_core.proofs.Coursing.{id_at}
@@ -213,6 +213,8 @@ module _ (old : Fdc) (execution : Execution) (count : ℕ) (some ahead : List �
         absurd (subst (λ task. MayReadTask past sent execution.head_drive execution.steps task old.asking old.fifo.bytes) is (subst (λ phase. MayReadIn past sent phase old.asking old.fifo.bytes) at may));
     writes = λ past sent deleted may certain.
         absurd (subst (λ task. MayWriteTask past sent deleted execution.head_drive execution.steps task old.asking old.fifo) is (subst (λ phase. MayWriteIn past sent deleted phase old.asking old.fifo) at may));
+    formats = λ past sent numbers may.
+        absurd (subst (λ task. MayFormatTask past sent numbers execution.head_drive execution.steps task old.asking old.fifo) is (subst (λ phase. MayFormatIn past sent numbers phase old.asking old.fifo) at may));
   }
 
   module _ (reading : Reading) (is : execution.task ≡ Read reading) (low : wants true false false old.fifo ≡ false) where
@@ -226,6 +228,10 @@ module _ (old : Fdc) (execution : Execution) (count : ℕ) (some ahead : List �
     no_write past sent deleted may =
         subst (λ task. MayWriteTask past sent deleted head_drive execution.steps task old.asking old.fifo) is (subst (λ phase. MayWriteIn past sent deleted phase old.asking old.fifo) at may)
 
+    no_format : (past : Past) (sent : ℕ) (numbers : Numbers) → MayFormatIn past sent numbers old.phase old.asking old.fifo → ⊥
+    no_format past sent numbers may =
+        subst (λ task. MayFormatTask past sent numbers head_drive execution.steps task old.asking old.fifo) is (subst (λ phase. MayFormatIn past sent numbers phase old.asking old.fifo) at may)
+
     reads_task : (past : Past) (sent : Sent) → MayReadIn past sent old.phase old.asking old.fifo.bytes → MayReadTask past sent head_drive execution.steps (Read reading) old.asking old.fifo.bytes
     reads_task past sent may = subst (λ task. MayReadTask past sent head_drive execution.steps task old.asking old.fifo.bytes) is (subst (λ phase. MayReadIn past sent phase old.asking old.fifo.bytes) at may)
 
@@ -236,6 +242,7 @@ module _ (old : Fdc) (execution : Execution) (count : ℕ) (some ahead : List �
     unmarked_foreseen none marks = record {
       identifies = λ past sent may certain. absurd (no_id past sent may);
       writes = λ past sent marked may certain. absurd (no_write past sent marked may);
+      formats = λ past sent numbers may. absurd (no_format past sent numbers may);
       reads = λ past sent may certain single.
           let key : Chrn = reading.wanted.key in
           let words : List ℕ = take count some in
@@ -255,6 +262,7 @@ module _ (old : Fdc) (execution : Execution) (count : ℕ) (some ahead : List �
     content_foreseen deleted room bytes content mark space short less bytes_left = record {
       identifies = λ past sent may certain. absurd (no_id past sent may);
       writes = λ past sent marked may certain. absurd (no_write past sent marked may);
+      formats = λ past sent numbers may. absurd (no_format past sent numbers may);
       reads = λ past sent may certain single.
           let key : Chrn = reading.wanted.key in
           let words : List ℕ = take count some in

@@ -1,11 +1,11 @@
 -- How long a write surely leaves both lines as they are.
 use Rattle.std.proofs.Common.{◌≡◌, ◌≤◌, ◌+◌, ℕ, suc, Bool, true, false, List, [], ◌++◌, length, take, Some, refl, sym, ap, subst, ◌∙◌, inl, inr, arith, length-take-le}
 use Rattle.fdc_core.proofs.Common.{false≢true, AreAhead, DriveState, InRange, rate_of, Chrn, with_word, wants, Past, heard, HasNext, HasWritten, IsWriting, Ending, Done, NoMark, NoSector, NoField, BadCheck, Overrun, NoCount, Protected, Late, Search, WriteNext, WriteStage, Sent, MayReadIdIn, MayReadIdTask, MayReadIn, MayReadTask, head_of, write_at, rate_fits, MayWriteIn, MayWriteTask, Execution, Execute, Write, Writing, IsQuiet, Foresees, HasNoneWanted, IsCertain, IsQuietBy, MeetsNothing, HearsWord, after_next, Fdc}
-use Rattle.fdc_stages.specs.Writings.{FailsWell, IsFailure}
+use Rattle.fdc_stages.specs.Writings.{FailsWell, IsFailure, is_search}
 use Rattle.fdc_stages.specs.declared.writing.WriteNext.TheVariants as given
 use Rattle.fdc_stages.specs.declared.writing.WriteStage.TheVariants as stages
 use Rattle.fdc_core.proofs.Coursing.{writes_at}
-use Rattle.fdc_core.proofs.Foreseeing.{EachGoesOnWith, GoesOnWith, calm_told, quiet_by, some_words, writes_ahead}
+use Rattle.fdc_core.proofs.Foreseeing.{EachGoesOnWith, GoesOnWith, calm_told, foresees_write, quiet_by, some_words, writes_ahead}
 use Rattle.fdc_core.proofs.Quieting.{first_none, plain_none, some_seen}
 
 -- ---- a word that a write hears in its search, and in which nothing is met
@@ -85,23 +85,15 @@ module _ (old : Fdc) (execution : Execution) (count : ℕ) (some ahead : List �
       let words : List ℕ = take count some in
       let size : length words ≡ count = length-take-le count some within in
       let passing = some_words (head_of head_drive) count some ahead before first are in
-      record {
-        identifies = λ past sent may certain.
-            absurd (subst (λ task. MayReadIdTask past sent head_drive execution.steps task) is (subst (λ phase. MayReadIdIn past sent phase) at may));
-        reads = λ past sent may certain single.
-            absurd (subst (λ task. MayReadTask past sent head_drive execution.steps task old.asking old.fifo.bytes) is (subst (λ phase. MayReadIn past sent phase old.asking old.fifo.bytes) at may));
-        writes = λ past sent deleted may certain.
-            let key : Chrn = writing.wanted.key in
-            let was : MayWriteTask past sent deleted head_drive execution.steps (Write writing) old.asking old.fifo =
-            subst (λ task. MayWriteTask past sent deleted head_drive execution.steps task old.asking old.fifo) is (subst (λ phase. MayWriteIn past sent deleted phase old.asking old.fifo) at may) in
-            let under : IsCertain (head_of head_drive) past.seen before = subst (λ (s : Sent). IsCertain (head_of s.head_drive) past.seen before) (sym was.1.1.sent_is) certain in
-            let writes : IsWriting past key writing.deleted was.1.0 (stages.Search search) = subst (λ now. IsWriting past key writing.deleted was.1.0 now) stage was.1.1.writes in
-            let fresh : Past = record past { barred = false } in
-            let none = plain_none (Some key) (past.seen ++ words) (under.plain words passing) (meets past writes.1.0) in
-            let stands : IsSearchingToWrite key writing.deleted was.1.0 (length words) fresh search = record { unbarred = refl; writes = unbarred_of past key writing.deleted was.1.0 (stages.Search search) writes } in
-            let begins : writes_at head_drive writing old execution.steps search ≡ old =
-            ap (λ now. record old { phase = Execute (record execution { task = Write (write_at writing now) }) }) (sym stage) ∙ ap (λ task. record old { phase = Execute (record execution { task = task }) }) (sym is) ∙ ap (λ phase. record old { phase = phase }) (sym at) in
-            subst (λ fdc. IsQuietBy count fdc before) begins (subst (λ n. IsQuietBy n (writes_at head_drive writing old execution.steps search) before) size
-            (quiet_by Search (writes_at head_drive writing old) (IsSearchingToWrite key writing.deleted was.1.0) (HasNoneWanted (Some key)) 1 (head_of head_drive) old.rate (write_goes_on head_drive writing old quiet low writing.deleted was.1.0) (first_none (Some key)) execution.steps later (past.seen ++ words) none search fresh words before (omega (arith, size, left, within)) stands refl passing
-            (calm_told before range certain.faultless) fits (λ n left later next stands. record { request = refl; interrupt = refl; ended = refl; mark = refl })));
-      }
+      foresees_write old execution count before at writing is (λ past sent deleted was certain.
+      let key : Chrn = writing.wanted.key in
+      let under : IsCertain (head_of head_drive) past.seen before = subst (λ (s : Sent). IsCertain (head_of s.head_drive) past.seen before) (sym was.1.1.sent_is) (certain (ap is_search stage)) in
+      let writes : IsWriting past key writing.deleted was.1.0 (stages.Search search) = subst (λ now. IsWriting past key writing.deleted was.1.0 now) stage was.1.1.writes in
+      let fresh : Past = record past { barred = false } in
+      let none = plain_none (Some key) (past.seen ++ words) (under.plain words passing) (meets past writes.1.0) in
+      let stands : IsSearchingToWrite key writing.deleted was.1.0 (length words) fresh search = record { unbarred = refl; writes = unbarred_of past key writing.deleted was.1.0 (stages.Search search) writes } in
+      let begins : writes_at head_drive writing old execution.steps search ≡ old =
+      ap (λ now. record old { phase = Execute (record execution { task = Write (write_at writing now) }) }) (sym stage) ∙ ap (λ task. record old { phase = Execute (record execution { task = task }) }) (sym is) ∙ ap (λ phase. record old { phase = phase }) (sym at) in
+      subst (λ fdc. IsQuietBy count fdc before) begins (subst (λ n. IsQuietBy n (writes_at head_drive writing old execution.steps search) before) size
+      (quiet_by Search (writes_at head_drive writing old) (IsSearchingToWrite key writing.deleted was.1.0) (HasNoneWanted (Some key)) 1 (head_of head_drive) old.rate (write_goes_on head_drive writing old quiet low writing.deleted was.1.0) (first_none (Some key)) execution.steps later (past.seen ++ words) none search fresh words before (omega (arith, size, left, within)) stands refl passing
+      (calm_told before range under.faultless) fits (λ n left later next stands. record { request = refl; interrupt = refl; ended = refl; mark = refl }))))

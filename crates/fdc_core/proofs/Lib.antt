@@ -22,6 +22,9 @@ pub mod Quieting
 pub mod Foreseeing
 pub mod Foreseen
 pub mod ForeseenWrites
+pub mod Turning
+pub mod Filling
+pub mod Laying
 mod Stopped
 pub mod Longest
 mod AddressHeard

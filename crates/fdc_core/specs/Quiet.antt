@@ -1,12 +1,14 @@
--- For how many device steps a READ ID, a READ DATA or a write surely leaves both lines as they are, and how large the
--- number is at least.
-use Rattle.std.specs.Prelude.{◌≡◌, ◌≤◌, ◌+◌, ◌-◌, ◌*◌, ◌++◌, ℕ, zero, suc, Bool, true, false, Option, None, Some, List, [], length}
-use Rattle.fdc_core.specs.Common.{AreAhead, words_left, DriveState, rate_of, Chrn, IsDisk, IsAddressAt, IsDataMark, content_size, IsPlain, Fifo, wants, Past, IsContent, IsReading, mark_at, HasNoClear, IsSearching, Wants, ReadStage, Search, Sent, head_of, mark_of_phase, rate_fits, Phase, Execute, Task, Read, Write}
+-- For how many device steps a data command surely leaves both lines as they are, and how large the number is at least.
+use Rattle.std.specs.Prelude.{◌≡◌, ◌≤◌, ◌<◌, ◌+◌, ◌-◌, ◌*◌, ◌++◌, ℕ, zero, suc, Bool, true, false, Option, None, Some, List, [], length, drop}
+use Rattle.fdc_core.specs.Common.{AreAhead, words_left, DriveState, rate_of, Chrn, IsDisk, IsAddressAt, IsDataMark, content_size, IsPlain, Fifo, wants, Past, IsContent, IsReading, Numbers, is_due, mark_at, HasNoClear, IsSearching, Wants, ReadStage, Search, Sent, head_of, mark_of_phase, rate_fits, Phase, Execute, Task, Read, Write, Format}
+use Rattle.fdc_stages.specs.Among.{content_among, keys_among}
+use Rattle.fdc_stages.specs.Writings.{is_search}
+use Rattle.track_model.specs.Windows.{window_word, window_words}
 use Rattle.track_model.specs.Looks.{IsFirstDataMark}
 use Rattle.fdc_core.specs.Contents.{HasRoom}
 use Rattle.fdc_core.specs.Courses.{Works, HoldsLines}
 use Rattle.fdc_core.specs.Heard.{MayRead, MayReadId}
-use Rattle.fdc_core.specs.Written.{MayWrite}
+use Rattle.fdc_core.specs.Written.{MayWrite, MayFormat}
 use Rattle.fdc_core.specs.Drives.Hearing.{IsCalm, IsHearing, IsRecorded, Outset}
 use Rattle.fdc_core.specs.declared.controller.Fdc.{Fdc}
 
@@ -38,12 +40,24 @@ pub record IsCertain (head : ℕ) (seen : List ℕ) (drive : DriveState) : Type 
 abbrev pub IsCertainOf : Chrn → ℕ → List ℕ → DriveState → Type 0
 IsCertainOf key head seen drive = (words : List ℕ) → AreAhead head words drive → HasSingle key (seen ++ words)
 
--- so many device steps surely change neither line, whatever a READ ID, a READ DATA or a write heard before
+-- a write searches for its address field
+abbrev pub searches_for : Task → Bool
+searches_for (Write writing) = is_search writing.stage
+searches_for _ = false
+
+abbrev pub searches_in : Phase → Bool
+searches_in (Execute execution) = searches_for execution.task
+searches_in _ = false
+
+-- so many device steps surely change neither line, whatever a data command heard and wrote before. Of a FORMAT this holds
+-- whatever the drive does, and of a write after its search too
 pub record Foresees (count : ℕ) (fdc : Fdc) (drive : DriveState) : Type 0 where
   pub identifies : (past : Past) (sent : ℕ) → MayReadId past sent fdc → IsCertain (head_of sent) past.seen drive → IsQuietBy count fdc drive
   pub reads : (past : Past) (sent : Sent) → MayRead past sent fdc → IsCertain (head_of sent.head_drive) past.seen drive
       → IsCertainOf sent.key (head_of sent.head_drive) past.seen drive → IsQuietBy count fdc drive
-  pub writes : (past : Past) (sent : Sent) (deleted : Bool) → MayWrite past sent deleted fdc → IsCertain (head_of sent.head_drive) past.seen drive → IsQuietBy count fdc drive
+  pub writes : (past : Past) (sent : Sent) (deleted : Bool) → MayWrite past sent deleted fdc
+      → (searches_in fdc.phase ≡ true → IsCertain (head_of sent.head_drive) past.seen drive) → IsQuietBy count fdc drive
+  pub formats : (past : Past) (sent : ℕ) (numbers : Numbers) → MayFormat past sent numbers fdc → IsQuietBy count fdc drive
 
 -- ---- what may be heard before a command meets what it looks for
 
@@ -63,12 +77,32 @@ GoesOnFor count key words =
     (p q : ℕ) (deleted : Bool) → IsAddressAt words p key → IsFirstDataMark words p q deleted
     → 16 * (length words + count + 1) ≤ q + 64 + 16 * content_size key.n
 
+-- after so many words more, the window of each address field of this sector ID still lacks a word. At most so many of
+-- them are bytes of its content
+abbrev pub FillsWith : ℕ → ℕ → Chrn → Past → Type 0
+FillsWith count bytes key past =
+    (p : ℕ) → IsAddressAt past.seen p key
+    → (past.place + count < window_word p + window_words key.n)
+    × (content_among (content_size key.n) (past.place + count - window_word p)
+    ≤ content_among (content_size key.n) (past.place - window_word p) + bytes)
+
+-- of so many words more of a layout, at most so many are bytes of sector IDs, whatever the sector IDs are
+abbrev pub LaysWith : ℕ → ℕ → Numbers → Past → Type 0
+LaysWith count bytes numbers past =
+    (keys : List Chrn) → length keys ≡ numbers.sectors
+    → keys_among numbers keys (length past.words + count) ≤ keys_among numbers keys (length past.words) + bytes
+
+-- so many bytes can be taken from the FIFO while DRQ stays down
+pub record HasSupply (count : ℕ) (counted : Bool) (fifo : Fifo) : Type 0 where
+  pub quiet : (taken : ℕ) → taken ≤ count → wants false false counted (record fifo { bytes = drop taken fifo.bytes }) ≡ false
+
 -- ---- the words that pass next
 
 -- DRQ would come up in the next device step, by the bytes that are in the FIFO now
 abbrev pub asks_in : Task → Fifo → Bool
 asks_in (Read reading) fifo = wants true false false fifo
 asks_in (Write writing) fifo = wants false false writing.counted fifo
+asks_in (Format formatting) fifo = wants false false formatting.counted fifo
 asks_in _ fifo = false
 
 abbrev pub asks_soon : Phase → Fifo → Bool
@@ -88,6 +122,15 @@ ReadsIn _ = ⊥
 abbrev pub ReadsContent : Phase → Type 0
 ReadsContent (Execute execution) = ReadsIn execution.task
 ReadsContent _ = ⊥
+
+-- the next word is one of the layout of a FORMAT
+abbrev pub lays_for : Task → Bool
+lays_for (Format formatting) = is_due formatting.stage
+lays_for _ = false
+
+abbrev pub lays_in : Phase → Bool
+lays_in (Execute execution) = lays_for execution.task
+lays_in _ = false
 
 -- nothing but the words can change a line. No fault can come any more, and no poll comes. DRQ is down, and comes up only
 -- by further bytes. The controller works at the medium's rate
@@ -115,9 +158,13 @@ pub record PassNext (head most : ℕ) (words : List ℕ) (fdc : Fdc) (drive : Dr
 -- - a READ ID has heard no address field
 -- - a READ DATA before its data mark has met none, and the mark of each address field of its sector may still come
 -- - a write, after its first step, has heard no address field of its sector
+-- - a FORMAT, after its first step, lays no word. It awaits the index pulse, or its gate could not be opened
 --
 -- In the content of a READ DATA, it counts as many words as the FIFO has room for while DRQ stays down. After these words
--- one more byte of the content has to come, still before the last word of the track
+-- one more byte of the content has to come, still before the last word of the track.
+--
+-- After the search of a write, and in the layout of a FORMAT, it counts as many words as the FIFO has bytes for while DRQ
+-- stays down. The last word of a window isn't counted
 pub record IsLongest (most count : ℕ) (fdc : Fdc) (drive : DriveState) : Type 0 where
   pub identifies : (past : Past) (sent : ℕ) (words : List ℕ) → MayReadId past sent fdc → PassNext (head_of sent) most words fdc drive
       → HasNoneWanted None (past.seen ++ words) → length words ≤ count
@@ -127,6 +174,12 @@ pub record IsLongest (most count : ℕ) (fdc : Fdc) (drive : DriveState) : Type 
       → HasWords (head_of sent.head_drive) (n + 1) fdc drive → HasRoom n past.counted fdc.fifo → GoesOnFor n sent.key past.seen → n ≤ count
   pub searches : (past : Past) (sent : Sent) (deleted : Bool) (words : List ℕ) → MayWrite past sent deleted fdc → 1 ≤ past.steps
       → PassNext (head_of sent.head_drive) most words fdc drive → HasNoneWanted (Some sent.key) (past.seen ++ words) → length words ≤ count
+  pub fills : (past : Past) (sent : Sent) (deleted : Bool) (n bytes : ℕ) → MayWrite past sent deleted fdc → searches_in fdc.phase ≡ false → 1 ≤ past.steps → n ≤ most
+      → HasWords (head_of sent.head_drive) n fdc drive → HasSupply bytes past.counted fdc.fifo → FillsWith n bytes sent.key past → n ≤ count
+  pub listens : (past : Past) (sent : ℕ) (numbers : Numbers) (n : ℕ) → MayFormat past sent numbers fdc → lays_in fdc.phase ≡ false → 1 ≤ past.steps → n ≤ most
+      → HasWords (head_of sent) n fdc drive → n ≤ count
+  pub lays : (past : Past) (sent : ℕ) (numbers : Numbers) (n bytes : ℕ) → MayFormat past sent numbers fdc → lays_in fdc.phase ≡ true → 1 ≤ past.steps → n ≤ most
+      → HasWords (head_of sent) n fdc drive → HasSupply bytes past.counted fdc.fifo → LaysWith n bytes numbers past → n ≤ count
 
 -- ---- what the words ahead make of a search and of a reading
 

@@ -1,10 +1,11 @@
 -- WRITE DATA and WRITE DELETED: what a word makes of their stage.
-use Rattle.std.specs.Prelude.{◌≡◌, ◌≤◌, ◌+◌, ℕ, Bool, true, false, List, Option, Some, None}
+use Rattle.std.specs.Prelude.{◌≡◌, ◌≤◌, ◌+◌, ◌-◌, ℕ, Bool, true, false, List, Option, Some, None}
 use Rattle.fdc_phases.specs.Common.{Chrn, Past, wrote, Ending, WriteStage}
 use Rattle.fdc_stages.specs.Windows.{lead_behind}
 use Rattle.fdc_stages.specs.Writings.{is_open, opens, is_due, needs_byte, handed_with, heard_where, IsWriting, IsNextWord, HasNext, FailsWell, EndsWell, LeadsOn, lead_of, rest_behind}
 use Rattle.fdc_stages.specs.declared.writing.WriteNext.{WriteNext}
 use Rattle.fdc_stages.specs.declared.writing.WriteNext.TheVariants.{On, Ended}
+use Rattle.fdc_stages.specs.declared.writing.WriteStage.TheVariants.{Gap}
 use Rattle.fdc_stages.specs.declared.writing.WriteWord.{WriteWord}
 use Rattle.fdc_phases.specs.Answers.{key_after}
 use Rattle.fdc_phases.specs.declared.phases.End.{End}
@@ -33,13 +34,15 @@ IsWritingAt head_drive steps writing phase = phase ≡ Execute (record { head_dr
 
 -- ---- what a stage makes of a word, whatever has passed before
 
--- a stage whose gate is closed hears a word, and this is what comes of it; a stage whose gate is open stays as it is
+-- a stage whose gate is closed hears a word, and this is what comes of it; a stage whose gate is open stays as it is. Of
+-- the words before the window, one passes
 abbrev pub StageHearsWord : Writing → Bool → ℕ → WriteNext → Type 0
 StageHearsWord writing index word next =
     ((past : Past) (deleted : Bool) (handed : List ℕ) → is_open writing.stage ≡ false → IsWriting past writing.wanted.key deleted handed writing.stage
     → HasNext (heard_where (opens writing.stage) index word past) writing.wanted.key deleted handed next)
     × FailsWell next × LeadsOn (lead_of writing.stage) next
     × (is_open writing.stage ≡ true → next ≡ On writing.stage)
+    × ((left : ℕ) → 1 ≤ left → writing.stage ≡ Gap left → index ≡ false → next ≡ On (Gap (left - 1)))
 
 pub record StageWritesWord (writing : Writing) (byte : ℕ) (index : Bool) (given : WriteWord) (next : WriteNext) : Type 0 where
   pub word_is : (past : Past) (handed : List ℕ) → is_due writing.stage ≡ true → IsWriting past writing.wanted.key writing.deleted handed writing.stage

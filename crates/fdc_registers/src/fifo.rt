@@ -125,6 +125,16 @@ impl Fifo {
         (self.worth_fetching() - 1).saturating_sub(self.bytes.len())
     }
 
+    /// How many bytes from memory can be taken while DRQ stays down. The byte after these raises DRQ.
+    pub fn quiet_supply(&self) -> usize
+        ensures quiet { wants false false false self.now ≡ false → (taken : ℕ) → taken ≤ result
+            → wants false false false (record self.now { bytes = drop taken self.now.bytes }) ≡ false }
+        ensures rises { wants false false false self.now ≡ false
+            → wants false false false (record self.now { bytes = drop (result + 1) self.now.bytes }) ≡ true }
+    {
+        self.bytes.len().saturating_sub(self.low_level() + 1)
+    }
+
     fn room(&self) -> usize
         ensures { result ≡ room_of self.now.on }
     {

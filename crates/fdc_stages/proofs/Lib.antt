@@ -12,3 +12,4 @@ mod Laying
 mod Turned
 pub mod Ended
 mod Leading
+pub mod Among

@@ -9,3 +9,4 @@ pub mod Writings
 pub mod Formats
 pub mod Leads
 pub mod WritingSaving
+pub mod Among

@@ -1,5 +1,5 @@
 -- The words of a window that are still to come.
-use Rattle.std.specs.Prelude.{◌≡◌, ℕ, suc, ◌+◌, ◌%◌, ◌≤◌, Bool, true, false, Option, Some, None, List, [], ◌∷◌, ◌++◌, length, replicate}
+use Rattle.std.specs.Prelude.{◌≡◌, ℕ, suc, ◌+◌, ◌-◌, ◌%◌, ◌≤◌, nat_lt, if◌then◌else◌, Bool, true, false, Option, Some, None, List, [], ◌∷◌, ◌++◌, length, replicate}
 use Rattle.fdc_stages.specs.Common.{legal, after_marks, data_byte, check_bytes}
 use Rattle.track_model.specs.Crc.{crc, crc_from}
 use Rattle.fdc_stages.specs.declared.window.Part.{Part}
@@ -57,6 +57,11 @@ lead_from _ = 16
 
 abbrev pub lead_left : Window → ℕ
 lead_left now = lead_from now.part
+
+-- how many of `count` words come before the last, and before one that needs a byte after so many others. `more` bytes of
+-- the content are still to come, and two words of the CRC behind them
+abbrev pub words_with : ℕ → ℕ → ℕ → ℕ
+words_with bytes more count = if nat_lt bytes more then count - 2 - (more - bytes) else count - 1
 
 abbrev pub is_content : Part → Bool
 is_content (Content _) = true

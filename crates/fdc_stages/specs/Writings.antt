@@ -5,7 +5,7 @@ use Rattle.track_model.specs.Windows.{window_word, window_words, IsFieldFor, IsC
 use Rattle.track_model.specs.Laid.{with_window}
 use Rattle.fdc_stages.specs.declared.window.Window.{Window}
 use Rattle.fdc_stages.specs.Windows as windowed
-use Rattle.fdc_stages.specs.Windows.{window_behind, words_behind, bytes_behind, count_behind, lead_left}
+use Rattle.fdc_stages.specs.Windows.{window_behind, words_behind, bytes_behind, bytes_left, count_behind, count_left, lead_left}
 use Rattle.fdc_stages.specs.declared.ending.Ending.{Ending}
 use Rattle.fdc_stages.specs.declared.ending.Ending.TheVariants.{Done, NoMark, NoSector, NoField, BadCheck, Overrun, NoCount, Protected, Late}
 use Rattle.fdc_stages.specs.History.{Past, heard, kept_out, IsJustOver}
@@ -26,6 +26,11 @@ is_open _ = false
 abbrev pub opens : WriteStage → Bool
 opens (stage.Gap zero) = true
 opens _ = false
+
+-- the address field is searched for
+abbrev pub is_search : WriteStage → Bool
+is_search (stage.Search _) = true
+is_search _ = false
 
 -- the next word is one of the window
 abbrev pub is_due : WriteStage → Bool
@@ -49,6 +54,18 @@ lead_of (stage.Window now) = lead_left now
 abbrev pub is_last : WriteStage → Bool
 is_last (stage.Window now) = windowed.is_last now
 is_last _ = false
+
+-- how many words pass up to the last of the window, and how many of them are bytes of the content, which has this many.
+-- In a search nothing is said
+abbrev pub count_ahead : ℕ → WriteStage → ℕ
+count_ahead size (stage.Search _) = 0
+count_ahead size (stage.Gap left) = left + (size + 18)
+count_ahead size (stage.Window now) = count_left now
+
+abbrev pub bytes_ahead : ℕ → WriteStage → ℕ
+bytes_ahead size (stage.Search _) = 0
+bytes_ahead size (stage.Gap _) = size
+bytes_ahead size (stage.Window now) = bytes_left now
 
 -- what is left of the window after a word: nothing if that word was the last
 abbrev pub rest_behind : Bool → WriteStage → Option Window

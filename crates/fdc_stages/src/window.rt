@@ -1,7 +1,7 @@
 // The words of a window, one by one.
 ghost use Rattle.std.specs.Prelude.{◌≡◌, ◌+◌, ◌≤◌, ℕ, List, false, Some, None};
 ghost use Rattle.fdc_stages.specs.Common.{data_byte, window};
-ghost use Rattle.fdc_stages.specs.Windows.{Gives, words_left, bytes_left, count_left, lead_left, needs_byte, is_last, window_behind};
+ghost use Rattle.fdc_stages.specs.Windows.{Gives, words_left, bytes_left, count_left, lead_left, needs_byte, is_last, window_behind, words_with};
 
 use track_model::{crc_step, encode_byte, mark_crc};
 
@@ -12,6 +12,12 @@ const MARK: u16 = 0x4489;
 const MORE_SYNC: u8 = 11;
 
 const MORE_MARKS: u8 = 2;
+
+/// The number of marks.
+const MARK_WORDS: usize = 3;
+
+/// The words of a CRC.
+const CRC_WORDS: usize = 2;
 
 /// The part of a window that its next word belongs to.
 #[derive(Clone, Copy)]
@@ -84,6 +90,53 @@ impl Window {
         ensures { result ≡ is_last self.now }
     {
         matches!(self.part, Part::Low)
+    }
+
+    /// How many words are still to come.
+    fn words_left(&self) -> usize
+        ensures count { result ≡ count_left self.now }
+        ensures some { 1 ≤ result }
+    {
+        match self.part {
+            Part::Sync { more } => usize::from(more) + 1 + MARK_WORDS + self.field_words(),
+            Part::Marks { more } => usize::from(more) + 1 + self.field_words(),
+            Part::Mark => self.field_words(),
+            Part::Content { more } => usize::from(more) + 1 + CRC_WORDS,
+            Part::High => CRC_WORDS,
+            Part::Low => CRC_WORDS - 1,
+        }
+    }
+
+    /// The words behind the marks: the mark byte, the content and the CRC.
+    fn field_words(&self) -> usize
+        ensures { result ≡ self.now.more + 4 }
+    {
+        1 + usize::from(self.more) + 1 + CRC_WORDS
+    }
+
+    /// How many bytes of the content are still to come. The CRC follows the last.
+    fn bytes_left(&self) -> usize
+        ensures bytes { result ≡ bytes_left self.now }
+        ensures behind { 1 ≤ result → result + 2 ≤ count_left self.now }
+    {
+        match self.part {
+            Part::Content { more } => usize::from(more) + 1,
+            Part::High | Part::Low => 0,
+            _ => usize::from(self.more) + 1,
+        }
+    }
+
+    /// How many words come before the last, and before one that needs a byte after so many others.
+    pub fn words_with(&self, bytes: usize) -> usize
+        ensures { result ≡ words_with bytes (bytes_left self.now) (count_left self.now) }
+    {
+        let words = self.words_left();
+        let more = self.bytes_left();
+        if bytes < more {
+            words - CRC_WORDS - (more - bytes)
+        } else {
+            words - 1
+        }
     }
 
     /// The next word. If `needs_byte` says so, `byte` is the byte that the word records; otherwise `byte` isn't used.

@@ -1,11 +1,11 @@
 // The stages of a writing.
-ghost use Rattle.std.specs.Prelude.{◌≡◌, ◌+◌, ◌≤◌, ℕ, Bool, true, false, Some, List, [], length};
-ghost use Rattle.fdc_stages.specs.Common.{Separator, Chrn, IsSizeCode};
+ghost use Rattle.std.specs.Prelude.{◌≡◌, ◌+◌, ◌-◌, ◌≤◌, ℕ, Bool, true, false, Some, List, [], length};
+ghost use Rattle.fdc_stages.specs.Common.{Separator, Chrn, IsSizeCode, content_size};
 ghost use Rattle.fdc_stages.specs.Windows as windows;
 ghost use Rattle.fdc_stages.specs.Windows.{lead_left, lead_behind};
 ghost use Rattle.fdc_stages.specs.History.{Past, begun, heard, wrote};
 ghost use Rattle.fdc_stages.specs.Searches.{IsMet};
-ghost use Rattle.fdc_stages.specs.Writings.{is_open, opens, is_due, needs_byte, lead_of, handed_with, heard_where, IsInWindow, IsWriting, IsNextWord, HasBegun, HasWhole, HasWritten, HasNext, FailsWell, EndsWell, IsEnd, LeadsOn, write_heard, is_last, rest_behind};
+ghost use Rattle.fdc_stages.specs.Writings.{bytes_ahead, count_ahead, is_open, opens, is_due, needs_byte, lead_of, handed_with, heard_where, IsInWindow, IsWriting, IsNextWord, HasBegun, HasWhole, HasWritten, HasNext, FailsWell, EndsWell, IsEnd, LeadsOn, write_heard, is_last, rest_behind};
 
 use crate::{Ending, Search, Searched, Window};
 use flop_base::{Chrn, sector_size};
@@ -93,6 +93,22 @@ impl WriteStage {
         }
     }
 
+    /// How many words pass before the last of the window, and before one that needs a byte after so many others. It is 0
+    /// while the address field is searched for.
+    pub fn words_with(&self, key: Chrn, bytes: usize) -> usize
+        requires { IsSizeCode key.n }
+        ensures { result ≡ windows.words_with bytes (bytes_ahead (content_size key.n) self.now) (count_ahead (content_size key.n) self.now) }
+    {
+        match self {
+            WriteStage::Search(_) => 0,
+            WriteStage::Gap { left } => {
+                let window = Window::new(false, sector_size(key.n) as u16);
+                usize::from(*left) + window.words_with(bytes)
+            }
+            WriteStage::Window(window) => window.words_with(bytes),
+        }
+    }
+
     /// Hears a word of the track, and gives how the writing ended, if it did. `index` says that the index pulse follows
     /// the word. If the first word of the window is due, hearing a word means that the write gate could not be opened.
     /// While the write gate is open, no word is heard.
@@ -104,6 +120,8 @@ impl WriteStage {
         ensures well { FailsWell (write_heard self.new result) }
         ensures lead { LeadsOn (lead_of self.old) (write_heard self.new result) }
         ensures stays { is_open self.old ≡ true → write_heard self.new result ≡ WriteNext.On self.old }
+        ensures waits { (left : ℕ) → 1 ≤ left → self.old ≡ WriteStage.Gap left → index ≡ false
+            → write_heard self.new result ≡ WriteNext.On (WriteStage.Gap (left - 1)) }
     {
         match self {
             WriteStage::Search(search) => {
@@ -147,6 +165,7 @@ impl WriteStage {
             → HasNext (heard_where (opens (WriteStage.Gap left)) index word past) key deleted handed (write_heard self.new result) }
         ensures well { FailsWell (write_heard self.new result) }
         ensures lead { LeadsOn (left + 16) (write_heard self.new result) }
+        ensures waits { 1 ≤ left → index ≡ false → write_heard self.new result ≡ WriteNext.On (WriteStage.Gap (left - 1)) }
     {
         if left == 0 {
             return Some(Ending::NoField);

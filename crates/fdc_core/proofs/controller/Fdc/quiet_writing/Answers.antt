@@ -1,8 +1,9 @@
 use Rattle.std.proofs.Common.{◌≡◌, ◌≤◌, ◌∙◌, arith, length, subst, sym}
 use Rattle.fdc_core.proofs.Common.{AreAhead, words_left, Write}
+use Rattle.fdc_core.proofs.Filling.{found_stage}
 use Rattle.fdc_core.proofs.Foreseeing.{nothing_foreseen}
 use Rattle.fdc_core.proofs.ForeseenWrites.{write_foreseen}
-use Rattle.fdc_core.proofs.Longest.{asking_longest, first_longest, met_longest, search_longest}
+use Rattle.fdc_core.proofs.Longest.{asking_longest, first_longest, search_longest}
 use Rattle.fdc_core.proofs.controller.Fdc.quiet_writing.Goals as goal
 
 pub returns-then-asks-clause-foresees : goal.returns-then-asks-clause-foresees
@@ -38,9 +39,5 @@ returns-in-Search-clause-longest g c =
     search_longest c.args.self.now c.args.execution.now c.args.most counts.result before c.requires.executes c.args.writing.now c.requires.writes c.args.most words.result.now ahead words.ensures.first words.ensures.all
     (subst (λ head. AreAhead head ahead before) c.head_of-head.ensures c.ahead.ensures.ahead) (λ faultless. subst (λ head. length ahead ≡ words_left head before) c.head_of-head.ensures (c.ahead.ensures.all faultless)) (omega arith) c.in-Search.search c.in-Search.is counts.ensures.longest
 
-pub returns-in_default : goal.returns-in_default
-returns-in_default g c = record {
-  few = omega arith;
-  foresees = nothing_foreseen c.args.self.now (g.D.Drive.state c.args.drive.now);
-  longest = met_longest c.args.self.now c.args.execution.now c.args.most 0 (g.D.Drive.state c.args.drive.now) c.requires.executes c.args.writing.now c.requires.writes c.in_default.not-Search;
-}
+pub quiet_filling-requires-clause-found : goal.quiet_filling-requires-clause-found
+quiet_filling-requires-clause-found g c = found_stage c.args.writing.now.stage c.in_default.not-Search
