@@ -133,8 +133,9 @@ awaits_results _ stage = false
 -- Where no command is executed, the number is that of `quiet_steps`, and this holds whatever the drives do. While a
 -- command is executed, the number is computed from the words that pass next, and this holds if the inner controller's
 -- own lines stay by so many steps. That is foreseen of a READ ID, a READ DATA and the search of a write if no fault can
--- come, and by what was heard of the track. While the heads go to the command's cylinder, nothing has to be known. While
--- a device step only waits for the results of a command, `longest` says how large the number is
+-- come, and by what was heard of the track. Of a write after its search, and of a FORMAT, it is foreseen whatever the
+-- drive does. While the heads go to the command's cylinder, nothing has to be known. While a device step only waits for
+-- the results of a command, `longest` says how large the number is
 pub record StaysQuiet (most : ℕ) (chip : ChipState) (count : ℕ) : Type 0 where
   pub few : count ≤ most
   pub value : is_busy chip.stage ≡ false → count ≡ quiet_steps most chip

@@ -65,11 +65,12 @@ impl<D: Inspect> Chip<D> {
     /// the drives do.
     ///
     /// While a command is executed, the number comes from the words that pass next, and ends before the next event. This
-    /// is the address field of a READ ID or of a write, or the data mark of a READ DATA, or the next byte of its content
-    /// for which the FIFO asks. The number holds if no fault can come, if the track is Plain, and if a READ DATA's sector
-    /// ID is there once. If no fault can come, `longest` says how large the number is at least. In an implied seek it is
-    /// that of the steps before the seek can end. It is 0 in a write after its search, in a FORMAT TRACK, and in a VERIFY
-    /// that reads.
+    /// is the address field of a READ ID or of a write, or the data mark of a READ DATA, or the next byte for which the
+    /// FIFO asks, or the last word that a write writes. In a write after its search, and in a FORMAT TRACK, the number
+    /// holds whatever the drives do. Else it holds if no fault can come, if the track is Plain, and if a READ DATA's
+    /// sector ID is there once. If no fault can come, `longest` says how large the number is at least. In an implied seek
+    /// it is that of the steps before the seek can end. It is 0 in the first step of a write and of a FORMAT TRACK, and in
+    /// a VERIFY that reads.
     pub fn quiet(&self, most: u32) -> u32
         ensures { StaysQuiet most (chip_state D.state self.now) result }
     {

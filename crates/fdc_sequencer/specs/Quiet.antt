@@ -45,7 +45,7 @@ abbrev pub IsQuietBehind : ℕ → Front → Type 0
 IsQuietBehind count front = IsQuietAt front.stage count front.adapter
 
 -- this is foreseen of a READ ID, a READ DATA and the search of a write, if no fault can come, and by what was heard of
--- the track
+-- the track. Of a write after its search, and of a FORMAT, it is foreseen whatever the drive does
 abbrev pub ForeseesAt : FrontStage → ℕ → AdapterState → Type 0
 ForeseesAt (Seeking _ _) count adapter = Unit {0}
 ForeseesAt _ count adapter = Foresees count adapter.controller (drive_selected adapter)

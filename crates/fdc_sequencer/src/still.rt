@@ -84,9 +84,9 @@ impl<D: Inspect> Sequencer<D> {
     /// This many device steps, at most `most`, surely change neither line outside. The same stays under way in them,
     /// and no results come.
     ///
-    /// While the heads go to a command's cylinder these are the steps before their seek can end. While a READ ID, a READ
-    /// DATA or the search of a write is executed the number comes from the words that pass next, and `Fdc::quiet_ahead`
-    /// says under which premises it holds. `longest` says how large the number is. In all else it is 0.
+    /// While the heads go to a command's cylinder these are the steps before their seek can end. While a data command is
+    /// executed the number comes from the words that pass next, and `Fdc::quiet_ahead` says under which premises it holds.
+    /// `longest` says how large the number is. In all else it is 0.
     pub fn quiet_ahead(&self, most: u32) -> u32
         ensures few { result ≤ most }
         ensures foresees { ForeseesBehind result (front_state D.state self.now) }

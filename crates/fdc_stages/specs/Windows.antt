@@ -59,7 +59,7 @@ abbrev pub lead_left : Window → ℕ
 lead_left now = lead_from now.part
 
 -- how many of `count` words come before the last, and before one that needs a byte after so many others. `more` bytes of
--- the content are still to come, and two words of the CRC behind them
+-- the content are still to come. Two words of the CRC follow them
 abbrev pub words_with : ℕ → ℕ → ℕ → ℕ
 words_with bytes more count = if nat_lt bytes more then count - 2 - (more - bytes) else count - 1
 

@@ -107,7 +107,7 @@ impl Window {
         }
     }
 
-    /// The words behind the marks: the mark byte, the content and the CRC.
+    /// The words after the marks: the mark byte, the content and the CRC.
     fn field_words(&self) -> usize
         ensures { result ≡ self.now.more + 4 }
     {
