@@ -4,20 +4,12 @@ use Rattle.std.specs.Prelude.{◌==◌, ◌&&◌, not}
 use Rattle.floppy_driver.proofs.Common.{false≢true, le-leb, Chrn, Rate, R500, R250, Code, BadRequest, NotReady, Disk, IsDisk, track_of, IsAddress, Two, in_bay, DriveCounts, faults_of, FaultsRoseBy, FaultsRoseLess, faults_go_on, met_in, HasClearAddress, MeetsTrack, met_from_mark, met_track, one_met, CostsFor, Rig, IsSound, OnlyAsks, track_under, Bay, StationState, bay_of, set_bay, fresh_bay, IsRefusedAtOnce, HasClearStart, HasNoStart, AcksDrive, Acks, Notes, Driver, is_held, bay_shown, with_waiting, shown, with_notes, IsAttached, Works, ClearsChange, OnlyReads, HasStart, IsHeldSince}
 use Rattle.floppy_driver.proofs.Lasting.{costs_shown}
 use Rattle.floppy_driver.proofs.Rounds.{HasStayedSet}
-use Rattle.floppy_driver.proofs.Shows.{noted_at, bay_shown_at, held_bay, held_shown, spun_at, attached_with, waiting_driven, driven_after, driven_within}
+use Rattle.floppy_driver.proofs.Shows.{noted_at, sound_disk, bay_shown_at, held_bay, held_shown, spun_at, attached_with, waiting_driven, driven_after, driven_within}
 use Rattle.floppy_driver.proofs.Worked.{works_read, works_after, works_round, driven_round, spun_round, clear_is_full, noted_worked, worked_shown}
 
 -- an acknowledgement of a bay
 acks_bay : (old new : StationState) (bay : ℕ) (answer : Result (Unit {0}) Code) → bay ≤ 1 → AcksDrive bay old answer new → Acks bay old answer new
-acks_bay old new bay answer in_range acks =
-    subst (λ (b : Bool). MatchBool b (AcksDrive bay old answer new) (IsRefusedAtOnce BadRequest old answer new)) (sym (le-leb bay 1 in_range)) acks
-
-sound_disk : (rig : Rig) (bay : ℕ) (disk : Disk) → IsSound rig → in_bay rig.media bay ≡ Some disk → IsDisk disk
-sound_disk rig bay disk sound is = subst (λ (m : Option Disk). IfSome m IsDisk) is (by_bay (bay == 0))
-  where
-    by_bay : (is_first : Bool) → IfSome (if is_first then rig.media.first else rig.media.second) IsDisk
-    by_bay true = sound.first
-    by_bay false = sound.second
+acks_bay old new bay answer in_range acks = rw (le-leb bay 1 in_range) acks
 
 -- ---- not acknowledged
 

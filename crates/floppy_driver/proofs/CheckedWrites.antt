@@ -4,7 +4,8 @@ use Rattle.std.specs.Prelude.{not}
 use Rattle.std.proofs.Math.Bool.{beq}
 use Rattle.floppy_driver.proofs.Common.{false≢true, ext_get_or, length-take, length-drop, get_or-take, get_or-drop, get_or_append_left, RoseBy, Rate, Code, NoMark, NotFound, Overrun, BadCrc, Seek, Disk, track_of, content_size, IsSector, IsUnder, Two, in_bay, user_bytes, bytes_from, Counters, IsFaultless, IsUndisturbed, GoesOn, goes_on_after, met_in, MeetsTrack, met_track, Change, Written, HasOtherContent, IsDeviceRefusal, Rig, AreBytes, track_under, FindsField, ReadsBack, IsReadMiss, IsReadReason, IsReadCode, ChangesMedium, WritesData, IsWriteMiss, IsWriteReason, IsWriteCode, AreBytesAlike, WroteWhole, IsMissCause, IsReadBack, WritesChecked}
 use Rattle.flop_base.specs.Lists.{with_items}
-use Rattle.floppy_driver.proofs.Shows.{driven_after, driven_within, undisturbed_faultless}
+use Rattle.floppy_driver.proofs.Shows.{driven_after, driven_within, heads_stay_after, same_under, undisturbed_faultless}
+use Rattle.floppy_driver.proofs.ReadBacks.{read_device}
 use Rattle.floppy_driver.proofs.Rising.{less_first, less_later, less_than_two, disturbed_first, disturbed_later, stalls_later}
 
 -- ---- bytes
@@ -36,13 +37,6 @@ write_device NoMark coded = tt
 write_device NotFound coded = tt
 write_device Overrun coded = tt
 write_device _ coded = absurd coded
-
-read_device : (code : Code) → IsReadCode code → IsDeviceRefusal code
-read_device NoMark coded = tt
-read_device NotFound coded = tt
-read_device BadCrc coded = tt
-read_device Overrun coded = tt
-read_device _ coded = absurd coded
 
 write_cause : (written : Written) (track : List ℕ) (change : Option Change) (bay : ℕ) (code : Code) (a b : Counters) → RoseBy 1 a.data_commands b.data_commands → IsWriteMiss track written.key bay a code b → IsMissCause written track change bay a code b
 write_cause written track change bay code a b rose miss = record {
@@ -105,9 +99,7 @@ module _ (old : Rig) (bay : ℕ) (rate : Rate) (written : Written) (change : Opt
   media_bay = ap (λ (t : Two (Option Disk)). in_bay t bay) back.sends.media
 
   track_same : track_under new bay rate written.key.h ≡ track_under mid bay rate written.key.h
-  track_same =
-      ap (λ (t : Two (Option Disk)). met_in (in_bay t bay) rate (in_bay new.cylinders bay) written.key.h) back.sends.media
-      ∙ ap (λ (t : Two ℕ). met_in (in_bay mid.media bay) rate (in_bay t bay) written.key.h) back.sends.heads.cylinders
+  track_same = same_under mid new bay rate written.key.h back.sends.media back.sends.heads.cylinders
 
   wrote_first : IsFaultless bay old.counters mid.counters → WroteWhole written change
   wrote_first = wrote.done refl
@@ -124,15 +116,7 @@ module _ (old : Rig) (bay : ℕ) (rate : Rate) (written : Written) (change : Opt
   checked : (result : Result (Unit {0}) Code) → (IsOk result → IsReadBack written (in_bay new.media bay) rate (in_bay old.cylinders bay) change bay old.counters new.counters) → IfErr result (λ code. IsMissCause written (track_under new bay rate written.key.h) change bay old.counters code new.counters) → (result ≡ Err Seek → ⊥) → WritesChecked bay rate written old result new
   checked result done refused placed = record {
     change = change;
-    heads = record {
-      cylinders = back.sends.heads.cylinders ∙ wrote.sends.heads.cylinders;
-      numbers = back.sends.heads.numbers ∙ wrote.sends.heads.numbers;
-      changes = back.sends.heads.changes ∙ wrote.sends.heads.changes;
-      spun = record {
-        first = λ e. back.sends.heads.spun.first (wrote.sends.heads.spun.first e);
-        second = λ e. back.sends.heads.spun.second (wrote.sends.heads.spun.second e);
-      };
-    };
+    heads = heads_stay_after old mid new wrote.sends.heads back.sends.heads;
     other_medium = ap (λ (t : Two (Option Disk)). in_bay t (1 - bay)) back.sends.media ∙ wrote.sends.other_medium;
     memory = back.memory ∙ wrote.sends.memory;
     counts = counts;

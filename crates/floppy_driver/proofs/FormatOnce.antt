@@ -3,20 +3,10 @@ use Rattle.std.proofs.Common.{◌≡◌, ℕ, ◌+◌, ◌*◌, ◌≤◌, ◌�
 use Rattle.std.specs.Prelude.{◌==◌, if◌then◌else◌}
 use Rattle.floppy_driver.proofs.Common.{false≢true, sectors_at, Code, NoMark, NotFound, Overrun, BadCrc, Seek, Disk, IsDisk, HasTrack, Two, in_bay, Counters, GoesOn, IsUndisturbed, IsFaultless, goes_on_after, goes_on_itself, faults_go_on, Rate, R500, R250, met_in, MeetsTrack, met_cases, Format, Laying, IsFormattable, IsDeviceRefusal, IsFormatted, Rig, IsSound, track_under, IsReadCode, FormatsTrack, LaysMedium, HasTrackUnder, CanFormatUnder, IsFormatCode, IsPrepared, IsValidFormat, IsBlankUnder, HoldsRecords, IsReadBackMiss, ReadsRecords, IsAttemptRefusal, FormatsIn, Notes}
 use Rattle.floppy_driver.specs.declared.retry_plan.Prepare.TheVariants as prepare
-use Rattle.floppy_driver.proofs.Shows.{driven_after, driven_within, undisturbed_part, undisturbed_faultless}
+use Rattle.floppy_driver.proofs.Shows.{driven_after, driven_within, sound_disk, undisturbed_faultless}
+use Rattle.floppy_driver.proofs.ReadBacks.{read_device, read_not_seek}
+use Rattle.floppy_driver.proofs.Rising.{disturbed_first, disturbed_later, less_first, less_later}
 use Rattle.floppy_driver.proofs.LaidTracks.{lays_none, MayLay, layings_of, IsLaidWhole, one_at_most, laying_lays, laying_only, laying_untouched, laying_whole, laid_holds, same_some}
-
--- the medium in a bay of a sound machine is a disk
-pub sound_at : (rig : Rig) (bay : ℕ) → IsSound rig → IfSome (in_bay rig.media bay) IsDisk
-sound_at rig bay sound = by_bay (bay == 0)
-  where
-    by_bay : (is_first : Bool) → IfSome (if is_first then rig.media.first else rig.media.second) IsDisk
-    by_bay true = sound.first
-    by_bay false = sound.second
-
-some_is : (medium : Option Disk) (disk : Disk) → IfSome medium IsDisk → medium ≡ Some disk → IsDisk disk
-some_is (Some found) disk valid is = subst IsDisk (same_some found disk is) valid
-some_is None disk valid is = absurd (cc is)
 
 in_same_bay : (a b : Two (Option Disk)) (bay : ℕ) → b ≡ a → in_bay b bay ≡ in_bay a bay
 in_same_bay a b bay same = ap (λ (t : Two (Option Disk)). in_bay t bay) same
@@ -30,13 +20,6 @@ format_device NoMark coded = tt
 format_device Overrun coded = tt
 format_device _ coded = absurd coded
 
-read_device : (code : Code) → IsReadCode code → IsDeviceRefusal code
-read_device NoMark coded = tt
-read_device NotFound coded = tt
-read_device BadCrc coded = tt
-read_device Overrun coded = tt
-read_device _ coded = absurd coded
-
 format_not_seek : (code : Code) → IsFormatCode code → code ≡ Seek → ⊥
 format_not_seek code coded is = subst IsFormatCode is coded
 
@@ -48,23 +31,6 @@ seek_not_read (inr e) = cc e
 format_not_read : (code : Code) → IsFormatCode code → (code ≡ NotFound ⊎ code ≡ BadCrc) → ⊥
 format_not_read code coded (inl e) = subst IsFormatCode e coded
 format_not_read code coded (inr e) = subst IsFormatCode e coded
-
-read_not_seek : (code : Code) → IsReadCode code → code ≡ Seek → ⊥
-read_not_seek code coded is = subst IsReadCode is coded
-
--- what was faultless as a whole was faultless in its first part
-pub faultless_first : (bay : ℕ) (a b c : Counters) → GoesOn a b → GoesOn b c → IsFaultless bay a c → IsFaultless bay a b
-faultless_first bay a b c one two quiet =
-    let f = faults_go_on b c bay two in
-    let less = quiet.0 in
-    let below = quiet.1 in
-    (omega arith, omega arith)
-
-pub faultless_later : (bay : ℕ) (a b c : Counters) → GoesOn a b → GoesOn b c → IsFaultless bay a c → IsFaultless bay b c
-faultless_later bay a b c one two quiet =
-    let f = faults_go_on a b bay one in
-    let less = quiet.0 in
-    (omega arith, quiet.1)
 
 -- ---- track 0 wasn't reached
 
@@ -138,13 +104,13 @@ module _ (old middle laid : Rig) (notes after : Notes) (bay : ℕ) (format : For
 
     there : IsFaultless bay old.counters laid.counters → under ≡ format.c
     there quiet =
-        prepared.surely refl refl (faultless_first bay old.counters middle.counters laid.counters prepared.moves.counts formats.sends.counts quiet)
+        prepared.surely refl refl (less_first bay old.counters middle.counters laid.counters prepared.moves.counts formats.sends.counts 1 quiet)
 
     faultless_middle : IsFaultless bay old.counters laid.counters → IsFaultless bay middle.counters laid.counters
-    faultless_middle = faultless_later bay old.counters middle.counters laid.counters prepared.moves.counts formats.sends.counts
+    faultless_middle = less_later bay old.counters middle.counters laid.counters prepared.moves.counts formats.sends.counts 1
 
     undisturbed_middle : IsUndisturbed bay old.counters laid.counters → IsUndisturbed bay middle.counters laid.counters
-    undisturbed_middle = undisturbed_part bay old.counters middle.counters laid.counters laid.counters prepared.moves.counts formats.sends.counts (goes_on_itself laid.counters)
+    undisturbed_middle = disturbed_later bay old.counters middle.counters laid.counters prepared.moves.counts formats.sends.counts 1
 
     track_under_is : under ≡ format.c → (disk : Disk) → was_in ≡ Some disk → HasTrack disk format.c format.h → disk.rate ≡ format.rate → HasTrackUnder middle bay format disk
     track_under_is place disk was has rate =
@@ -161,7 +127,7 @@ module _ (old middle laid : Rig) (notes after : Notes) (bay : ℕ) (format : For
 
     whole : under ≡ format.c → (IsUndisturbed bay middle.counters laid.counters ⊎ (IsOk answer × IsFaultless bay middle.counters laid.counters)) → (disk : Disk) → was_in ≡ Some disk → HasTrack disk format.c format.h → disk.rate ≡ format.rate → IsLaidWhole format disk is_in
     whole place cause disk was has rate =
-        laying_whole format under was_in is_in laying may place disk (some_is (in_bay middle.media bay) disk (sound_at middle bay sound) (same_in ∙ was)) was
+        laying_whole format under was_in is_in laying may place disk (sound_disk middle bay disk sound (same_in ∙ was)) was
         (formats.turn cause disk (track_under_is place disk was has rate))
 
     begins : under ≡ format.c → (IsUndisturbed bay middle.counters laid.counters ⊎ (IsOk answer × IsFaultless bay middle.counters laid.counters)) → IsFormatted format was_in is_in
@@ -222,13 +188,13 @@ module _ (old middle laid : Rig) (notes after : Notes) (bay : ℕ) (format : For
     goes_all = goes_on_after old.counters laid.counters new.counters (counts laying done formats) reads.counts
 
     faultless_laid : IsFaultless bay old.counters new.counters → IsFaultless bay old.counters laid.counters
-    faultless_laid = faultless_first bay old.counters laid.counters new.counters (counts laying done formats) reads.counts
+    faultless_laid = less_first bay old.counters laid.counters new.counters (counts laying done formats) reads.counts 1
 
     undisturbed_laid : IsUndisturbed bay old.counters new.counters → IsUndisturbed bay old.counters laid.counters
-    undisturbed_laid = undisturbed_part bay old.counters old.counters laid.counters new.counters (goes_on_itself old.counters) (counts laying done formats) reads.counts
+    undisturbed_laid = disturbed_first bay old.counters laid.counters new.counters (counts laying done formats) reads.counts 1
 
     undisturbed_back : IsUndisturbed bay old.counters new.counters → IsUndisturbed bay laid.counters new.counters
-    undisturbed_back = undisturbed_part bay old.counters laid.counters new.counters new.counters (counts laying done formats) reads.counts (goes_on_itself new.counters)
+    undisturbed_back = disturbed_later bay old.counters laid.counters new.counters (counts laying done formats) reads.counts 1
 
     faultless_all : IsUndisturbed bay old.counters new.counters → IsFaultless bay old.counters new.counters
     faultless_all = undisturbed_faultless bay old.counters new.counters goes_all

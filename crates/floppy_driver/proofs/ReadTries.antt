@@ -4,7 +4,8 @@ use Rattle.floppy_driver.proofs.Common.{get_or-take, get_or-drop, length-take, l
 use Rattle.track_model.specs.declared.Look.TheVariants as look
 use Rattle.flop_base.specs.Lists.{with_items}
 use Rattle.floppy_driver.proofs.TriedReads.{HasTriedRead}
-use Rattle.floppy_driver.proofs.Shows.{driven_after, driven_within, undisturbed_part}
+use Rattle.floppy_driver.proofs.Shows.{driven_after, driven_within}
+use Rattle.floppy_driver.proofs.Rising.{commands_later, disturbed_later, less_later, rose_later, stalls_later}
 use Rattle.floppy_driver.proofs.Attempts.{spoilt_none, spoilt_more, all_sure, last_sure}
 
 -- ---- memory outside the range
@@ -81,7 +82,7 @@ module _ (start : StationState) (bay : ℕ) (key : Chrn) (address : ℕ) where
         let s = goes.stalls in
         record {
           device = failed.device;
-          reason = λ is quiet. failed.reason is (undisturbed_part bay start.counters counters new.counters new.counters goes more (goes_on_itself new.counters) quiet);
+          reason = λ is quiet. failed.reason is (disturbed_later bay start.counters counters new.counters goes more 1 quiet);
           overrun = λ is. let r = failed.overrun is in omega arith;
           lost = λ is. let r = failed.lost is in omega arith;
           sent = λ other. let r = failed.sent other in let d = goes.data_commands in omega arith;
@@ -90,9 +91,8 @@ module _ (start : StationState) (bay : ℕ) (key : Chrn) (address : ℕ) where
     read_since : (deleted : Bool) (new : StationState) → SameOutside address (content_size key.n) start.memory memory → GoesOn counters new.counters → IsReadWhole bay key address between deleted new → IsRead bay key address start deleted new
     read_since deleted new same more done =
         let read = done.read in
-        let f = faults_go_on start.counters counters bay goes in
         let d = goes.data_commands in
-        let less : IsFaultless bay start.counters new.counters → IsFaultless bay counters new.counters = λ is. (let g = is.0 in omega arith, is.1) in
+        let less = less_later bay start.counters counters new.counters goes more 1 in
         record {
           disk = read.disk;
           cylinder = read.cylinder;

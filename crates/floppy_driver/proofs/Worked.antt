@@ -78,25 +78,7 @@ noted_worked driver old bay new attached works =
     works.other_change (spun_at old.spun new.spun other works.spun) works.other_number works.other_cylinder
     (faults_go_on old.counters new.counters other works.counts) (noted_at driver old other attached)
 
-worked_parts : Bay → Bay → List ℕ → ℕ → Driver → Rig → List DriveCounts → StationState
-worked_parts first second memory spares driver new waiting = record {
-  bays = record { first = first; second = second };
-  memory = memory;
-  spares = spares;
-  tries = driver.tries;
-  counters = with_waiting new.counters waiting;
-}
-
 pub worked_shown : (driver after : Driver) (old : Rig) (bay : ℕ) (new : Rig) (notes : Notes) (spares : ℕ) (waiting : List DriveCounts) → bay ≤ 1 → after ≡ with_notes driver bay notes → Works bay old new → shown after new spares waiting ≡ record (set_bay (shown driver old spares waiting) bay (bay_shown notes (in_bay new.media bay) (in_bay new.changes bay))) { counters = with_waiting new.counters waiting }
-unfolding worked_parts
-worked_shown driver after old zero new notes spares waiting in_range is works =
-    ap (λ (d : Driver). shown d new spares waiting) is
-    ∙ ap (λ (m : Two (Option Disk)). worked_parts (bay_shown notes new.media.first new.changes.first) (bay_shown driver.second m.second new.changes.second) new.memory spares driver new waiting) works.media
-    ∙ ap (λ (b : Bool). worked_parts (bay_shown notes new.media.first new.changes.first) (bay_shown driver.second old.media.second b) new.memory spares driver new waiting) works.other_change
-    ∙ ap (λ (m : List ℕ). worked_parts (bay_shown notes new.media.first new.changes.first) (bay_shown driver.second old.media.second old.changes.second) m spares driver new waiting) works.memory
-worked_shown driver after old (suc zero) new notes spares waiting in_range is works =
-    ap (λ (d : Driver). shown d new spares waiting) is
-    ∙ ap (λ (m : Two (Option Disk)). worked_parts (bay_shown driver.first m.first new.changes.first) (bay_shown notes new.media.second new.changes.second) new.memory spares driver new waiting) works.media
-    ∙ ap (λ (b : Bool). worked_parts (bay_shown driver.first old.media.first b) (bay_shown notes new.media.second new.changes.second) new.memory spares driver new waiting) works.other_change
-    ∙ ap (λ (m : List ℕ). worked_parts (bay_shown driver.first old.media.first old.changes.first) (bay_shown notes new.media.second new.changes.second) m spares driver new waiting) works.memory
+worked_shown driver after old zero new notes spares waiting in_range is works = rw (is, works.media, works.other_change, works.memory) refl
+worked_shown driver after old (suc zero) new notes spares waiting in_range is works = rw (is, works.media, works.other_change, works.memory) refl
 worked_shown driver after old (suc (suc n)) new notes spares waiting in_range is works = absurd (omega arith)

@@ -5,7 +5,8 @@ use Rattle.floppy_driver.proofs.TriedWrites.{IsWriteStart, IsSpared, IsSameOrCut
 use Rattle.floppy_driver.proofs.Shows.{driven_after, undisturbed_faultless}
 use Rattle.floppy_driver.proofs.Attempts.{spoilt_more}
 use Rattle.floppy_driver.proofs.Rising.{disturbed_first, disturbed_later, stalls_later, rose_later, commands_later}
-use Rattle.floppy_driver.proofs.WriteChanges.{same_disks, reaches_more, reached_alike, few_more, steady_more, last_whole, becomes_later, bay_after}
+use Rattle.floppy_driver.proofs.WriteChanges.{reaches_more, reached_alike, few_more, steady_more, last_whole, becomes_later, bay_after}
+use Rattle.floppy_driver.proofs.LaidTracks.{same_some}
 use Rattle.floppy_driver.proofs.WriteTracks.{cut_keeps, cut_more, never_refused}
 
 -- if an address field is met, it is on a track of the disk that is in
@@ -61,7 +62,7 @@ module _ (written : Written) (bay : ℕ) (start mid new : StationState) (count :
 
     module _ (one : Change) (changed : ChangesBay written bay one mid new) where
       made : IsChange written middle.0 one changed.after
-      made = subst (λ d. IsChange written d one changed.after) (same_disks changed.before middle.0 (sym changed.was ∙ middle.1)) changed.makes
+      made = subst (λ d. IsChange written d one changed.after) (same_some changed.before middle.0 (sym changed.was ∙ middle.1)) changed.makes
 
       meets_new : MeetsTrack (bay_of new bay).medium (bay_of new bay).rate written.key.c written.key.h changed.after
       meets_new =
@@ -103,7 +104,7 @@ module _ (written : Written) (bay : ℕ) (start mid new : StationState) (count :
             let inside = window_inside (met (bay_of mid bay) written.key.c written.key.h) written.key.c written.key.h one.place written.key kept_mid.0 address_on in
             let valid : IsDisk middle.0 = middle.2.valid in
             let long = length-met_track (bay_of mid bay).medium (bay_of mid bay).rate written.key.c written.key.h middle.0 valid meets_mid in
-            let same : changed.before.words_per_track ≡ middle.0.words_per_track = ap (λ (d : Disk). d.words_per_track) (same_disks changed.before middle.0 (sym changed.was ∙ middle.1)) in
+            let same : changed.before.words_per_track ≡ middle.0.words_per_track = ap (λ (d : Disk). d.words_per_track) (same_some changed.before middle.0 (sym changed.was ∙ middle.1)) in
             changed.whole quiet (omega arith)
 
         safe : IsTidy (met (bay_of start bay) written.key.c written.key.h) p written.deleted written.content ⊎ (one.words ≡ length (window_of written))
@@ -149,7 +150,7 @@ module _ (written : Written) (bay : ℕ) (start mid new : StationState) (count :
     none_by : (change : Option Change) → MatchOption change ((bay_of new bay).medium ≡ (bay_of mid bay).medium) (λ one. ChangesBay written bay one mid new) → ((p : ℕ) → IsAddressAt (met (bay_of start bay) written.key.c written.key.h) p written.key → ⊥) → (bay_of new bay).medium ≡ Some disk
     none_by None same absent = same ∙ so_kept.none absent
     none_by (Some one) changed absent =
-        let same : changed.before ≡ disk = same_disks changed.before disk (sym changed.was ∙ so_kept.none absent) in
+        let same : changed.before ≡ disk = same_some changed.before disk (sym changed.was ∙ so_kept.none absent) in
         let made : IsChange written disk one changed.after = subst (λ d. IsChange written d one changed.after) same changed.makes in
         let on : written.key.c ≡ one.cylinder = (key_cylinder disk one.cylinder written.key.h one.place written.key regular made.track made.address).0 in
         let meets : MeetsTrack (bay_of start bay).medium (bay_of start bay).rate written.key.c written.key.h disk = record { is_in = is; has = subst (λ c. HasTrack disk c written.key.h) (sym on) made.track; same_rate = ap (λ (d : Disk). d.rate) (sym same) ∙ changed.same_rate ∙ rate_mid } in
@@ -173,7 +174,7 @@ module _ (written : Written) (bay : ℕ) (start mid new : StationState) (count :
 
       module _ (one : Change) (changed : ChangesBay written bay one mid new) where
         same_before : changed.before ≡ known_mid.0
-        same_before = same_disks changed.before known_mid.0 (sym changed.was ∙ known_mid.1)
+        same_before = same_some changed.before known_mid.0 (sym changed.was ∙ known_mid.1)
 
         made_mid : IsChange written known_mid.0 one changed.after
         made_mid = subst (λ d. IsChange written d one changed.after) same_before changed.makes

@@ -2,7 +2,8 @@ use Rattle.std.proofs.Common.{◌+◌, Ok, Err, refl, ap, ◌∙◌, arith}
 use Rattle.floppy_driver.proofs.Common.{in_bay, goes_on_itself, goes_on_after, Bay, shown, format_once_port_accesses, format_steps, format_turns, format_of}
 use Rattle.floppy_driver.proofs.Shows.{bay_shown_at}
 use Rattle.floppy_driver.proofs.Lasting.{costs_any, costs_fewer, costs_next}
-use Rattle.floppy_driver.proofs.FormatTries.{formats_none, formats_more, formats_done, medium_twice, medium_itself}
+use Rattle.floppy_driver.proofs.FormatTries.{formats_none, formats_more, formats_done}
+use Rattle.floppy_driver.proofs.WriteChanges.{becomes_later, medium_itself}
 use Rattle.floppy_driver.proofs.driver.Driver.format_in_attempts.Goals as goal
 
 pub loop-init : goal.loop-init
@@ -36,7 +37,7 @@ returns-in-Ok-clause-medium g c = λ spares waiting.
     let middle = g.C.Commands.rig c.loop.machine in
     let new = g.C.Commands.rig c.format_once.new.machine in
     let bay = c.args.bay in
-    medium_twice (shown c.args.self.now (g.C.Commands.rig c.args.machine.now) spares waiting) (shown c.loop.self middle spares waiting) (shown c.format_once.new.self new spares waiting) bay
+    becomes_later (shown c.args.self.now (g.C.Commands.rig c.args.machine.now) spares waiting) (shown c.loop.self middle spares waiting) (shown c.format_once.new.self new spares waiting) bay
     (in_bay middle.media bay) (in_bay new.media bay) (c.loop.invariant.medium spares waiting) (c.format_once.ensures.medium spares waiting)
 
 pub loop-preserved : goal.loop-preserved
@@ -58,7 +59,7 @@ loop-preserved g c =
           formats_more c.loop.counter (format_of c.args.asked) bay c.loop.last (Err c.in-Err.code) (in_bay old.media bay) (in_bay middle.media bay) (in_bay new.media bay)
           old.counters middle.counters new.counters so_far.counts done.counts so_far.formats c.in-Err.ensures.formats;
       medium = λ spares waiting.
-          medium_twice (shown c.args.self.now old spares waiting) (shown c.loop.self middle spares waiting) (shown c.format_once.new.self new spares waiting) bay
+          becomes_later (shown c.args.self.now old spares waiting) (shown c.loop.self middle spares waiting) (shown c.format_once.new.self new spares waiting) bay
           (in_bay middle.media bay) (in_bay new.media bay) (so_far.medium spares waiting) (done.medium spares waiting);
     }
 
