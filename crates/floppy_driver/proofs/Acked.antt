@@ -1,7 +1,7 @@
 -- A bay is acknowledged or refused.
-use Rattle.std.proofs.Common.{◌≡◌, ℕ, ◌≤◌, ◌⊎◌, Bool, true, false, if◌then◌else◌, List, Option, Some, None, IsSome, IfSome, Result, Ok, Err, MatchBool, refl, sym, ap, ◌∙◌, subst, arith, inl, inr}
-use Rattle.std.specs.Prelude.{◌==◌, ◌&&◌, not}
-use Rattle.floppy_driver.proofs.Common.{false≢true, le-leb, Chrn, Rate, R500, R250, Code, BadRequest, NotReady, Disk, IsDisk, track_of, IsAddress, Two, in_bay, DriveCounts, faults_of, FaultsRoseBy, FaultsRoseLess, faults_go_on, met_in, HasClearAddress, MeetsTrack, met_from_mark, met_track, one_met, CostsFor, Rig, IsSound, OnlyAsks, track_under, Bay, StationState, bay_of, set_bay, fresh_bay, IsRefusedAtOnce, HasClearStart, HasNoStart, AcksDrive, Acks, Notes, Driver, is_held, bay_shown, with_waiting, shown, with_notes, IsAttached, Works, ClearsChange, OnlyReads, HasStart, IsHeldSince}
+use Rattle.std.proofs.Common.{◌≡◌, ℕ, ◌≤◌, ◌⊎◌, Bool, true, false, if◌then◌else◌, List, Option, Some, None, IsSome, Result, Ok, Err, refl, sym, ap, ◌∙◌, subst, arith, inl, inr}
+use Rattle.std.specs.Prelude.{◌&&◌, not}
+use Rattle.floppy_driver.proofs.Common.{false≢true, le-leb, Chrn, Rate, R500, R250, Code, NotReady, Disk, track_of, IsAddress, Two, in_bay, DriveCounts, faults_of, FaultsRoseBy, FaultsRoseLess, faults_go_on, met_in, HasClearAddress, MeetsTrack, met_from_mark, met_track, one_met, CostsFor, Rig, IsSound, OnlyAsks, track_under, Bay, StationState, bay_of, set_bay, fresh_bay, HasClearStart, HasNoStart, AcksDrive, Acks, Notes, Driver, is_held, bay_shown, with_waiting, shown, with_notes, IsAttached, Works, ClearsChange, OnlyReads, HasStart, IsHeldSince}
 use Rattle.floppy_driver.proofs.Lasting.{costs_shown}
 use Rattle.floppy_driver.proofs.Rounds.{HasStayedSet}
 use Rattle.floppy_driver.proofs.Shows.{noted_at, sound_disk, bay_shown_at, held_bay, held_shown, spun_at, attached_with, waiting_driven, driven_after, driven_within}

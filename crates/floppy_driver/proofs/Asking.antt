@@ -1,7 +1,7 @@
 -- Calls that only ask, and calls that set the rate of a bay.
-use Rattle.std.proofs.Common.{◌≡◌, ℕ, ◌≤◌, Bool, true, false, List, Option, Some, None, MatchOption, Result, Ok, Err, refl, sym, ap, ◌∙◌, subst, arith}
-use Rattle.std.specs.Prelude.{not, if◌then◌else◌}
-use Rattle.floppy_driver.proofs.Common.{le-leb, Disk, Rate, Code, BadRequest, Changed, Two, in_bay, CostsUpTo, DriveCounts, CostsFor, Rig, OnlyAsks, Bay, StationState, bay_of, set_bay, is_acknowledged, IsRefusedAtOnce, SetsRate, RatesTo, TellsChange, Notes, Driver, notes_of, is_held, bay_shown, with_waiting, shown, with_notes, HasAsked}
+use Rattle.std.proofs.Common.{◌≡◌, ℕ, ◌≤◌, Bool, true, false, List, Option, Result, Ok, Err, refl, sym, ap, ◌∙◌, arith}
+use Rattle.std.specs.Prelude.{not}
+use Rattle.floppy_driver.proofs.Common.{le-leb, Disk, Rate, Code, Changed, Two, in_bay, CostsUpTo, DriveCounts, CostsFor, Rig, OnlyAsks, Bay, StationState, bay_of, set_bay, is_acknowledged, IsRefusedAtOnce, SetsRate, RatesTo, TellsChange, Notes, Driver, notes_of, is_held, bay_shown, with_waiting, shown, with_notes, HasAsked}
 use Rattle.floppy_driver.proofs.Lasting.{asking_costs, question_costs}
 use Rattle.floppy_driver.proofs.Shows.{held_bay, held_shown, held_bay_shown, acknowledged_held, asks_shown, noted_shown}
 

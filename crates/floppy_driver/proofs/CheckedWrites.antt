@@ -2,7 +2,7 @@
 use Rattle.std.proofs.Common.{MatchOption, IfOk, IfErr, IsOk, ◌≡◌, ℕ, ◌+◌, ◌-◌, ◌<◌, ◌≤◌, Bool, true, false, List, length, drop, get_or, Option, Some, None, Result, Ok, Err, refl, sym, ap, ◌∙◌, subst, arith, inl, inr}
 use Rattle.std.specs.Prelude.{not}
 use Rattle.std.proofs.Math.Bool.{beq}
-use Rattle.floppy_driver.proofs.Common.{false≢true, ext_get_or, length-take, length-drop, get_or-take, get_or-drop, get_or_append_left, RoseBy, Rate, Code, NoMark, NotFound, Overrun, BadCrc, Seek, Disk, track_of, content_size, IsSector, IsUnder, Two, in_bay, user_bytes, bytes_from, Counters, IsFaultless, IsUndisturbed, GoesOn, goes_on_after, met_in, MeetsTrack, met_track, Change, Written, HasOtherContent, IsDeviceRefusal, Rig, AreBytes, track_under, FindsField, ReadsBack, IsReadMiss, IsReadReason, IsReadCode, ChangesMedium, WritesData, IsWriteMiss, IsWriteReason, IsWriteCode, AreBytesAlike, WroteWhole, IsMissCause, IsReadBack, WritesChecked}
+use Rattle.floppy_driver.proofs.Common.{false≢true, ext_get_or, length-take, length-drop, get_or-take, get_or-drop, get_or_append_left, RoseBy, Rate, Code, NoMark, NotFound, Overrun, BadCrc, Seek, Disk, track_of, content_size, IsSector, IsUnder, Two, in_bay, user_bytes, bytes_from, Counters, IsFaultless, IsUndisturbed, GoesOn, goes_on_after, MeetsTrack, met_track, Change, Written, HasOtherContent, IsDeviceRefusal, Rig, AreBytes, track_under, FindsField, ReadsBack, IsReadMiss, IsReadReason, IsReadCode, ChangesMedium, WritesData, IsWriteMiss, IsWriteReason, IsWriteCode, AreBytesAlike, WroteWhole, IsMissCause, IsReadBack, WritesChecked}
 use Rattle.flop_base.specs.Lists.{with_items}
 use Rattle.floppy_driver.proofs.Shows.{driven_after, driven_within, heads_stay_after, same_under, undisturbed_faultless}
 use Rattle.floppy_driver.proofs.ReadBacks.{read_device}

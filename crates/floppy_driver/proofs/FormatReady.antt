@@ -1,7 +1,7 @@
 -- A medium that can be written can still be written after the commands of a format.
 use Rattle.std.proofs.Common.{◌≡◌, ℕ, Bool, false, Option, Some, None, MatchOption, Result, sym, ap, ◌∙◌}
-use Rattle.floppy_driver.proofs.Common.{option_map_or, Code, Disk, Two, in_bay, Format, Laying, Prepare, Rig, IsSound, HeadsStay, OnlyAsks, FormatsTrack, LaysMedium, notes_of, is_held, with_notes, IsAttached, CanTry, IsPrepared, CanWrite, ReadsRecords, Driver}
-use Rattle.floppy_driver.proofs.Shows.{attached_asked, attached_stays, attached_written}
+use Rattle.floppy_driver.proofs.Common.{option_map_or, Code, Disk, Two, in_bay, Format, Laying, Prepare, Rig, IsSound, OnlyAsks, FormatsTrack, LaysMedium, notes_of, with_notes, IsAttached, CanTry, IsPrepared, CanWrite, ReadsRecords, Driver}
+use Rattle.floppy_driver.proofs.Shows.{attached_same, attached_written}
 use Rattle.floppy_driver.proofs.Attempts.{can_try_stays, prepared_ready}
 
 abbrev is_protected : Option Disk → Bool
@@ -20,7 +20,7 @@ can_write_prepared driver after old new bay target way ready can is prepared att
 -- after a question to the machine
 pub can_write_asked : (driver : Driver) (old new : Rig) (bay : ℕ) → CanTry driver old bay → OnlyAsks old new → IsSound new → is_protected (in_bay old.media bay) ≡ false → CanWrite driver new bay
 can_write_asked driver old new bay can asks sound unprotected = record {
-  ready = can_try_stays driver old new bay can asks.heads (attached_asked driver old new asks can.attached) sound;
+  ready = can_try_stays driver old new bay can asks.heads (attached_same driver old new asks.heads asks.media asks.counts can.attached) sound;
   unprotected = same_protected old new bay asks.media ∙ unprotected;
 }
 
@@ -47,10 +47,6 @@ module _ (driver : Driver) (old new : Rig) (bay : ℕ) (can : CanWrite driver ol
   -- after records were read back
   pub can_write_read : (count : ℕ) (blank there : Type 0) (answer : Result (Unit {0}) Code) → ReadsRecords bay count blank there old answer new → CanWrite driver new bay
   can_write_read count blank there answer reads = record {
-    ready =
-        can_try_stays driver old new bay can.ready reads.heads
-        (attached_stays driver old new reads.counts reads.heads
-        (λ none. ap (λ (t : Two (Option Disk)). t.first) (sym reads.media) ∙ none) (λ none. ap (λ (t : Two (Option Disk)). t.second) (sym reads.media) ∙ none)
-        can.ready.attached) sound;
+    ready = can_try_stays driver old new bay can.ready reads.heads (attached_same driver old new reads.heads reads.media reads.counts can.ready.attached) sound;
     unprotected = same_protected old new bay reads.media ∙ can.unprotected;
   }

@@ -1,6 +1,6 @@
 -- A format is a step of the sector model.
-use Rattle.std.proofs.Common.{◌≡◌, ℕ, ◌+◌, ◌-◌, ◌*◌, ◌<◌, ◌≤◌, Bool, true, false, List, Option, Some, None, MatchOption, Result, Ok, Err, IsErr, IfErr, refl, sym, ap, ◌∙◌, subst, arith}
-use Rattle.std.specs.Prelude.{◌&&◌, not, nat_le, if◌then◌else◌}
+use Rattle.std.proofs.Common.{◌≡◌, ℕ, ◌+◌, ◌-◌, ◌*◌, ◌<◌, ◌≤◌, Bool, true, false, List, Option, Result, Ok, Err, IsErr, IfErr, refl, sym, ap, ◌∙◌, subst, arith}
+use Rattle.std.specs.Prelude.{◌&&◌, nat_le, if◌then◌else◌}
 use Rattle.floppy_driver.proofs.Common.{option_map_or, le-leb, lt-leb, sectors_at, Rate, R500, Code, BadRequest, Changed, Protected, Seek, Disk, Two, in_bay, DriveCounts, Counters, GoesOn, IsFaultless, DisturbedLess, IsDriven, CostsUpTo, goes_on_after, faults_go_on, Format, IsFormattable, Bay, StationState, bay_of, set_bay, format_once_port_accesses, format_port_accesses, format_steps, format_time, format_turns, is_bay, is_place, is_acknowledged, is_protected, most_format_gap, is_format_request, IsRefusedAtOnce, IsFormatCause, FormatsDrive, FormatsTo, CostsFor, Rig, OnlyAsks, notes_of, is_held, with_waiting, shown, HasAsked, IsAttemptRefusal, FormatsIn, HasOnlyMedium, Driver}
 use Rattle.floppy_driver.proofs.Shows.{bay_shown_at, acknowledged_held, asks_shown, driven_after, heads_stay_after}
 use Rattle.floppy_driver.proofs.Lasting.{costs_shown, format_costs, question_costs, questions_cost}

@@ -1,7 +1,6 @@
 -- Attempts of a format, one after the other.
-use Rattle.std.proofs.Common.{◌≡◌, ℕ, ◌+◌, ◌-◌, ◌*◌, ◌≤◌, Bool, true, false, List, [], ◌∷◌, ◌++◌, Option, Some, None, Result, Ok, Err, IfErr, refl, sym, ap, ◌∙◌, subst, arith}
-use Rattle.std.specs.Prelude.{◌==◌, if◌then◌else◌}
-use Rattle.floppy_driver.proofs.Common.{false≢true, length-append, sectors_at, standard_code, Rate, R500, R250, Code, Disk, HasTrack, Fits, Two, Counters, GoesOn, IsUndisturbed, goes_on_itself, faults_go_on, Format, Laying, format_keys, formatted, CanFormat, IsFormattable, StationState, Bay, bay_of, LaysDisk, Lays, IsFormatted, IsUnformatted, IsAttemptRefusal, EndsFormat, FormatsIn, HasOnlyMedium}
+use Rattle.std.proofs.Common.{◌≡◌, ℕ, ◌+◌, ◌-◌, ◌*◌, ◌≤◌, List, [], ◌∷◌, ◌++◌, Option, Some, None, Result, Ok, Err, refl, sym, ap, ◌∙◌, subst, arith}
+use Rattle.floppy_driver.proofs.Common.{false≢true, length-append, sectors_at, standard_code, Rate, R500, R250, Code, Disk, HasTrack, Fits, Counters, GoesOn, IsUndisturbed, Format, Laying, format_keys, formatted, CanFormat, IsFormattable, LaysDisk, Lays, IsFormatted, IsUnformatted, EndsFormat, FormatsIn}
 use Rattle.std.proofs.lemmas.List.Elements.{All-append}
 use Rattle.floppy_driver.proofs.Shows.{driven_after, driven_within, disturbed_less_more}
 use Rattle.floppy_driver.proofs.LaidTracks.{lays_none, same_some}

@@ -1,6 +1,6 @@
 -- Looking for the rate of a medium.
-use Rattle.std.proofs.Common.{◌≡◌, ℕ, ◌+◌, ◌*◌, ◌≤◌, Bool, false, List, Option, Result, Ok, Err, IfErr, is_ok, sym, ap, ◌∙◌, subst, arith, inl, inr}
-use Rattle.floppy_driver.proofs.Common.{false≢true, cases_lt, last_count, Chrn, Rate, R500, R250, Code, Disk, Two, in_bay, Counters, faults_of, IsFaultless, FaultsRoseBy, GoesOn, goes_on_after, faults_go_on, met_in, HasClearAddress, Rig, StaysSpun, track_under, SendsRead, ReadsId, OnlyReads, FindsRate}
+use Rattle.std.proofs.Common.{◌≡◌, ℕ, ◌+◌, ◌*◌, ◌≤◌, Bool, false, List, Result, Ok, Err, IfErr, is_ok, sym, ◌∙◌, subst, arith, inl, inr}
+use Rattle.floppy_driver.proofs.Common.{false≢true, cases_lt, last_count, Chrn, R500, R250, Code, Two, Counters, faults_of, IsFaultless, FaultsRoseBy, GoesOn, goes_on_after, faults_go_on, HasClearAddress, Rig, StaysSpun, track_under, SendsRead, ReadsId, OnlyReads, FindsRate}
 use Rattle.floppy_driver.proofs.Rounds.{HasFoundNone}
 use Rattle.floppy_driver.proofs.Shows.{driven_after, driven_within, heads_stay_after, same_under}
 

@@ -1,6 +1,6 @@
 -- Reading a record back to the driver's page.
-use Rattle.std.proofs.Common.{◌≡◌, ℕ, ◌+◌, ◌≤◌, Bool, false, List, length, drop, replicate, get_or, Option, Result, Ok, Err, IsOk, IfErr, refl, sym, ap, ◌∙◌, subst, arith, inl, inr}
-use Rattle.floppy_driver.proofs.Common.{false≢true, get_or_append_left, get_or-replicate, Chrn, Rate, Code, NoMark, NotFound, BadCrc, Overrun, Seek, Disk, track_of, IsAddressAt, content_size, content_at, IsSector, one_look_at, Two, in_bay, goes_on_after, key_of, IsUndisturbed, HasNothing, met_track, IsDeviceRefusal, Rig, HeadsStay, track_under, IsReadReason, IsReadCode, IsReadBackMiss, ReadsBack, IsFilled, IsBlankUnder, HoldsRecord, HoldsRecords, ReadsRecords}
+use Rattle.std.proofs.Common.{◌≡◌, ℕ, ◌+◌, ◌≤◌, Bool, false, List, length, drop, replicate, get_or, Result, Ok, Err, IsOk, IfErr, refl, sym, ap, ◌∙◌, subst, arith, inl, inr}
+use Rattle.floppy_driver.proofs.Common.{false≢true, get_or_append_left, get_or-replicate, Chrn, Rate, Code, NoMark, NotFound, BadCrc, Overrun, Seek, track_of, IsAddressAt, content_size, content_at, IsSector, one_look_at, in_bay, goes_on_after, key_of, IsUndisturbed, HasNothing, met_track, IsDeviceRefusal, Rig, HeadsStay, track_under, IsReadReason, IsReadCode, IsReadBackMiss, ReadsBack, IsFilled, IsBlankUnder, HoldsRecord, HoldsRecords, ReadsRecords}
 use Rattle.track_model.specs.declared.Look.TheVariants as look
 use Rattle.flop_base.specs.Lists.{with_items}
 use Rattle.floppy_driver.proofs.Shows.{driven_after, driven_within, heads_stay_after, same_under, undisturbed_faultless}

@@ -1,6 +1,6 @@
 -- One attempt at a read.
 use Rattle.std.proofs.Common.{◌≡◌, ◌↔◌, ℕ, ◌≤◌, IsTrue, Bool, true, List, Option, is_some, Result, Ok, Err, IfOk, IfErr, refl, sym, ap, ◌∙◌, subst, arith, inl, inr}
-use Rattle.floppy_driver.proofs.Common.{Disk, Chrn, Rate, Code, NoMark, NotFound, Overrun, BadCrc, Seek, Prepare, content_size, Two, in_bay, DriveCounts, IsFaultless, GoesOn, SameOutside, goes_on_after, goes_on_itself, faults_go_on, met_in, Rig, track_under, IsReadReason, IsReadCode, IsReadMiss, FindsField, ReadsData, Bay, StationState, bay_of, met, IsDeviceRefusal, Driver, notes_of, shown, with_notes, with_waiting, HasAsked, IsPrepared, CanTry, IsSure, IsReadWhole, IsReadFailed, TriesRead}
+use Rattle.floppy_driver.proofs.Common.{Disk, Chrn, Rate, Code, Seek, Prepare, content_size, Two, in_bay, DriveCounts, GoesOn, SameOutside, goes_on_after, faults_go_on, met_in, Rig, track_under, IsReadReason, IsReadMiss, FindsField, ReadsData, Bay, StationState, bay_of, met, Driver, notes_of, shown, with_notes, with_waiting, HasAsked, IsPrepared, CanTry, IsSure, IsReadWhole, IsReadFailed, TriesRead}
 use Rattle.floppy_driver.specs.declared.retry_plan.Prepare.TheVariants as prepare
 use Rattle.flop_base.specs.Lists.{with_items}
 use Rattle.floppy_driver.proofs.Shows.{held_bay, held_bay_shown, read_shown, waiting_goes_on, waiting_driven, waiting_undisturbed, driven_after, undisturbed_faultless}

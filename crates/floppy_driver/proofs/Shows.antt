@@ -75,11 +75,9 @@ disturbed_less_more n bay a b c one two most not less =
 
 -- the medium in a bay of a sound machine is a disk
 pub sound_disk : (rig : Rig) (bay : ℕ) (disk : Disk) → IsSound rig → in_bay rig.media bay ≡ Some disk → IsDisk disk
-sound_disk rig bay disk sound is = subst (λ (m : Option Disk). IfSome m IsDisk) is (by_bay (bay == 0))
-  where
-    by_bay : (is_first : Bool) → IfSome (if is_first then rig.media.first else rig.media.second) IsDisk
-    by_bay true = sound.first
-    by_bay false = sound.second
+sound_disk rig bay disk sound is =
+    subst (λ (m : Option Disk). IfSome m IsDisk) is
+    (elim (bay == 0) as (λ f. IfSome (if f then rig.media.first else rig.media.second) IsDisk) [ true ↦ sound.first | false ↦ sound.second ])
 
 shown_at : (is_first : Bool) (driver : Driver) (rig : Rig) → (if is_first then bay_shown driver.first rig.media.first rig.changes.first else bay_shown driver.second rig.media.second rig.changes.second) ≡ bay_shown (if is_first then driver.first else driver.second) (if is_first then rig.media.first else rig.media.second) (if is_first then rig.changes.first else rig.changes.second)
 shown_at true driver rig = refl
@@ -226,19 +224,14 @@ noted_later notes medium medium' line line' spun spun' pcn pcn' cylinder cylinde
     }
 
 pub spun_at : (old new : Two Bool) (bay : ℕ) → StaysSpun old new → in_bay old bay ≡ true → in_bay new bay ≡ true
-spun_at old new bay stays = by_bay (bay == 0)
-  where
-    by_bay : (is_first : Bool) → (if is_first then old.first else old.second) ≡ true → (if is_first then new.first else new.second) ≡ true
-    by_bay true = stays.first
-    by_bay false = stays.second
+spun_at old new bay stays =
+    elim (bay == 0) as (λ f. (if f then old.first else old.second) ≡ true → (if f then new.first else new.second) ≡ true) [ true ↦ stays.first | false ↦ stays.second ]
 
 module _ (driver : Driver) (old new : Rig) (counts : GoesOn old.counters new.counters) where
   -- if heads, numbers and lines stay, and no medium is taken out, the notes stay true
   noted_stays : (bay : ℕ) → HeadsStay old new → (in_bay new.media bay ≡ None → in_bay old.media bay ≡ None) → IsNotedAt driver old bay → IsNotedAt driver new bay
   noted_stays bay heads media noted =
-      noted_later (notes_of driver bay) (in_bay old.media bay) (in_bay new.media bay) (in_bay old.changes bay) (in_bay new.changes bay)
-      (in_bay old.spun bay) (in_bay new.spun bay) (in_bay old.numbers bay) (in_bay new.numbers bay) (in_bay old.cylinders bay) (in_bay new.cylinders bay)
-      (faults_of old.counters bay) (faults_of new.counters bay) media (ap (λ (t : Two Bool). in_bay t bay) heads.changes)
+      noted_later (notes_of driver bay) _ _ _ _ _ _ _ _ _ _ _ _ media (ap (λ (t : Two Bool). in_bay t bay) heads.changes)
       (spun_at old.spun new.spun bay heads.spun) (ap (λ (t : Two ℕ). in_bay t bay) heads.numbers) (ap (λ (t : Two ℕ). in_bay t bay) heads.cylinders)
       (faults_go_on old.counters new.counters bay counts) noted
 
@@ -252,11 +245,8 @@ module _ (driver : Driver) (old new : Rig) (counts : GoesOn old.counters new.cou
   pub noted_other : (bay : ℕ) → bay ≤ 1 → MovesHeads bay old new → IsNotedAt driver old (1 - bay) → IsNotedAt driver new (1 - bay)
   noted_other bay in_range moves noted =
       let other = 1 - bay in
-      noted_later (notes_of driver other) (in_bay old.media other) (in_bay new.media other) (in_bay old.changes other) (in_bay new.changes other)
-      (in_bay old.spun other) (in_bay new.spun other) (in_bay old.numbers other) (in_bay new.numbers other) (in_bay old.cylinders other) (in_bay new.cylinders other)
-      (faults_of old.counters other) (faults_of new.counters other) (λ none. ap (λ (t : Two (Option Disk)). in_bay t other) (sym moves.media) ∙ none)
-      (other_line bay in_range moves.changes)
-      (spun_at old.spun new.spun other moves.spun) moves.other_number moves.other_cylinder
+      noted_later (notes_of driver other) _ _ _ _ _ _ _ _ _ _ _ _ (λ none. ap (λ (t : Two (Option Disk)). in_bay t other) (sym moves.media) ∙ none)
+      (other_line bay in_range moves.changes) (spun_at old.spun new.spun other moves.spun) moves.other_number moves.other_cylinder
       (faults_go_on old.counters new.counters other counts) noted
     where
       other_line : (n : ℕ) → n ≤ 1 → (new.changes ≡ old.changes) ⊎ (new.changes ≡ with_bay old.changes n false) → in_bay new.changes (1 - n) ≡ in_bay old.changes (1 - n)
@@ -265,15 +255,10 @@ module _ (driver : Driver) (old new : Rig) (counts : GoesOn old.counters new.cou
       other_line (suc zero) small (inr cleared) = ap (λ (t : Two Bool). t.first) cleared
       other_line (suc (suc n)) small (inr cleared) = absurd (omega arith)
 
-pub attached_asked : (driver : Driver) (old new : Rig) → OnlyAsks old new → IsAttached driver old → IsAttached driver new
-attached_asked driver old new asks =
-    attached_stays driver old new asks.counts asks.heads
-    (λ none. ap (λ (t : Two (Option Disk)). t.first) (sym asks.media) ∙ none) (λ none. ap (λ (t : Two (Option Disk)). t.second) (sym asks.media) ∙ none)
-
-pub attached_read : (driver : Driver) (old new : Rig) → SendsRead old new → IsAttached driver old → IsAttached driver new
-attached_read driver old new sends =
-    attached_stays driver old new sends.counts sends.heads
-    (λ none. ap (λ (t : Two (Option Disk)). t.first) (sym sends.media) ∙ none) (λ none. ap (λ (t : Two (Option Disk)). t.second) (sym sends.media) ∙ none)
+pub attached_same : (driver : Driver) (old new : Rig) → HeadsStay old new → new.media ≡ old.media → GoesOn old.counters new.counters → IsAttached driver old → IsAttached driver new
+attached_same driver old new heads media counts =
+    attached_stays driver old new counts heads
+    (λ none. ap (λ (t : Two (Option Disk)). t.first) (sym media) ∙ none) (λ none. ap (λ (t : Two (Option Disk)). t.second) (sym media) ∙ none)
 
 -- the agreement after a write, if the medium of the bay stays in
 pub attached_written : (driver : Driver) (old new : Rig) (bay : ℕ) → bay ≤ 1 → GoesOn old.counters new.counters → HeadsStay old new → in_bay new.media (1 - bay) ≡ in_bay old.media (1 - bay) → (in_bay new.media bay ≡ None → in_bay old.media bay ≡ None) → IsAttached driver old → IsAttached driver new

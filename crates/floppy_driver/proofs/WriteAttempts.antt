@@ -1,6 +1,6 @@
 -- One attempt at a write, as the station shows it.
 use Rattle.std.proofs.Common.{MatchOption, IfErr, ◌≡◌, ◌↔◌, ℕ, zero, suc, ◌-◌, ◌≤◌, Bool, true, false, IsTrue, List, Option, Some, None, IsSome, is_some, Result, Ok, Err, refl, sym, ap, ◌∙◌, subst, arith}
-use Rattle.floppy_driver.proofs.Common.{option_map_or, Chrn, Rate, Code, Disk, Two, in_bay, bytes_from, content_size, DriveCounts, Counters, GoesOn, IsUndisturbed, goes_on_after, faults_go_on, Prepare, met_in, Change, Written, change_keeps_tracks, Bay, StationState, Becomes, Stays, bay_of, set_bay, met, Rig, IsSound, HeadsStay, track_under, ChangesMedium, Notes, Driver, notes_of, is_held, bay_shown, with_waiting, shown, with_notes, HasAsked, IsSure, IsAttached, IsPrepared, CanWrite, IsMissCause, IsReadBack, WritesChecked, ChangesBay, TriesWrite}
+use Rattle.floppy_driver.proofs.Common.{option_map_or, Chrn, Rate, Code, Disk, Two, in_bay, bytes_from, content_size, DriveCounts, Counters, GoesOn, IsUndisturbed, goes_on_after, faults_go_on, Prepare, met_in, Change, Written, change_keeps_tracks, Bay, StationState, Becomes, Stays, bay_of, set_bay, met, Rig, IsSound, track_under, ChangesMedium, Notes, Driver, notes_of, is_held, with_waiting, shown, with_notes, HasAsked, IsSure, IsAttached, IsPrepared, CanWrite, IsMissCause, IsReadBack, WritesChecked, ChangesBay, TriesWrite}
 use Rattle.floppy_driver.specs.declared.retry_plan.Prepare.TheVariants as prepare
 use Rattle.floppy_driver.proofs.Attempts.{can_try_stays, prepared_shown, prepared_steady, sure_way}
 use Rattle.floppy_driver.proofs.FormatReady.{can_write_prepared}

@@ -18,8 +18,7 @@ reaches_some written None changes mid one after none is = absurd (cc none.1)
 pub reaches_more : (written : Written) (bay : ℕ) (mid new : StationState) (medium : Option Disk) (changes : List Change) (change : Option Change) → Reaches written medium changes (bay_of mid bay).medium → MatchOption change ((bay_of new bay).medium ≡ (bay_of mid bay).medium) (λ one. ChangesBay written bay one mid new) → Reaches written medium (with_change changes change) (bay_of new bay).medium
 reaches_more written bay mid new medium changes None made same = subst (Reaches written medium changes) (sym same) made
 reaches_more written bay mid new medium changes (Some one) made changed =
-    subst (Reaches written medium (changes ++ one ∷ [])) (sym changed.is)
-    (reaches_some written medium changes changed.before one changed.after (subst (Reaches written medium changes) changed.was made) changed.makes)
+    rw changed.is (reaches_some written medium changes changed.before one changed.after (rw changed.was at made) changed.makes)
 
 reaches_none_yet : (written : Written) (medium : Option Disk) → Reaches written medium [] medium
 reaches_none_yet written (Some disk) = refl

@@ -1,7 +1,6 @@
 -- How several attempts at a write begin and end.
-use Rattle.std.proofs.Common.{MatchOption, IsOk, ◌≡◌, ℕ, ◌+◌, ◌*◌, ◌≤◌, ◌⊎◌, Bool, true, false, [], Option, Some, None, Result, Ok, Err, refl, sym, ap, ◌∙◌, subst, arith, inl, inr}
-use Rattle.std.specs.Prelude.{◌==◌, if◌then◌else◌}
-use Rattle.floppy_driver.proofs.Common.{false≢true, Code, Disk, IsDisk, HasTrack, track_of, IsAddressAt, content_at, LookAt, IsLone, IsSector, IsUnder, window_place, Two, faults_of, IsFaultless, FaultsRoseLess, CostsUpTo, DisturbedLess, IsRegularDisk, IsOnMap, Change, Written, IsChange, HasWritten, change_at, entry_of, IsSameOrChanged, met_track, key_cylinder, one_address, rewritten_keeps_sectors, rewritten_keeps_address, Bay, StationState, Becomes, bay_of, set_bay, met, write_port_accesses, write_time, IsLastRead, IsWritten, KeepsRegular, WritesDrive, HasAsked, IsReadBack, TriesWrite, WroteWhole}
+use Rattle.std.proofs.Common.{MatchOption, IsOk, ◌≡◌, ℕ, ◌+◌, ◌*◌, ◌≤◌, ◌⊎◌, [], Option, Some, None, Result, Ok, Err, refl, sym, ap, ◌∙◌, subst, arith, inl, inr}
+use Rattle.floppy_driver.proofs.Common.{false≢true, Code, Disk, IsDisk, HasTrack, track_of, IsAddressAt, content_at, LookAt, IsLone, IsSector, IsUnder, window_place, faults_of, IsFaultless, FaultsRoseLess, CostsUpTo, DisturbedLess, IsRegularDisk, IsOnMap, Change, Written, IsChange, HasWritten, change_at, entry_of, IsSameOrChanged, met_track, key_cylinder, one_address, rewritten_keeps_sectors, rewritten_keeps_address, Bay, StationState, Becomes, bay_of, set_bay, met, write_port_accesses, write_time, IsLastRead, IsWritten, KeepsRegular, WritesDrive, HasAsked, IsReadBack, TriesWrite, WroteWhole}
 use Rattle.track_model.specs.declared.Look.TheVariants as look
 use Rattle.track_model.proofs.Sectored.{lone_found}
 use Rattle.sector_map.proofs.Joined.{change_of_none_regular}

@@ -1,7 +1,6 @@
 -- The attempts of a write, one after the other.
-use Rattle.std.proofs.Common.{◌≡◌, ℕ, ◌+◌, ◌^◌, ◌<◌, ◌≤◌, Bool, true, false, List, drop, get_or, Option, Some, IfSome, Result, Ok, Err, refl, sym, ap, ◌∙◌, subst, arith, inl, inr}
-use Rattle.std.specs.Prelude.{◌==◌, if◌then◌else◌}
-use Rattle.floppy_driver.proofs.Common.{cases_lt, length-take, length-drop, get_or-take, get_or-drop, get_or_past, Chrn, Code, Disk, IsDisk, content_size, in_bay, DriveCounts, faults_of, CostsUpTo, GoesOn, user_bytes, bytes_from, goes_on_after, goes_on_itself, Written, FitsKey, Bay, StationState, bay_of, write_port_accesses, write_time, WritesDrive, written_from, Rig, AreBytes, IsSound, Driver, notes_of, shown, HasAsked, IsSure, CanWrite, TriesWrite}
+use Rattle.std.proofs.Common.{◌≡◌, ℕ, ◌+◌, ◌^◌, ◌<◌, ◌≤◌, Bool, List, drop, get_or, Some, Result, Ok, Err, refl, sym, ap, ◌∙◌, subst, arith, inl, inr}
+use Rattle.floppy_driver.proofs.Common.{cases_lt, length-take, length-drop, get_or-take, get_or-drop, get_or_past, Chrn, Code, content_size, DriveCounts, faults_of, CostsUpTo, GoesOn, user_bytes, bytes_from, goes_on_after, goes_on_itself, Written, FitsKey, Bay, StationState, bay_of, write_port_accesses, write_time, WritesDrive, written_from, Rig, AreBytes, Driver, notes_of, shown, HasAsked, IsSure, CanWrite, TriesWrite}
 use Rattle.sector_model.specs.Asked.{IsAsked}
 use Rattle.floppy_driver.proofs.TriedWrites.{IsWriteStart, HasTriedWrite, BetweenWrites}
 use Rattle.floppy_driver.proofs.Shows.{bay_shown_at, held_bay_shown, noted_at, sound_disk}

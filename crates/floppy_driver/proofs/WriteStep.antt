@@ -1,8 +1,7 @@
 -- The order of a write's refusals.
-use Rattle.std.proofs.Common.{◌≡◌, ℕ, Bool, true, false, List, Option, Some, None, MatchOption, Result, refl, sym, ap, ◌∙◌, subst}
-use Rattle.std.specs.Prelude.{not, if◌then◌else◌}
-use Rattle.floppy_driver.proofs.Common.{option_map_or, Chrn, Code, BadRequest, Changed, Page, Protected, Disk, content_size, Two, in_bay, DriveCounts, goes_on_after, Rig, IsSound, OnlyAsks, Bay, StationState, is_sector_request, crosses_page, is_acknowledged, is_protected, IsRefusedAtOnce, WritesDrive, WritesTo, written_from, Driver, notes_of, is_held, shown, HasAsked, CanTry, CanWrite}
-use Rattle.floppy_driver.proofs.Shows.{driven_after, bay_shown_at, attached_asked}
+use Rattle.std.proofs.Common.{◌≡◌, ℕ, Bool, true, false, List, Option, Result, sym, ap, ◌∙◌}
+use Rattle.floppy_driver.proofs.Common.{option_map_or, Chrn, Code, Changed, Protected, Disk, content_size, Two, in_bay, DriveCounts, goes_on_after, Rig, OnlyAsks, Bay, StationState, is_sector_request, crosses_page, is_acknowledged, is_protected, IsRefusedAtOnce, WritesDrive, WritesTo, written_from, Driver, shown, HasAsked}
+use Rattle.floppy_driver.proofs.Shows.{driven_after, bay_shown_at}
 
 -- one question and then another
 pub asked_twice : (a b c : StationState) → HasAsked a b → HasAsked b c → HasAsked a c

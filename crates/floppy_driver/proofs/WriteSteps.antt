@@ -44,8 +44,7 @@ module _ (written : Written) (bay : ℕ) (start mid new : StationState) (count :
 
     meets_mid : MeetsTrack (bay_of mid bay).medium (bay_of mid bay).rate written.key.c written.key.h middle.0
     meets_mid =
-        subst (λ r. MeetsTrack (bay_of mid bay).medium r written.key.c written.key.h middle.0) (sym rate_mid)
-        (still_meets (bay_of start bay).medium (bay_of start bay).rate written.key.c written.key.h first.0 middle.0 (bay_of mid bay).medium first.1 middle.2 middle.1)
+        rw rate_mid (still_meets (bay_of start bay).medium (bay_of start bay).rate written.key.c written.key.h first.0 middle.0 (bay_of mid bay).medium first.1 middle.2 middle.1)
 
     met_mid : met (bay_of mid bay) written.key.c written.key.h ≡ track_of middle.0 written.key.c written.key.h
     met_mid = met_track (bay_of mid bay).medium (bay_of mid bay).rate written.key.c written.key.h middle.0 meets_mid
@@ -66,8 +65,7 @@ module _ (written : Written) (bay : ℕ) (start mid new : StationState) (count :
 
       meets_new : MeetsTrack (bay_of new bay).medium (bay_of new bay).rate written.key.c written.key.h changed.after
       meets_new =
-          subst (λ r. MeetsTrack (bay_of new bay).medium r written.key.c written.key.h changed.after) (sym rate_new)
-          (still_meets (bay_of mid bay).medium (bay_of mid bay).rate written.key.c written.key.h middle.0 changed.after (bay_of new bay).medium meets_mid
+          rw rate_new (still_meets (bay_of mid bay).medium (bay_of mid bay).rate written.key.c written.key.h middle.0 changed.after (bay_of new bay).medium meets_mid
           (change_keeps_tracks written middle.0 one changed.after made).alike changed.is)
 
       met_new : met (bay_of new bay) written.key.c written.key.h ≡ track_of changed.after written.key.c written.key.h
@@ -96,8 +94,7 @@ module _ (written : Written) (bay : ℕ) (start mid new : StationState) (count :
 
         cut_there : IsCut (met (bay_of mid bay) written.key.c written.key.h) (met (bay_of new bay) written.key.c written.key.h) p one.words (window_of written)
         cut_there =
-            subst (λ t. IsCut t (met (bay_of new bay) written.key.c written.key.h) p one.words (window_of written)) (sym met_mid)
-            (record { cuttable = made_there.cuttable; is = met_new ∙ made_there.cut.has })
+            rw met_mid (record { cuttable = made_there.cuttable; is = met_new ∙ made_there.cut.has })
 
         whole_quiet : IsUndisturbed bay mid.counters new.counters → IsWholeChange written one
         whole_quiet quiet =

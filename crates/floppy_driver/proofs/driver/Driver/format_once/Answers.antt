@@ -54,9 +54,4 @@ returns-clause-can g c =
 
 pub returns-clause-counts : goal.returns-clause-counts
 returns-clause-counts g c =
-    let step = c.in_ok-format.ensures.step in
-    let old = (g.C.Commands.rig c.args.machine.now).counters in
-    let middle = (g.C.Commands.rig c.prepare.new.machine).counters in
-    let laid = (g.C.Commands.rig c.format.new.self).counters in
-    goes_on_after old laid (g.C.Commands.rig c.read_back_all.new.machine).counters
-    (goes_on_after old middle laid c.if-not-prepare.ensures.prepared.moves.counts step.1.sends.counts) c.read_back_all.ensures.reads.counts
+    goes_on_after _ _ _ (goes_on_after _ _ _ c.if-not-prepare.ensures.prepared.moves.counts c.in_ok-format.ensures.step.1.sends.counts) c.read_back_all.ensures.reads.counts

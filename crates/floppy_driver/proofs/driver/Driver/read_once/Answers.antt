@@ -1,7 +1,7 @@
 use Rattle.std.proofs.Common.{ap, ◌∙◌}
 use Rattle.std.specs.Prelude.{is_some}
 use Rattle.floppy_driver.proofs.Common.{goes_on_after, Notes}
-use Rattle.floppy_driver.proofs.Shows.{attached_read}
+use Rattle.floppy_driver.proofs.Shows.{attached_same}
 use Rattle.floppy_driver.proofs.Attempts.{prepared_ready, can_try_stays}
 use Rattle.floppy_driver.proofs.ReadOnce.{tries_read}
 use Rattle.floppy_driver.proofs.driver.Driver.read_once.Goals as goal
@@ -23,4 +23,4 @@ returns-clause-ready g c =
     let sends = c.read.ensures.step.sends in
     can_try_stays c.prepare.new.self mid new c.args.bay
     (prepared_ready c.args.self.now c.prepare.new.self (g.C.Commands.rig c.args.machine.now) mid c.args.bay _ _ _ c.requires.ready c.prepare.ensures.notes c.prepare.ensures.prepared c.prepare.ensures.attached c.prepare.ensures.sound)
-    sends.heads (attached_read c.prepare.new.self mid new sends c.prepare.ensures.attached) c.read.ensures.sound
+    sends.heads (attached_same c.prepare.new.self mid new sends.heads sends.media sends.counts c.prepare.ensures.attached) c.read.ensures.sound
