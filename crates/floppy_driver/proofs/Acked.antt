@@ -35,10 +35,7 @@ module _ (driver after : Driver) (old : Rig) (bay : ℕ) (new : Rig) (notes : No
 
   module _ (spares : ℕ) (waiting : List DriveCounts) where
     fresh_shown : bay_shown notes (in_bay new.media bay) (in_bay new.changes bay) ≡ fresh_bay (bay_of (shown driver old spares waiting) bay).medium
-    fresh_shown =
-        ap (λ (b : Bool). record { medium = in_bay new.media bay; acknowledged = if b then Some notes.kept else None; rate = if b then notes.rate else R500 }) (not_held (in_bay new.changes bay))
-        ∙ ap (λ (t : Two (Option Disk)). fresh_bay (in_bay t bay)) stayed.works.media
-        ∙ ap (λ (b : Bay). fresh_bay b.medium) (sym (bay_shown_at driver old spares waiting bay))
+    fresh_shown = rw (not_held (in_bay new.changes bay), stayed.works.media, bay_shown_at driver old spares waiting bay) refl
 
     why : (m : Option Disk) → in_bay old.media bay ≡ m → ((bay_of (shown driver old spares waiting) bay).medium ≡ None) ⊎ FaultsRoseBy 3 bay old.counters new.counters
     why None e = inl (ap (λ (b : Bay). b.medium) (bay_shown_at driver old spares waiting bay) ∙ e)

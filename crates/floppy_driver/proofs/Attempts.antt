@@ -65,10 +65,7 @@ module _ (driver after : Driver) (old new : Rig) (bay target : ℕ) (way : Prepa
   prepared_notes = is ∙ ap (λ (n : Notes). with_notes driver bay n) prepared.notes_are
 
   prepared_held : is_held (notes_of after bay) (in_bay new.changes bay) ≡ true
-  prepared_held =
-      ap (λ (n : Notes). is_held n (in_bay new.changes bay)) prepared.notes_are
-      ∙ ap (λ (t : Two Bool). is_held (notes_of driver bay) (in_bay t bay)) (held_lines_stay old bay new (notes_of driver bay) can.held prepared.moves)
-      ∙ can.held
+  prepared_held = rw (prepared.notes_are, held_lines_stay old bay new (notes_of driver bay) can.held prepared.moves) can.held
 
   pub prepared_ready : IsAttached after new → IsSound new → CanTry after new bay
   prepared_ready attached sound = record { in_range = can.in_range; held = prepared_held; attached = attached; sound = sound }

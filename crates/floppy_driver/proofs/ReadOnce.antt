@@ -1,6 +1,6 @@
 -- One attempt at a read.
 use Rattle.std.proofs.Common.{◌≡◌, ◌↔◌, ℕ, ◌≤◌, IsTrue, Bool, true, List, Option, is_some, Result, Ok, Err, IfOk, IfErr, refl, sym, ap, ◌∙◌, subst, arith, inl, inr}
-use Rattle.floppy_driver.proofs.Common.{Disk, Chrn, Rate, Code, Seek, Prepare, content_size, Two, in_bay, DriveCounts, GoesOn, SameOutside, goes_on_after, faults_go_on, met_in, Rig, track_under, IsReadReason, IsReadMiss, FindsField, ReadsData, Bay, StationState, bay_of, met, Driver, notes_of, shown, with_notes, with_waiting, HasAsked, IsPrepared, CanTry, IsSure, IsReadWhole, IsReadFailed, TriesRead}
+use Rattle.floppy_driver.proofs.Common.{Disk, Chrn, Rate, Code, Seek, Prepare, content_size, Two, in_bay, DriveCounts, GoesOn, SameOutside, goes_on_after, faults_go_on, Rig, track_under, IsReadReason, IsReadMiss, FindsField, ReadsData, Bay, StationState, bay_of, met, Driver, notes_of, shown, with_notes, with_waiting, HasAsked, IsPrepared, CanTry, IsSure, IsReadWhole, IsReadFailed, TriesRead}
 use Rattle.floppy_driver.specs.declared.retry_plan.Prepare.TheVariants as prepare
 use Rattle.flop_base.specs.Lists.{with_items}
 use Rattle.floppy_driver.proofs.Shows.{held_bay, held_bay_shown, read_shown, waiting_goes_on, waiting_driven, waiting_undisturbed, driven_after, undisturbed_faultless}
@@ -60,10 +60,7 @@ module _ (driver after : Driver) (old mid : Rig) (bay : ℕ) (key : Chrn) (addre
               let second = disturbed_later bay old.counters mid.counters new.counters prepared.moves.counts reads.sends.counts 1 whole in
               let at = prepared.surely refl (sure_way way tries attempt known plan sure) (undisturbed_faultless bay old.counters mid.counters prepared.moves.counts first) in
               let track_is : track_under mid bay rate key.h ≡ met (bay_of (shown driver old spares waiting) bay) key.c key.h =
-              ap (λ (n : ℕ). met_in (in_bay mid.media bay) rate n key.h) at
-              ∙ ap (λ (m : Two (Option Disk)). met_in (in_bay m bay) rate key.c key.h) prepared.moves.media
-              ∙ ap (λ (r : Rate). met_in (in_bay old.media bay) r key.c key.h) same_rate
-              ∙ ap (λ (b : Bay). met b key.c key.h) (sym was) in
+              rw (at, prepared.moves.media, same_rate, was) refl in
               subst (λ (t : List ℕ). IsReadReason t key code) track_is (miss.reason second);
           overrun = λ is. let r = miss.overrun is in omega arith;
           lost = λ is. absurd (read_not_seek code miss.coded is);

@@ -269,11 +269,8 @@ attached_written driver old new (suc (suc n)) in_range counts heads other stays 
 -- ---- other notes on a bay
 
 pub notes_set : (driver : Driver) (bay : ℕ) (notes : Notes) → notes_of (with_notes driver bay notes) bay ≡ notes
-notes_set driver bay notes = by_bay (bay == 0)
-  where
-    by_bay : (is_first : Bool) → (if is_first then (if is_first then record driver { first = notes } else record driver { second = notes }).first else (if is_first then record driver { first = notes } else record driver { second = notes }).second) ≡ notes
-    by_bay true = refl
-    by_bay false = refl
+notes_set driver bay notes =
+    elim (bay == 0) as (λ f. let put : Driver = (if f then record driver { first = notes } else record driver { second = notes }) in (if f then put.first else put.second) ≡ notes) [ true ↦ refl | false ↦ refl ]
 
 pub other_notes : (driver : Driver) (bay : ℕ) (notes : Notes) → bay ≤ 1 → notes_of (with_notes driver bay notes) (1 - bay) ≡ notes_of driver (1 - bay)
 other_notes driver (suc (suc n)) notes in_range = absurd (omega arith)

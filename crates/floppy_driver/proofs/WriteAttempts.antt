@@ -1,6 +1,6 @@
 -- One attempt at a write, as the station shows it.
 use Rattle.std.proofs.Common.{MatchOption, IfErr, ◌≡◌, ◌↔◌, ℕ, zero, suc, ◌-◌, ◌≤◌, Bool, true, false, IsTrue, List, Option, Some, None, IsSome, is_some, Result, Ok, Err, refl, sym, ap, ◌∙◌, subst, arith}
-use Rattle.floppy_driver.proofs.Common.{option_map_or, Chrn, Rate, Code, Disk, Two, in_bay, bytes_from, content_size, DriveCounts, Counters, GoesOn, IsUndisturbed, goes_on_after, faults_go_on, Prepare, met_in, Change, Written, change_keeps_tracks, Bay, StationState, Becomes, Stays, bay_of, set_bay, met, Rig, IsSound, track_under, ChangesMedium, Notes, Driver, notes_of, is_held, with_waiting, shown, with_notes, HasAsked, IsSure, IsAttached, IsPrepared, CanWrite, IsMissCause, IsReadBack, WritesChecked, ChangesBay, TriesWrite}
+use Rattle.floppy_driver.proofs.Common.{option_map_or, Chrn, Rate, Code, Disk, Two, in_bay, bytes_from, content_size, DriveCounts, Counters, GoesOn, IsUndisturbed, goes_on_after, faults_go_on, Prepare, Change, Written, change_keeps_tracks, Bay, StationState, Becomes, Stays, bay_of, set_bay, met, Rig, IsSound, track_under, ChangesMedium, Notes, Driver, notes_of, is_held, with_waiting, shown, with_notes, HasAsked, IsSure, IsAttached, IsPrepared, CanWrite, IsMissCause, IsReadBack, WritesChecked, ChangesBay, TriesWrite}
 use Rattle.floppy_driver.specs.declared.retry_plan.Prepare.TheVariants as prepare
 use Rattle.floppy_driver.proofs.Attempts.{can_try_stays, prepared_shown, prepared_steady, sure_way}
 use Rattle.floppy_driver.proofs.FormatReady.{can_write_prepared}
@@ -49,9 +49,7 @@ put_shown driver old new spares waiting (suc (suc n)) in_range other changes mem
 -- the same after a station in which only counters had changed
 put_after : (start middle new : StationState) (bay : ℕ) (medium : Option Disk) → Stays start middle → Becomes (set_bay middle bay (record (bay_of middle bay) { medium = medium })) new → (bay_of new bay).medium ≡ medium → Becomes (set_bay start bay (record (bay_of start bay) { medium = (bay_of new bay).medium })) new
 put_after start middle new bay medium stays becomes is =
-    let To : StationState → StationState = λ s. record (set_bay s bay (record (bay_of s bay) { medium = medium })) { counters = new.counters } in
-    let later : new ≡ To start = becomes ∙ ap To stays in
-    subst (λ m. new ≡ record (set_bay start bay (record (bay_of start bay) { medium = m })) { counters = new.counters }) (sym is) later
+    rw is (becomes ∙ ap (λ (s : StationState). record (set_bay s bay (record (bay_of s bay) { medium = medium })) { counters = new.counters }) stays)
 
 -- ---- a bay that can be written
 
@@ -117,19 +115,13 @@ module _ (driver after : Driver) (old mid : Rig) (bay target : ℕ) (way : Prepa
           ap (λ (t : Two Bool). in_bay t bay) (wrote.heads.changes ∙ held_lines_stay old bay mid (notes_of driver bay) can.ready.held prepared.moves)
 
       held_now : is_held (notes_of after bay) (in_bay new.changes bay) ≡ true
-      held_now =
-          ap (λ (b : Bool). is_held (notes_of after bay) b) lines_now
-          ∙ ap (λ (n : Notes). is_held n (in_bay old.changes bay)) prepared.notes_are
-          ∙ can.ready.held
+      held_now = rw (lines_now, prepared.notes_are) can.ready.held
 
       bay_now : bay_of (shown after new spares waiting) bay ≡ held_bay (notes_of after bay) (in_bay new.media bay)
       bay_now = held_bay_shown after new spares waiting bay held_now
 
       met_now : met (bay_of (shown after new spares waiting) bay) (in_bay mid.cylinders bay) written.key.h ≡ track_under new bay (notes_of driver bay).rate written.key.h
-      met_now =
-          ap (λ (b : Bay). met b (in_bay mid.cylinders bay) written.key.h) bay_now
-          ∙ ap (λ rate. met_in (in_bay new.media bay) rate (in_bay mid.cylinders bay) written.key.h) rate_after
-          ∙ ap (λ (t : Two ℕ). met_in (in_bay new.media bay) (notes_of driver bay).rate (in_bay t bay) written.key.h) (sym wrote.heads.cylinders)
+      met_now = rw (bay_now, rate_after, wrote.heads.cylinders) refl
 
       refused_bay : (code : Code) → IsMissCause written (track_under new bay (notes_of driver bay).rate written.key.h) wrote.change bay mid.counters code new.counters → IsMissCause written (met (bay_of (shown after new spares waiting) bay) (in_bay mid.cylinders bay) written.key.h) wrote.change bay (with_waiting old.counters waiting) code (with_waiting new.counters waiting)
       refused_bay code cause =
