@@ -1,23 +1,15 @@
 -- A bay is acknowledged or refused.
-use Rattle.std.proofs.Common.{◌≡◌, ℕ, ◌≤◌, ◌⊎◌, Bool, true, false, if◌then◌else◌, List, Option, Some, None, IsSome, IfSome, Result, Ok, Err, MatchBool, refl, sym, ap, ◌∙◌, subst, arith, inl, inr}
-use Rattle.std.specs.Prelude.{◌==◌, ◌&&◌, not}
-use Rattle.floppy_driver.proofs.Common.{false≢true, le-leb, Chrn, Rate, R500, R250, Code, BadRequest, NotReady, Disk, IsDisk, track_of, IsAddress, Two, in_bay, DriveCounts, faults_of, FaultsRoseBy, FaultsRoseLess, faults_go_on, met_in, HasClearAddress, MeetsTrack, met_from_mark, met_track, one_met, CostsFor, Rig, IsSound, OnlyAsks, track_under, Bay, StationState, bay_of, set_bay, fresh_bay, IsRefusedAtOnce, HasClearStart, HasNoStart, AcksDrive, Acks, Notes, Driver, is_held, bay_shown, with_waiting, shown, with_notes, IsAttached, Works, ClearsChange, OnlyReads, HasStart, IsHeldSince}
+use Rattle.std.proofs.Common.{◌≡◌, ℕ, ◌≤◌, ◌⊎◌, Bool, true, false, if◌then◌else◌, List, Option, Some, None, IsSome, Result, Ok, Err, refl, sym, ap, ◌∙◌, subst, arith, inl, inr}
+use Rattle.std.specs.Prelude.{◌&&◌, not}
+use Rattle.floppy_driver.proofs.Common.{false≢true, le-leb, Chrn, Rate, R500, R250, Code, NotReady, Disk, track_of, IsAddress, Two, in_bay, DriveCounts, faults_of, FaultsRoseBy, FaultsRoseLess, faults_go_on, met_in, HasClearAddress, MeetsTrack, met_from_mark, met_track, one_met, CostsFor, Rig, IsSound, OnlyAsks, track_under, Bay, StationState, bay_of, set_bay, fresh_bay, HasClearStart, HasNoStart, AcksDrive, Acks, Notes, Driver, is_held, bay_shown, with_waiting, shown, with_notes, IsAttached, Works, ClearsChange, OnlyReads, HasStart, IsHeldSince}
 use Rattle.floppy_driver.proofs.Lasting.{costs_shown}
 use Rattle.floppy_driver.proofs.Rounds.{HasStayedSet}
-use Rattle.floppy_driver.proofs.Shows.{noted_at, bay_shown_at, held_bay, held_shown, spun_at, attached_with, waiting_driven, driven_after, driven_within}
+use Rattle.floppy_driver.proofs.Shows.{noted_at, sound_disk, bay_shown_at, held_bay, held_shown, spun_at, attached_with, waiting_driven, driven_after, driven_within}
 use Rattle.floppy_driver.proofs.Worked.{works_read, works_after, works_round, driven_round, spun_round, clear_is_full, noted_worked, worked_shown}
 
 -- an acknowledgement of a bay
 acks_bay : (old new : StationState) (bay : ℕ) (answer : Result (Unit {0}) Code) → bay ≤ 1 → AcksDrive bay old answer new → Acks bay old answer new
-acks_bay old new bay answer in_range acks =
-    subst (λ (b : Bool). MatchBool b (AcksDrive bay old answer new) (IsRefusedAtOnce BadRequest old answer new)) (sym (le-leb bay 1 in_range)) acks
-
-sound_disk : (rig : Rig) (bay : ℕ) (disk : Disk) → IsSound rig → in_bay rig.media bay ≡ Some disk → IsDisk disk
-sound_disk rig bay disk sound is = subst (λ (m : Option Disk). IfSome m IsDisk) is (by_bay (bay == 0))
-  where
-    by_bay : (is_first : Bool) → IfSome (if is_first then rig.media.first else rig.media.second) IsDisk
-    by_bay true = sound.first
-    by_bay false = sound.second
+acks_bay old new bay answer in_range acks = rw (le-leb bay 1 in_range) acks
 
 -- ---- not acknowledged
 
@@ -43,10 +35,7 @@ module _ (driver after : Driver) (old : Rig) (bay : ℕ) (new : Rig) (notes : No
 
   module _ (spares : ℕ) (waiting : List DriveCounts) where
     fresh_shown : bay_shown notes (in_bay new.media bay) (in_bay new.changes bay) ≡ fresh_bay (bay_of (shown driver old spares waiting) bay).medium
-    fresh_shown =
-        ap (λ (b : Bool). record { medium = in_bay new.media bay; acknowledged = if b then Some notes.kept else None; rate = if b then notes.rate else R500 }) (not_held (in_bay new.changes bay))
-        ∙ ap (λ (t : Two (Option Disk)). fresh_bay (in_bay t bay)) stayed.works.media
-        ∙ ap (λ (b : Bay). fresh_bay b.medium) (sym (bay_shown_at driver old spares waiting bay))
+    fresh_shown = rw (not_held (in_bay new.changes bay), stayed.works.media, bay_shown_at driver old spares waiting bay) refl
 
     why : (m : Option Disk) → in_bay old.media bay ≡ m → ((bay_of (shown driver old spares waiting) bay).medium ≡ None) ⊎ FaultsRoseBy 3 bay old.counters new.counters
     why None e = inl (ap (λ (b : Bay). b.medium) (bay_shown_at driver old spares waiting bay) ∙ e)

@@ -1,7 +1,7 @@
 -- Calls that only ask, and calls that set the rate of a bay.
-use Rattle.std.proofs.Common.{◌≡◌, ℕ, ◌≤◌, Bool, true, false, List, Option, Some, None, MatchOption, Result, Ok, Err, refl, sym, ap, ◌∙◌, subst, arith}
-use Rattle.std.specs.Prelude.{not, if◌then◌else◌}
-use Rattle.floppy_driver.proofs.Common.{le-leb, Disk, Rate, Code, BadRequest, Changed, Two, in_bay, CostsUpTo, DriveCounts, CostsFor, Rig, OnlyAsks, Bay, StationState, bay_of, set_bay, is_acknowledged, IsRefusedAtOnce, SetsRate, RatesTo, TellsChange, Notes, Driver, notes_of, is_held, bay_shown, with_waiting, shown, with_notes, HasAsked}
+use Rattle.std.proofs.Common.{◌≡◌, ℕ, ◌≤◌, Bool, true, false, List, Option, Result, Ok, Err, refl, sym, ap, ◌∙◌, arith}
+use Rattle.std.specs.Prelude.{not}
+use Rattle.floppy_driver.proofs.Common.{le-leb, Disk, Rate, Code, Changed, Two, in_bay, CostsUpTo, DriveCounts, CostsFor, Rig, OnlyAsks, Bay, StationState, bay_of, set_bay, is_acknowledged, IsRefusedAtOnce, SetsRate, RatesTo, TellsChange, Notes, Driver, notes_of, is_held, bay_shown, with_waiting, shown, with_notes, HasAsked}
 use Rattle.floppy_driver.proofs.Lasting.{asking_costs, question_costs}
 use Rattle.floppy_driver.proofs.Shows.{held_bay, held_shown, held_bay_shown, acknowledged_held, asks_shown, noted_shown}
 
@@ -20,17 +20,11 @@ tells_change driver after old new bay held spares waiting is same asks costs =
     }
 
 module _ (old : StationState) (bay : ℕ) (rate : Rate) (answer : Result (Unit {0}) Code) (new : StationState) (in_range : bay ≤ 1) where
-  rates_by : (acknowledged : Bool) → is_acknowledged old bay ≡ acknowledged → MatchOption (if not acknowledged then Some Changed else None) (SetsRate bay rate old answer new) (λ code. IsRefusedAtOnce code old answer new) → RatesTo bay rate old answer new
-  rates_by acknowledged is step =
-      subst (λ (b : Bool). MatchOption (if not b then Some BadRequest else (if not (is_acknowledged old bay) then Some Changed else None)) (SetsRate bay rate old answer new) (λ code. IsRefusedAtOnce code old answer new))
-      (sym (le-leb bay 1 in_range))
-      (subst (λ (b : Bool). MatchOption (if not b then Some Changed else None) (SetsRate bay rate old answer new) (λ code. IsRefusedAtOnce code old answer new)) (sym is) step)
-
   rates_refused : is_acknowledged old bay ≡ false → IsRefusedAtOnce Changed old answer new → RatesTo bay rate old answer new
-  rates_refused is step = rates_by false is step
+  rates_refused is step = rw (le-leb bay 1 in_range, is) step
 
   rates_done : is_acknowledged old bay ≡ true → SetsRate bay rate old answer new → RatesTo bay rate old answer new
-  rates_done is step = rates_by true is step
+  rates_done is step = rw (le-leb bay 1 in_range, is) step
 
 module _ (driver middle after : Driver) (old new : Rig) (bay : ℕ) (rate : Rate) (spares : ℕ) (waiting : List DriveCounts) (in_range : bay ≤ 1) (same : shown middle old spares waiting ≡ shown driver old spares waiting) (asks : OnlyAsks old new) (costs : CostsFor bay 0 0 2 old new) where
   pub rate_refused : is_held (notes_of driver bay) (in_bay old.changes bay) ≡ false → RatesTo bay rate (shown driver old spares waiting) (Err Changed) (shown middle new spares waiting)

@@ -1,9 +1,9 @@
 -- What the attempts of a call have in common.
 use Rattle.std.proofs.Common.{◌≡◌, ◌↔◌, ℕ, ◌+◌, ◌≤◌, IsTrue, Bool, true, List, Some, IsSome, refl, sym, ap, ◌∙◌, subst, arith, inl, inr}
-use Rattle.floppy_driver.proofs.Common.{cases_lt, Prepare, Two, in_bay, DriveCounts, Counters, faults_of, DisturbedLess, IsUndisturbed, GoesOn, faults_go_on, Rig, IsSound, OnlyAsks, SendsRead, Bay, StationState, IsSteady, spoilable, Notes, Driver, notes_of, is_held, shown, with_notes, HasAsked, IsAttached, IsPrepared, CanTry, IsSure}
+use Rattle.floppy_driver.proofs.Common.{cases_lt, Prepare, Two, in_bay, DriveCounts, Counters, faults_of, DisturbedLess, IsUndisturbed, GoesOn, faults_go_on, Rig, IsSound, HeadsStay, Bay, StationState, IsSteady, spoilable, Notes, Driver, notes_of, is_held, shown, with_notes, HasAsked, IsAttached, IsPrepared, CanTry, IsSure}
 use Rattle.floppy_driver.specs.declared.retry_plan.Prepare.TheVariants as prepare
 use Rattle.floppy_driver.proofs.SureAttempts.{sure_attempts}
-use Rattle.floppy_driver.proofs.Shows.{held_bay_shown, held_lines_stay, moved_shown, known_shown, waiting_goes_on, waiting_driven, noted_at, attached_asked, attached_read, disturbed_less_more}
+use Rattle.floppy_driver.proofs.Shows.{held_bay_shown, held_lines_stay, moved_shown, known_shown, waiting_goes_on, waiting_driven, noted_at, disturbed_less_more}
 use Rattle.floppy_driver.proofs.Prepared.{prepared_stands}
 
 -- ---- how many attempts can be spoilt
@@ -50,19 +50,11 @@ last_sure tries some =
 
 -- ---- a bay in which an attempt can be made
 
-pub can_try_asked : (driver : Driver) (old new : Rig) (bay : ℕ) → CanTry driver old bay → OnlyAsks old new → IsSound new → CanTry driver new bay
-can_try_asked driver old new bay can asks sound = record {
+pub can_try_stays : (driver : Driver) (old new : Rig) (bay : ℕ) → CanTry driver old bay → HeadsStay old new → IsAttached driver new → IsSound new → CanTry driver new bay
+can_try_stays driver old new bay can heads attached sound = record {
   in_range = can.in_range;
-  held = ap (λ (t : Two Bool). is_held (notes_of driver bay) (in_bay t bay)) asks.heads.changes ∙ can.held;
-  attached = attached_asked driver old new asks can.attached;
-  sound = sound;
-}
-
-pub can_try_read : (driver : Driver) (old new : Rig) (bay : ℕ) → CanTry driver old bay → SendsRead old new → IsSound new → CanTry driver new bay
-can_try_read driver old new bay can sends sound = record {
-  in_range = can.in_range;
-  held = ap (λ (t : Two Bool). is_held (notes_of driver bay) (in_bay t bay)) sends.heads.changes ∙ can.held;
-  attached = attached_read driver old new sends can.attached;
+  held = ap (λ (t : Two Bool). is_held (notes_of driver bay) (in_bay t bay)) heads.changes ∙ can.held;
+  attached = attached;
   sound = sound;
 }
 
@@ -73,10 +65,7 @@ module _ (driver after : Driver) (old new : Rig) (bay target : ℕ) (way : Prepa
   prepared_notes = is ∙ ap (λ (n : Notes). with_notes driver bay n) prepared.notes_are
 
   prepared_held : is_held (notes_of after bay) (in_bay new.changes bay) ≡ true
-  prepared_held =
-      ap (λ (n : Notes). is_held n (in_bay new.changes bay)) prepared.notes_are
-      ∙ ap (λ (t : Two Bool). is_held (notes_of driver bay) (in_bay t bay)) (held_lines_stay old bay new (notes_of driver bay) can.held prepared.moves)
-      ∙ can.held
+  prepared_held = rw (prepared.notes_are, held_lines_stay old bay new (notes_of driver bay) can.held prepared.moves) can.held
 
   pub prepared_ready : IsAttached after new → IsSound new → CanTry after new bay
   prepared_ready attached sound = record { in_range = can.in_range; held = prepared_held; attached = attached; sound = sound }

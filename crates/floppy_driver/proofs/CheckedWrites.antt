@@ -1,10 +1,11 @@
 -- A write that is read back consists of a write and a reading back.
-use Rattle.std.proofs.Common.{MatchOption, IfOk, IfErr, IsOk, ◌≡◌, ℕ, ◌+◌, ◌-◌, ◌<◌, ◌≤◌, Bool, true, false, List, length, drop, get_or, Option, Some, None, Result, Ok, Err, refl, sym, ap, ◌∙◌, subst, arith, inl, inr}
+use Rattle.std.proofs.Common.{MatchOption, IfErr, IsOk, ◌≡◌, ℕ, ◌+◌, ◌-◌, ◌<◌, ◌≤◌, Bool, true, false, List, length, drop, get_or, Option, Some, None, Result, Ok, Err, refl, sym, ap, ◌∙◌, subst, arith, inl, inr}
 use Rattle.std.specs.Prelude.{not}
 use Rattle.std.proofs.Math.Bool.{beq}
-use Rattle.floppy_driver.proofs.Common.{false≢true, ext_get_or, length-take, length-drop, get_or-take, get_or-drop, get_or_append_left, RoseBy, Rate, Code, NoMark, NotFound, Overrun, BadCrc, Seek, Disk, track_of, content_size, IsSector, IsUnder, Two, in_bay, user_bytes, bytes_from, Counters, IsFaultless, IsUndisturbed, GoesOn, goes_on_after, met_in, MeetsTrack, met_track, Change, Written, HasOtherContent, IsDeviceRefusal, Rig, AreBytes, track_under, FindsField, ReadsBack, IsReadMiss, IsReadReason, IsReadCode, ChangesMedium, WritesData, IsWriteMiss, IsWriteReason, IsWriteCode, AreBytesAlike, WroteWhole, IsMissCause, IsReadBack, WritesChecked}
+use Rattle.floppy_driver.proofs.Common.{false≢true, ext_get_or, length-take, length-drop, get_or-take, get_or-drop, get_or_append_left, RoseBy, Rate, Code, NoMark, NotFound, Overrun, BadCrc, Seek, Disk, track_of, content_size, IsSector, IsUnder, Two, in_bay, user_bytes, bytes_from, Counters, IsFaultless, IsUndisturbed, GoesOn, goes_on_after, MeetsTrack, met_track, Change, Written, HasOtherContent, IsDeviceRefusal, Rig, AreBytes, track_under, FindsField, ReadsBack, IsReadMiss, IsReadReason, IsReadCode, ChangesMedium, WritesData, IsWriteMiss, IsWriteReason, IsWriteCode, AreBytesAlike, WroteWhole, IsMissCause, IsReadBack, WritesChecked}
 use Rattle.flop_base.specs.Lists.{with_items}
-use Rattle.floppy_driver.proofs.Shows.{driven_after, driven_within, undisturbed_faultless}
+use Rattle.floppy_driver.proofs.Shows.{driven_after, driven_within, heads_stay_after, same_under, undisturbed_faultless}
+use Rattle.floppy_driver.proofs.ReadBacks.{read_device}
 use Rattle.floppy_driver.proofs.Rising.{less_first, less_later, less_than_two, disturbed_first, disturbed_later, stalls_later}
 
 -- ---- bytes
@@ -36,13 +37,6 @@ write_device NoMark coded = tt
 write_device NotFound coded = tt
 write_device Overrun coded = tt
 write_device _ coded = absurd coded
-
-read_device : (code : Code) → IsReadCode code → IsDeviceRefusal code
-read_device NoMark coded = tt
-read_device NotFound coded = tt
-read_device BadCrc coded = tt
-read_device Overrun coded = tt
-read_device _ coded = absurd coded
 
 write_cause : (written : Written) (track : List ℕ) (change : Option Change) (bay : ℕ) (code : Code) (a b : Counters) → RoseBy 1 a.data_commands b.data_commands → IsWriteMiss track written.key bay a code b → IsMissCause written track change bay a code b
 write_cause written track change bay code a b rose miss = record {
@@ -105,9 +99,7 @@ module _ (old : Rig) (bay : ℕ) (rate : Rate) (written : Written) (change : Opt
   media_bay = ap (λ (t : Two (Option Disk)). in_bay t bay) back.sends.media
 
   track_same : track_under new bay rate written.key.h ≡ track_under mid bay rate written.key.h
-  track_same =
-      ap (λ (t : Two (Option Disk)). met_in (in_bay t bay) rate (in_bay new.cylinders bay) written.key.h) back.sends.media
-      ∙ ap (λ (t : Two ℕ). met_in (in_bay mid.media bay) rate (in_bay t bay) written.key.h) back.sends.heads.cylinders
+  track_same = same_under mid new bay rate written.key.h back.sends.media back.sends.heads.cylinders
 
   wrote_first : IsFaultless bay old.counters mid.counters → WroteWhole written change
   wrote_first = wrote.done refl
@@ -124,15 +116,7 @@ module _ (old : Rig) (bay : ℕ) (rate : Rate) (written : Written) (change : Opt
   checked : (result : Result (Unit {0}) Code) → (IsOk result → IsReadBack written (in_bay new.media bay) rate (in_bay old.cylinders bay) change bay old.counters new.counters) → IfErr result (λ code. IsMissCause written (track_under new bay rate written.key.h) change bay old.counters code new.counters) → (result ≡ Err Seek → ⊥) → WritesChecked bay rate written old result new
   checked result done refused placed = record {
     change = change;
-    heads = record {
-      cylinders = back.sends.heads.cylinders ∙ wrote.sends.heads.cylinders;
-      numbers = back.sends.heads.numbers ∙ wrote.sends.heads.numbers;
-      changes = back.sends.heads.changes ∙ wrote.sends.heads.changes;
-      spun = record {
-        first = λ e. back.sends.heads.spun.first (wrote.sends.heads.spun.first e);
-        second = λ e. back.sends.heads.spun.second (wrote.sends.heads.spun.second e);
-      };
-    };
+    heads = heads_stay_after old mid new wrote.sends.heads back.sends.heads;
     other_medium = ap (λ (t : Two (Option Disk)). in_bay t (1 - bay)) back.sends.media ∙ wrote.sends.other_medium;
     memory = back.memory ∙ wrote.sends.memory;
     counts = counts;
@@ -167,8 +151,7 @@ module _ (old : Rig) (bay : ℕ) (rate : Rate) (written : Written) (change : Opt
 
   pub back_missed : (code : Code) → answer ≡ Err code → WritesChecked bay rate written old (Err code) new
   back_missed code is =
-      let Missed : Result Bool Code → Type 0 = λ r. IfErr r (λ code. IsReadMiss (track_under mid bay rate written.key.h) written.key bay mid.counters code new.counters) in
-      let miss : IsReadMiss (track_under mid bay rate written.key.h) written.key bay mid.counters code new.counters = subst Missed is back.refused in
+      let miss : IsReadMiss (track_under mid bay rate written.key.h) written.key bay mid.counters code new.counters = rw is at back.refused in
       checked (Err code) (λ ok. absurd (false≢true ok)) (back_cause code miss) (λ seek. let same : code ≡ Seek = cc seek in subst IsReadCode same miss.coded)
 
   module _ (deleted : Bool) (content : List ℕ) (found : FindsField bay written.key rate mid deleted content new) where
@@ -205,16 +188,10 @@ module _ (old : Rig) (bay : ℕ) (rate : Rate) (written : Written) (change : Opt
 
     module _ (same_mark : deleted ≡ written.deleted) (same : content ≡ written.content) where
       sector_read : IsFaultless bay mid.counters new.counters → IsSector (track_of found.disk (in_bay mid.cylinders bay) written.key.h) written.key written.deleted written.content
-      sector_read less =
-          let track = track_of found.disk (in_bay mid.cylinders bay) written.key.h in
-          subst (λ bytes. IsSector track written.key written.deleted bytes) same
-          (subst (λ mark. IsSector track written.key mark content) same_mark (found.sector (inl less)))
+      sector_read less = rw (same_mark, same) at (found.sector (inl less))
 
       under_read : IsUnder (track_of found.disk (in_bay mid.cylinders bay) written.key.h) written.key written.deleted written.content
-      under_read =
-          let track = track_of found.disk (in_bay mid.cylinders bay) written.key.h in
-          subst (λ bytes. IsUnder track written.key written.deleted bytes) same
-          (subst (λ mark. IsUnder track written.key mark content) same_mark (found.place, found.mark, found.address_field, found.data_mark, found.whole))
+      under_read = rw (← same_mark, ← same) (found.place, found.mark, found.address_field, found.data_mark, found.whole)
 
       read_back : IsReadBack written (in_bay new.media bay) rate (in_bay mid.cylinders bay) change bay old.counters new.counters
       read_back = record {
@@ -235,35 +212,26 @@ module _ (old : Rig) (bay : ℕ) (rate : Rate) (written : Written) (change : Opt
       pub same_read : WritesChecked bay rate written old (Ok tt) new
       same_read =
           checked (Ok tt)
-          (λ ok. subst (λ c. IsReadBack written (in_bay new.media bay) rate c change bay old.counters new.counters)
-          (ap (λ (t : Two ℕ). in_bay t bay) wrote.sends.heads.cylinders) read_back)
+          (λ ok. rw wrote.sends.heads.cylinders at read_back)
           tt (λ is. cc is)
 
 -- ---- the ends of a write that is read back
 
 module _ (old : Rig) (bay : ℕ) (rate : Rate) (written : Written) (mid new : Rig) where
   pub ends_written : (first result : Result (Unit {0}) Code) (code other : Code) → (change : Option Change) × WritesData bay rate written change old first mid → first ≡ Err code → result ≡ Err other → other ≡ code → WritesChecked bay rate written old result mid
-  ends_written first result code other wrote was is same =
-      let Wrote : Result (Unit {0}) Code → Type 0 = λ r. WritesData bay rate written wrote.0 old r mid in
-      let missed : WritesChecked bay rate written old (Err code) mid = write_missed old bay rate written wrote.0 code mid (subst Wrote was wrote.1) in
-      subst (λ r. WritesChecked bay rate written old r mid) (sym (is ∙ ap (λ c. Err c) same)) missed
+  ends_written first result code other wrote was is same = rw (is, same) (write_missed old bay rate written wrote.0 code mid (rw was at wrote.1))
 
   module _ (first : Result (Unit {0}) Code) (answer : Result Bool Code) (unit : Unit {0}) (wrote : (change : Option Change) × WritesData bay rate written change old first mid) (was : first ≡ Ok unit) (back : ReadsBack bay written.key rate mid answer new) where
     done : WritesData bay rate written wrote.0 old (Ok tt) mid
-    done =
-        let Wrote : Result (Unit {0}) Code → Type 0 = λ r. WritesData bay rate written wrote.0 old r mid in
-        subst Wrote was wrote.1
+    done = rw was at wrote.1
 
     pub ends_read : (result : Result (Unit {0}) Code) (code other : Code) → answer ≡ Err code → result ≡ Err other → other ≡ code → WritesChecked bay rate written old result new
     ends_read result code other failed is same =
-        subst (λ r. WritesChecked bay rate written old r new) (sym (is ∙ ap (λ c. Err c) same))
-        (back_missed old bay rate written wrote.0 mid done answer new back code failed)
+        rw (is, same) (back_missed old bay rate written wrote.0 mid done answer new back code failed)
 
     module _ (marked : Bool) (read : answer ≡ Ok marked) where
       found : (content : List ℕ) × FindsField bay written.key rate mid marked content new × (new.page ≡ with_items mid.page 0 content)
-      found =
-          let Found : Result Bool Code → Type 0 = λ r. IfOk r (λ deleted. (content : List ℕ) × FindsField bay written.key rate mid deleted content new × (new.page ≡ with_items mid.page 0 content)) in
-          subst Found read back.found
+      found = rw read at back.found
 
       pub ends_marked : (marked ≡ written.deleted → ⊥) → WritesChecked bay rate written old (Err BadCrc) new
       ends_marked differs =
@@ -275,8 +243,7 @@ module _ (old : Rig) (bay : ℕ) (rate : Rate) (written : Written) (mid new : Ri
 
         page_alike : AreBytesAlike new.page new.memory address (content_size written.key.n) → found.0 ≡ written.content
         page_alike alike =
-            let shown : AreBytesAlike (with_items mid.page 0 found.0) old.memory address (content_size written.key.n) = subst (λ m. AreBytesAlike (with_items mid.page 0 found.0) m address (content_size written.key.n)) memory_same (subst (λ p. AreBytesAlike p new.memory address (content_size written.key.n)) found.2 alike) in
-            alike_content mid.page old.memory found.0 address (content_size written.key.n) found.1.size sized.length within shown ∙ sym is
+            alike_content mid.page old.memory found.0 address (content_size written.key.n) found.1.size sized.length within (rw (memory_same, found.2) at alike) ∙ sym is
 
         alike_page : found.0 ≡ written.content → AreBytesAlike new.page new.memory address (content_size written.key.n)
         alike_page same =

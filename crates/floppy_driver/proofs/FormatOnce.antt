@@ -1,25 +1,11 @@
 -- One attempt of a format.
-use Rattle.std.proofs.Common.{◌≡◌, ℕ, ◌+◌, ◌*◌, ◌≤◌, ◌⊎◌, Bool, true, false, [], Option, Some, None, IfSome, MatchOption, Result, Ok, Err, IsOk, IsErr, IfErr, refl, sym, ap, ◌∙◌, subst, arith, inl, inr}
-use Rattle.std.specs.Prelude.{◌==◌, if◌then◌else◌}
-use Rattle.floppy_driver.proofs.Common.{false≢true, sectors_at, Code, NoMark, NotFound, Overrun, BadCrc, Seek, Disk, IsDisk, HasTrack, Two, in_bay, Counters, GoesOn, IsUndisturbed, IsFaultless, goes_on_after, goes_on_itself, faults_go_on, Rate, R500, R250, met_in, MeetsTrack, met_cases, Format, Laying, IsFormattable, IsDeviceRefusal, IsFormatted, Rig, IsSound, track_under, IsReadCode, FormatsTrack, LaysMedium, HasTrackUnder, CanFormatUnder, IsFormatCode, IsPrepared, IsValidFormat, IsBlankUnder, HoldsRecords, IsReadBackMiss, ReadsRecords, IsAttemptRefusal, FormatsIn, Notes}
+use Rattle.std.proofs.Common.{◌≡◌, ℕ, ◌+◌, ◌*◌, ◌≤◌, ◌⊎◌, true, false, [], Option, Some, None, MatchOption, Result, Ok, Err, IsOk, IsErr, IfErr, refl, sym, ap, ◌∙◌, subst, arith, inl, inr}
+use Rattle.floppy_driver.proofs.Common.{false≢true, sectors_at, Code, NoMark, NotFound, Overrun, BadCrc, Seek, Disk, HasTrack, Two, in_bay, GoesOn, IsUndisturbed, IsFaultless, goes_on_after, Rate, R500, R250, met_in, MeetsTrack, met_cases, Format, Laying, IsFormattable, IsDeviceRefusal, IsFormatted, Rig, IsSound, track_under, FormatsTrack, LaysMedium, HasTrackUnder, CanFormatUnder, IsFormatCode, IsPrepared, IsValidFormat, IsBlankUnder, HoldsRecords, IsReadBackMiss, ReadsRecords, IsAttemptRefusal, FormatsIn, Notes}
 use Rattle.floppy_driver.specs.declared.retry_plan.Prepare.TheVariants as prepare
-use Rattle.floppy_driver.proofs.Shows.{driven_after, driven_within, undisturbed_part, undisturbed_faultless}
-use Rattle.floppy_driver.proofs.LaidTracks.{lays_none, MayLay, layings_of, IsLaidWhole, one_at_most, laying_lays, laying_only, laying_untouched, laying_whole, laid_holds, same_some}
-
--- the medium in a bay of a sound machine is a disk
-pub sound_at : (rig : Rig) (bay : ℕ) → IsSound rig → IfSome (in_bay rig.media bay) IsDisk
-sound_at rig bay sound = by_bay (bay == 0)
-  where
-    by_bay : (is_first : Bool) → IfSome (if is_first then rig.media.first else rig.media.second) IsDisk
-    by_bay true = sound.first
-    by_bay false = sound.second
-
-some_is : (medium : Option Disk) (disk : Disk) → IfSome medium IsDisk → medium ≡ Some disk → IsDisk disk
-some_is (Some found) disk valid is = subst IsDisk (same_some found disk is) valid
-some_is None disk valid is = absurd (cc is)
-
-in_same_bay : (a b : Two (Option Disk)) (bay : ℕ) → b ≡ a → in_bay b bay ≡ in_bay a bay
-in_same_bay a b bay same = ap (λ (t : Two (Option Disk)). in_bay t bay) same
+use Rattle.floppy_driver.proofs.Shows.{driven_after, driven_within, sound_disk, undisturbed_faultless}
+use Rattle.floppy_driver.proofs.ReadBacks.{read_device, read_not_seek}
+use Rattle.floppy_driver.proofs.Rising.{disturbed_first, disturbed_later, less_first, less_later}
+use Rattle.floppy_driver.proofs.LaidTracks.{lays_none, MayLay, layings_of, IsLaidWhole, one_at_most, laying_lays, laying_only, laying_untouched, laying_whole, laid_holds}
 
 some_sectors : (rate : Rate) → 1 ≤ sectors_at rate
 some_sectors R500 = omega arith
@@ -29,13 +15,6 @@ format_device : (code : Code) → IsFormatCode code → IsDeviceRefusal code
 format_device NoMark coded = tt
 format_device Overrun coded = tt
 format_device _ coded = absurd coded
-
-read_device : (code : Code) → IsReadCode code → IsDeviceRefusal code
-read_device NoMark coded = tt
-read_device NotFound coded = tt
-read_device BadCrc coded = tt
-read_device Overrun coded = tt
-read_device _ coded = absurd coded
 
 format_not_seek : (code : Code) → IsFormatCode code → code ≡ Seek → ⊥
 format_not_seek code coded is = subst IsFormatCode is coded
@@ -49,29 +28,12 @@ format_not_read : (code : Code) → IsFormatCode code → (code ≡ NotFound ⊎
 format_not_read code coded (inl e) = subst IsFormatCode e coded
 format_not_read code coded (inr e) = subst IsFormatCode e coded
 
-read_not_seek : (code : Code) → IsReadCode code → code ≡ Seek → ⊥
-read_not_seek code coded is = subst IsReadCode is coded
-
--- what was faultless as a whole was faultless in its first part
-pub faultless_first : (bay : ℕ) (a b c : Counters) → GoesOn a b → GoesOn b c → IsFaultless bay a c → IsFaultless bay a b
-faultless_first bay a b c one two quiet =
-    let f = faults_go_on b c bay two in
-    let less = quiet.0 in
-    let below = quiet.1 in
-    (omega arith, omega arith)
-
-pub faultless_later : (bay : ℕ) (a b c : Counters) → GoesOn a b → GoesOn b c → IsFaultless bay a c → IsFaultless bay b c
-faultless_later bay a b c one two quiet =
-    let f = faults_go_on a b bay one in
-    let less = quiet.0 in
-    (omega arith, quiet.1)
-
 -- ---- track 0 wasn't reached
 
 pub lost_attempt : (old : Rig) (notes : Notes) (bay : ℕ) (format : Format) (new : Rig) (after : Notes) → IsPrepared bay format.c prepare.RecalibrateAndSeek old notes false new after → FormatsIn 1 format bay (in_bay old.media bay) (in_bay new.media bay) old.counters (Err Seek) new.counters
 lost_attempt old notes bay format new after prepared =
     let lost = prepared.lost refl in
-    let same = in_same_bay old.media new.media bay prepared.moves.media in
+    let same : in_bay new.media bay ≡ in_bay old.media bay = rw prepared.moves.media refl in
     let disturbed : IsUndisturbed bay old.counters new.counters → ⊥ = λ quiet.
     let less = quiet.together in
     let below = quiet.faults in
@@ -115,10 +77,10 @@ module _ (old middle laid : Rig) (notes after : Notes) (bay : ℕ) (format : For
   under = in_bay middle.cylinders bay
 
   same_in : in_bay middle.media bay ≡ was_in
-  same_in = in_same_bay old.media middle.media bay prepared.moves.media
+  same_in = rw prepared.moves.media refl
 
   may_lay : (laying : Option Laying) → MatchOption laying (laid.media ≡ middle.media) (λ one. LaysMedium bay format one middle laid) → MayLay format under was_in laying is_in
-  may_lay None same = in_same_bay middle.media laid.media bay same ∙ same_in
+  may_lay None same = rw same same_in
   may_lay (Some one) lays = record {
     old = lays.before;
     new = lays.after;
@@ -138,30 +100,26 @@ module _ (old middle laid : Rig) (notes after : Notes) (bay : ℕ) (format : For
 
     there : IsFaultless bay old.counters laid.counters → under ≡ format.c
     there quiet =
-        prepared.surely refl refl (faultless_first bay old.counters middle.counters laid.counters prepared.moves.counts formats.sends.counts quiet)
+        prepared.surely refl refl (less_first bay old.counters middle.counters laid.counters prepared.moves.counts formats.sends.counts 1 quiet)
 
     faultless_middle : IsFaultless bay old.counters laid.counters → IsFaultless bay middle.counters laid.counters
-    faultless_middle = faultless_later bay old.counters middle.counters laid.counters prepared.moves.counts formats.sends.counts
+    faultless_middle = less_later bay old.counters middle.counters laid.counters prepared.moves.counts formats.sends.counts 1
 
     undisturbed_middle : IsUndisturbed bay old.counters laid.counters → IsUndisturbed bay middle.counters laid.counters
-    undisturbed_middle = undisturbed_part bay old.counters middle.counters laid.counters laid.counters prepared.moves.counts formats.sends.counts (goes_on_itself laid.counters)
+    undisturbed_middle = disturbed_later bay old.counters middle.counters laid.counters prepared.moves.counts formats.sends.counts 1
 
     track_under_is : under ≡ format.c → (disk : Disk) → was_in ≡ Some disk → HasTrack disk format.c format.h → disk.rate ≡ format.rate → HasTrackUnder middle bay format disk
-    track_under_is place disk was has rate =
-        let From : ℕ → Type 0 = λ c. HasTrack disk c format.h in
-        record { medium = same_in ∙ was; track = subst From (sym place) has; same_rate = rate }
+    track_under_is place disk was has rate = record { medium = same_in ∙ was; track = rw place has; same_rate = rate }
 
     can_from : under ≡ format.c → CanFormatUnder middle bay format → IsFormattable format was_in
-    can_from place can =
-        let From : ℕ → Type 0 = λ c. HasTrack can.0 c format.h in
-        (can.0, sym same_in ∙ can.1.medium, record { track = subst From place can.1.track; rate = can.1.same_rate; fits = can.2 })
+    can_from place can = (can.0, sym same_in ∙ can.1.medium, record { track = rw place at can.1.track; rate = can.1.same_rate; fits = can.2 })
 
     can_to : under ≡ format.c → IsFormattable format was_in → CanFormatUnder middle bay format
     can_to place can = (can.0, track_under_is place can.0 can.1 can.2.track can.2.rate, can.2.fits)
 
     whole : under ≡ format.c → (IsUndisturbed bay middle.counters laid.counters ⊎ (IsOk answer × IsFaultless bay middle.counters laid.counters)) → (disk : Disk) → was_in ≡ Some disk → HasTrack disk format.c format.h → disk.rate ≡ format.rate → IsLaidWhole format disk is_in
     whole place cause disk was has rate =
-        laying_whole format under was_in is_in laying may place disk (some_is (in_bay middle.media bay) disk (sound_at middle bay sound) (same_in ∙ was)) was
+        laying_whole format under was_in is_in laying may place disk (sound_disk middle bay disk sound (same_in ∙ was)) was
         (formats.turn cause disk (track_under_is place disk was has rate))
 
     begins : under ≡ format.c → (IsUndisturbed bay middle.counters laid.counters ⊎ (IsOk answer × IsFaultless bay middle.counters laid.counters)) → IsFormatted format was_in is_in
@@ -222,13 +180,13 @@ module _ (old middle laid : Rig) (notes after : Notes) (bay : ℕ) (format : For
     goes_all = goes_on_after old.counters laid.counters new.counters (counts laying done formats) reads.counts
 
     faultless_laid : IsFaultless bay old.counters new.counters → IsFaultless bay old.counters laid.counters
-    faultless_laid = faultless_first bay old.counters laid.counters new.counters (counts laying done formats) reads.counts
+    faultless_laid = less_first bay old.counters laid.counters new.counters (counts laying done formats) reads.counts 1
 
     undisturbed_laid : IsUndisturbed bay old.counters new.counters → IsUndisturbed bay old.counters laid.counters
-    undisturbed_laid = undisturbed_part bay old.counters old.counters laid.counters new.counters (goes_on_itself old.counters) (counts laying done formats) reads.counts
+    undisturbed_laid = disturbed_first bay old.counters laid.counters new.counters (counts laying done formats) reads.counts 1
 
     undisturbed_back : IsUndisturbed bay old.counters new.counters → IsUndisturbed bay laid.counters new.counters
-    undisturbed_back = undisturbed_part bay old.counters laid.counters new.counters new.counters (counts laying done formats) reads.counts (goes_on_itself new.counters)
+    undisturbed_back = disturbed_later bay old.counters laid.counters new.counters (counts laying done formats) reads.counts 1
 
     faultless_all : IsUndisturbed bay old.counters new.counters → IsFaultless bay old.counters new.counters
     faultless_all = undisturbed_faultless bay old.counters new.counters goes_all
@@ -236,11 +194,8 @@ module _ (old middle laid : Rig) (notes after : Notes) (bay : ℕ) (format : For
     -- the track that is met after the command was there when the command began
     was_under : (one : Option Laying) → MayLay format under was_in one is_in → (met : Disk) → MeetsTrack is_in format.rate (in_bay laid.cylinders bay) format.h met → (disk : Disk) × HasTrackUnder middle bay format disk
     was_under None same met meets =
-        let From : Two ℕ → Type 0 = λ c. HasTrack met (in_bay c bay) format.h in
-        (met, record { medium = same_in ∙ (sym same ∙ meets.is_in); track = subst From formats.sends.heads.cylinders meets.has; same_rate = meets.same_rate })
-    was_under (Some one) lays met meets =
-        let From : ℕ → Type 0 = λ c. HasTrack lays.old c format.h in
-        (lays.old, record { medium = same_in ∙ lays.was; track = subst From lays.here lays.makes.track; same_rate = lays.same_rate })
+        (met, record { medium = same_in ∙ (sym same ∙ meets.is_in); track = rw formats.sends.heads.cylinders at meets.has; same_rate = meets.same_rate })
+    was_under (Some one) lays met meets = (lays.old, record { medium = same_in ∙ lays.was; track = rw lays.here at lays.makes.track; same_rate = lays.same_rate })
 
     formattable : IsFaultless bay old.counters new.counters → (met : Disk) → MeetsTrack is_in format.rate (in_bay laid.cylinders bay) format.h met → CanFormatUnder middle bay format
     formattable quiet met meets =
@@ -335,6 +290,4 @@ module _ (old middle laid : Rig) (notes after : Notes) (bay : ℕ) (format : For
         }
 
     pub read_attempt : FormatsIn 1 format bay was_in (in_bay new.media bay) old.counters answer new.counters
-    read_attempt =
-        let In : Option Disk → Type 0 = λ m. FormatsIn 1 format bay was_in m old.counters answer new.counters in
-        subst In (sym (in_same_bay laid.media new.media bay reads.media)) read_so
+    read_attempt = rw reads.media read_so

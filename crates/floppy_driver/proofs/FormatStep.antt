@@ -1,11 +1,11 @@
 -- A format is a step of the sector model.
-use Rattle.std.proofs.Common.{◌≡◌, ℕ, ◌+◌, ◌-◌, ◌*◌, ◌<◌, ◌≤◌, Bool, true, false, List, Option, Some, None, MatchOption, Result, Ok, Err, IsErr, IfErr, refl, sym, ap, ◌∙◌, subst, arith}
-use Rattle.std.specs.Prelude.{◌&&◌, not, nat_le, if◌then◌else◌}
+use Rattle.std.proofs.Common.{◌≡◌, ℕ, ◌+◌, ◌-◌, ◌*◌, ◌<◌, ◌≤◌, Bool, true, false, List, Option, Result, Ok, Err, IsErr, IfErr, refl, sym, ap, ◌∙◌, subst, arith}
+use Rattle.std.specs.Prelude.{◌&&◌, nat_le, if◌then◌else◌}
 use Rattle.floppy_driver.proofs.Common.{option_map_or, le-leb, lt-leb, sectors_at, Rate, R500, Code, BadRequest, Changed, Protected, Seek, Disk, Two, in_bay, DriveCounts, Counters, GoesOn, IsFaultless, DisturbedLess, IsDriven, CostsUpTo, goes_on_after, faults_go_on, Format, IsFormattable, Bay, StationState, bay_of, set_bay, format_once_port_accesses, format_port_accesses, format_steps, format_time, format_turns, is_bay, is_place, is_acknowledged, is_protected, most_format_gap, is_format_request, IsRefusedAtOnce, IsFormatCause, FormatsDrive, FormatsTo, CostsFor, Rig, OnlyAsks, notes_of, is_held, with_waiting, shown, HasAsked, IsAttemptRefusal, FormatsIn, HasOnlyMedium, Driver}
-use Rattle.floppy_driver.proofs.Shows.{bay_shown_at, acknowledged_held, asks_shown, driven_after}
+use Rattle.floppy_driver.proofs.Shows.{bay_shown_at, acknowledged_held, asks_shown, driven_after, heads_stay_after}
 use Rattle.floppy_driver.proofs.Lasting.{costs_shown, format_costs, question_costs, questions_cost}
 use Rattle.floppy_driver.proofs.Asking.{refused_asking}
-use Rattle.floppy_driver.proofs.ReadBacks.{heads_stay_after}
+use Rattle.floppy_driver.proofs.Rising.{refusal_later}
 
 -- ---- the order of refusals
 
@@ -13,26 +13,17 @@ module _ (old : StationState) (bay c h gap3 fill : ℕ) (answer : Result (Unit {
   abbrev format : Format
   format = record { c = c; h = h; rate = (bay_of old bay).rate; gap3 = gap3; fill = fill }
 
-  abbrev Ends : Option Code → Type 0
-  Ends refusal = MatchOption refusal (FormatsDrive format bay old answer new) (λ code. IsRefusedAtOnce code old answer new)
-
-  by_tests : (request acknowledged protected : Bool) → is_format_request old bay c h gap3 ≡ request → is_acknowledged old bay ≡ acknowledged → is_protected old bay ≡ protected → Ends (if not request then Some BadRequest else (if not acknowledged then Some Changed else (if protected then Some Protected else None))) → FormatsTo bay c h gap3 fill old answer new
-  by_tests request acknowledged protected first second third step =
-      subst (λ (b : Bool). Ends (if not b then Some BadRequest else (if not (is_acknowledged old bay) then Some Changed else (if is_protected old bay then Some Protected else None)))) (sym first)
-      (subst (λ (b : Bool). Ends (if not request then Some BadRequest else (if not b then Some Changed else (if is_protected old bay then Some Protected else None)))) (sym second)
-      (subst (λ (b : Bool). Ends (if not request then Some BadRequest else (if not acknowledged then Some Changed else (if b then Some Protected else None)))) (sym third) step))
-
   step_unasked : is_format_request old bay c h gap3 ≡ false → IsRefusedAtOnce BadRequest old answer new → FormatsTo bay c h gap3 fill old answer new
-  step_unasked request step = by_tests false (is_acknowledged old bay) (is_protected old bay) request refl refl step
+  step_unasked request step = rw request step
 
   step_unheld : is_format_request old bay c h gap3 ≡ true → is_acknowledged old bay ≡ false → IsRefusedAtOnce Changed old answer new → FormatsTo bay c h gap3 fill old answer new
-  step_unheld request held step = by_tests true false (is_protected old bay) request held refl step
+  step_unheld request held step = rw (request, held) step
 
   step_protected : is_format_request old bay c h gap3 ≡ true → is_acknowledged old bay ≡ true → is_protected old bay ≡ true → IsRefusedAtOnce Protected old answer new → FormatsTo bay c h gap3 fill old answer new
-  step_protected request held protected step = by_tests true true true request held protected step
+  step_protected request held protected step = rw (request, held, protected) step
 
   step_driven : is_format_request old bay c h gap3 ≡ true → is_acknowledged old bay ≡ true → is_protected old bay ≡ false → FormatsDrive format bay old answer new → FormatsTo bay c h gap3 fill old answer new
-  step_driven request held protected step = by_tests true true false request held protected step
+  step_driven request held protected step = rw (request, held, protected) step
 
 -- ---- from attempts to the step
 
@@ -60,20 +51,6 @@ module _ (n : ℕ) (format : Format) (bay : ℕ) (answer : Result (Unit {0}) Cod
       let less = quiet.0 in
       (omega arith, quiet.1)
 
-  same_reason : (a : Result (Unit {0}) Code) → IfErr a (λ c. IsAttemptRefusal bay mid c new) → IfErr a (λ c. IsAttemptRefusal bay from c to)
-  same_reason (Ok is) refused = tt
-  same_reason (Err c) refused =
-      let s = one.stalls in
-      let f = faults_go_on old mid bay one in
-      record {
-        device = refused.device;
-        undisturbed = λ quiet. refused.undisturbed (fewer 1 quiet);
-        overrun = λ e. let rose = refused.overrun e in omega arith;
-        lost = λ e. let rose = refused.lost e in omega arith;
-        sent = λ other. let rose = refused.sent other in let d = one.data_commands in omega arith;
-        read_back = λ which. let rose = refused.read_back which in let d = one.data_commands in omega arith;
-      }
-
   formats_shown : FormatsIn n format bay before after from answer to
   formats_shown =
       let all = driven_after 0 (n * (1 + sectors_at format.rate)) old mid new one two idle formats.driven in
@@ -97,7 +74,7 @@ module _ (n : ℕ) (format : Format) (bay : ℕ) (answer : Result (Unit {0}) Cod
               begun = λ quiet. ends.begun (fewer 1 quiet);
               commands = λ ok. let rose = ends.commands ok in let d = one.data_commands in omega arith;
               formatted_track = λ ok quiet. ends.formatted_track ok (quieter quiet);
-              refused = same_reason answer ends.refused;
+              refused = refusal_later bay old mid new one two waiting waiting answer ends.refused;
             };
       }
 

@@ -1,11 +1,10 @@
 -- Attempts of a format, one after the other.
-use Rattle.std.proofs.Common.{◌≡◌, ℕ, ◌+◌, ◌-◌, ◌*◌, ◌≤◌, Bool, true, false, List, [], ◌∷◌, ◌++◌, Option, Some, None, Result, Ok, Err, IfErr, refl, sym, ap, ◌∙◌, subst, arith}
-use Rattle.std.specs.Prelude.{◌==◌, if◌then◌else◌}
-use Rattle.floppy_driver.proofs.Common.{false≢true, length-append, sectors_at, standard_code, Rate, R500, R250, Code, Disk, HasTrack, Fits, Two, Counters, GoesOn, IsUndisturbed, goes_on_itself, faults_go_on, Format, Laying, format_keys, formatted, CanFormat, IsFormattable, StationState, Bay, bay_of, LaysDisk, Lays, IsFormatted, IsUnformatted, IsAttemptRefusal, EndsFormat, FormatsIn, HasOnlyMedium}
+use Rattle.std.proofs.Common.{◌≡◌, ℕ, ◌+◌, ◌-◌, ◌*◌, ◌≤◌, List, [], ◌∷◌, ◌++◌, Option, Some, None, Result, Ok, Err, refl, sym, ap, ◌∙◌, subst, arith}
+use Rattle.floppy_driver.proofs.Common.{false≢true, length-append, sectors_at, standard_code, Rate, R500, R250, Code, Disk, HasTrack, Fits, Counters, GoesOn, IsUndisturbed, Format, Laying, format_keys, formatted, CanFormat, IsFormattable, LaysDisk, Lays, IsFormatted, IsUnformatted, EndsFormat, FormatsIn}
 use Rattle.std.proofs.lemmas.List.Elements.{All-append}
-use Rattle.floppy_driver.proofs.Shows.{driven_after, driven_within, undisturbed_part, disturbed_less_more}
+use Rattle.floppy_driver.proofs.Shows.{driven_after, driven_within, disturbed_less_more}
 use Rattle.floppy_driver.proofs.LaidTracks.{lays_none, same_some}
-use Rattle.floppy_driver.proofs.FormatOnce.{faultless_first, faultless_later}
+use Rattle.floppy_driver.proofs.Rising.{disturbed_first, disturbed_later, less_first, less_later, refusal_later}
 
 -- ---- layings keep what a format asks of a disk
 
@@ -128,10 +127,10 @@ formats_none format bay code medium old = record {
 
 module _ (n : ℕ) (format : Format) (bay : ℕ) (code : Code) (answer : Result (Unit {0}) Code) (before middle after : Option Disk) (old mid new : Counters) (one : GoesOn old mid) (two : GoesOn mid new) (first : FormatsIn n format bay before middle old (Err code) mid) (second : FormatsIn 1 format bay middle after mid answer new) where
   later : IsUndisturbed bay old new → IsUndisturbed bay mid new
-  later = undisturbed_part bay old mid new new one two (goes_on_itself new)
+  later = disturbed_later bay old mid new one two 1
 
   sooner : IsUndisturbed bay old new → IsUndisturbed bay old mid
-  sooner = undisturbed_part bay old old mid new (goes_on_itself old) one two
+  sooner = disturbed_first bay old mid new one two 1
 
   last : EndsFormat format bay middle after mid answer new
   last = second.ends (omega arith)
@@ -145,20 +144,6 @@ module _ (n : ℕ) (format : Format) (bay : ℕ) (code : Code) (answer : Result 
   by_now : IsFormatted format middle after → IsFormatted format before after
   by_now = formatted_later format before middle first.layings first.lays after
 
-  reason : (a : Result (Unit {0}) Code) → IfErr a (λ c. IsAttemptRefusal bay mid c new) → IfErr a (λ c. IsAttemptRefusal bay old c new)
-  reason (Ok is) refused = tt
-  reason (Err c) refused =
-      let s = one.stalls in
-      let f = faults_go_on old mid bay one in
-      record {
-        device = refused.device;
-        undisturbed = λ quiet. refused.undisturbed (later quiet);
-        overrun = λ e. let rose = refused.overrun e in omega arith;
-        lost = λ e. let rose = refused.lost e in omega arith;
-        sent = λ other. let rose = refused.sent other in let d = one.data_commands in omega arith;
-        read_back = λ which. let rose = refused.read_back which in let d = one.data_commands in omega arith;
-      }
-
   pub formats_more : FormatsIn (n + 1) format bay before after old answer new
   formats_more = record {
     layings = first.layings ++ second.layings;
@@ -166,7 +151,7 @@ module _ (n : ℕ) (format : Format) (bay : ℕ) (code : Code) (answer : Result 
     lays = lays_append format before middle after first.layings second.layings first.lays second.lays;
     only = λ quiet.
         All-append (λ laying. laying.cylinder ≡ format.c) first.layings second.layings
-        (first.only (faultless_first bay old mid new one two quiet)) (second.only (faultless_later bay old mid new one two quiet));
+        (first.only (less_first bay old mid new one two 1 quiet)) (second.only (less_later bay old mid new one two 1 quiet));
     untouched = λ quiet. unformatted_later format before middle after (first.untouched (sooner quiet)) (second.untouched (later quiet));
     never = λ failed can less.
         disturbed_less_more n bay old mid new one two (first.never refl can) (second.never failed (to_middle can)) less;
@@ -182,9 +167,9 @@ module _ (n : ℕ) (format : Format) (bay : ℕ) (code : Code) (answer : Result 
       begun = λ quiet. by_now (last.begun (later quiet));
       commands = λ ok. let rose = last.commands ok in let d = one.data_commands in omega arith;
       formatted_track = λ ok quiet.
-          let so = last.formatted_track ok (faultless_later bay old mid new one two quiet) in
+          let so = last.formatted_track ok (less_later bay old mid new one two 1 quiet) in
           (from_middle so.0, by_now so.1);
-      refused = reason answer last.refused;
+      refused = refusal_later bay old mid new one two old.spares new.spares answer last.refused;
     };
   }
 
@@ -201,33 +186,3 @@ formats_done count most format bay before after old new some within formats = re
   unsent = λ any is. absurd (cc is);
   ends = λ any. formats.ends some;
 }
-
--- ---- the station
-
-abbrev with_medium : Bay → Option Disk → Bay
-with_medium bay medium = record bay { medium = medium }
-
--- the bays with another medium in one of them
-abbrev put_in : Bool → Two Bay → Option Disk → Two Bay
-put_in is_first bays medium =
-    if is_first then record bays { first = with_medium (if is_first then bays.first else bays.second) medium }
-    else record bays { second = with_medium (if is_first then bays.first else bays.second) medium }
-
-put_twice : (is_first : Bool) (bays : Two Bay) (first second : Option Disk) → put_in is_first (put_in is_first bays first) second ≡ put_in is_first bays second
-put_twice true bays first second = refl
-put_twice false bays first second = refl
-
--- two calls, each of which changed only the medium of a bay and counters
-pub medium_twice : (old middle new : StationState) (bay : ℕ) (first second : Option Disk) → HasOnlyMedium bay first old middle → HasOnlyMedium bay second middle new → HasOnlyMedium bay second old new
-medium_twice old middle new bay first second one two =
-    two
-    ∙ ap (λ (s : StationState). record s { bays = put_in (bay == 0) s.bays second; counters = new.counters }) one
-    ∙ ap (λ (b : Two Bay). record old { bays = b; counters = new.counters }) (put_twice (bay == 0) old.bays first second)
-
--- nothing changed at all
-pub medium_itself : (old : StationState) (bay : ℕ) (medium : Option Disk) → (bay_of old bay).medium ≡ medium → HasOnlyMedium bay medium old old
-medium_itself old bay medium is = ap (λ (b : Two Bay). record old { bays = b }) (by_bay (bay == 0) is)
-  where
-    by_bay : (is_first : Bool) → (if is_first then old.bays.first else old.bays.second).medium ≡ medium → old.bays ≡ put_in is_first old.bays medium
-    by_bay true e = ap (λ (m : Option Disk). record old.bays { first = with_medium old.bays.first m }) e
-    by_bay false e = ap (λ (m : Option Disk). record old.bays { second = with_medium old.bays.second m }) e

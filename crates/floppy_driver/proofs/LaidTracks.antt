@@ -15,10 +15,7 @@ lays_none format (Some d) (Some f) e = same_some f d e
 lays_none format _ _ e = absurd (cc e)
 
 lays_one : (format : Format) (m n : Option Disk) (d after : Disk) (laying : Laying) → m ≡ Some d → n ≡ Some after → IsLaying format d laying after → Lays format m (laying ∷ []) n
-lays_one format m n d after laying e f is =
-    let From : Option Disk → Type 0 = λ o. Lays format o (laying ∷ []) n in
-    let To : Option Disk → Type 0 = λ o. Lays format (Some d) (laying ∷ []) o in
-    subst From (sym e) (subst To (sym f) (after, is, refl))
+lays_one format m n d after laying e f is = rw (e, f) (after, is, refl)
 
 all_one : (P : Laying → Type 0) (x : Laying) → P x → All P (x ∷ [])
 all_one P x fact zero d h = fact
@@ -98,18 +95,15 @@ module _ (format : Format) (cylinder : ℕ) (before after : Option Disk) where
   laying_whole None same there disk valid was whole = absurd whole
   laying_whole (Some one) laid there disk valid was whole =
       let same : disk ≡ laid.old = same_some disk laid.old (sym was ∙ laid.was) in
-      let makes : IsLaying format disk one laid.new = subst (λ (d : Disk). IsLaying format d one laid.new) (sym same) laid.makes in
-      let At : ℕ → Type 0 = λ c. track_of laid.new c format.h ≡ formatted format disk.words_per_track in
-      let From : ℕ → Type 0 = λ c. HasTrack disk c format.h in
-      let c_is : one.cylinder ≡ format.c = laid.here ∙ there in
-      let had : HasTrack disk format.c format.h = subst From c_is makes.track in
+      let makes : IsLaying format disk one laid.new = rw same laid.makes in
+      let had = rw (laid.here ∙ there) at makes.track in
       let shape = makes.laid in
       record {
         new = laid.new;
         is = laid.is;
         has = (let e = shape.cylinders in let h = had.0 in omega arith, let e = shape.heads in let h = had.1 in omega arith);
         same_rate = shape.rate ∙ ap (λ (d : Disk). d.rate) same ∙ laid.same_rate;
-        track = subst At c_is (laid_whole format disk one laid.new valid makes whole);
+        track = rw (laid.here ∙ there) at (laid_whole format disk one laid.new valid makes whole);
       }
 
 -- such a track holds its records, as a command meets them

@@ -80,8 +80,7 @@ pub format_costs : (bay tries other : ℕ) (rate kept : Rate) (a b c d : Rig) �
     → CostsFor bay (other * format_turns rate) (other * format_steps rate) (other * format_once_port_accesses rate) c d
     → CostsFor bay (tries * format_turns kept) (tries * format_steps kept) (6 + tries * format_once_port_accesses kept) a d
 format_costs bay tries other rate kept a b c d many same first second last =
-    let as_kept = subst (λ r. CostsFor bay (other * format_turns r) (other * format_steps r) (other * format_once_port_accesses r) c d) same last in
-    let as_many = subst (λ k. CostsFor bay (k * format_turns kept) (k * format_steps kept) (k * format_once_port_accesses kept) c d) many as_kept in
+    let as_many = rw (same, many) at last in
     let turns = tries * format_turns kept in
     let steps = tries * format_steps kept in
     let accesses = tries * format_once_port_accesses kept in

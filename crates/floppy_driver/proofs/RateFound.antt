@@ -1,8 +1,8 @@
 -- Looking for the rate of a medium.
-use Rattle.std.proofs.Common.{◌≡◌, ℕ, ◌+◌, ◌*◌, ◌≤◌, Bool, false, List, Option, Result, Ok, Err, IfErr, is_ok, sym, ap, ◌∙◌, subst, arith, inl, inr}
-use Rattle.floppy_driver.proofs.Common.{false≢true, cases_lt, last_count, Chrn, Rate, R500, R250, Code, Disk, Two, in_bay, Counters, faults_of, IsFaultless, FaultsRoseBy, GoesOn, goes_on_after, faults_go_on, met_in, HasClearAddress, Rig, StaysSpun, track_under, SendsRead, ReadsId, OnlyReads, FindsRate}
+use Rattle.std.proofs.Common.{◌≡◌, ℕ, ◌+◌, ◌*◌, ◌≤◌, Bool, false, List, Result, Ok, Err, IfErr, is_ok, sym, ◌∙◌, subst, arith, inl, inr}
+use Rattle.floppy_driver.proofs.Common.{false≢true, cases_lt, last_count, Chrn, R500, R250, Code, Two, Counters, faults_of, IsFaultless, FaultsRoseBy, GoesOn, goes_on_after, faults_go_on, HasClearAddress, Rig, StaysSpun, track_under, SendsRead, ReadsId, OnlyReads, FindsRate}
 use Rattle.floppy_driver.proofs.Rounds.{HasFoundNone}
-use Rattle.floppy_driver.proofs.Shows.{driven_after, driven_within}
+use Rattle.floppy_driver.proofs.Shows.{driven_after, driven_within, heads_stay_after, same_under}
 
 pub spun_after : (a b c : Two Bool) → StaysSpun a b → StaysSpun b c → StaysSpun a c
 spun_after a b c one two = record { first = λ is. two.first (one.first is); second = λ is. two.second (one.second is) }
@@ -10,22 +10,12 @@ spun_after a b c one two = record { first = λ is. two.first (one.first is); sec
 -- one more command
 reads_more : (count most : ℕ) (a b c : Rig) → count + 1 ≤ most → OnlyReads count a b → SendsRead b c → c.memory ≡ b.memory → OnlyReads most a c
 reads_more count most a b c few one two memory = record {
-  heads = record {
-    cylinders = two.heads.cylinders ∙ one.heads.cylinders;
-    numbers = two.heads.numbers ∙ one.heads.numbers;
-    changes = two.heads.changes ∙ one.heads.changes;
-    spun = spun_after a.spun b.spun c.spun one.heads.spun two.heads.spun;
-  };
+  heads = heads_stay_after a b c one.heads two.heads;
   media = two.media ∙ one.media;
   memory = memory ∙ one.memory;
   counts = goes_on_after a.counters b.counters c.counters one.counts two.counts;
   driven = driven_within (count + 1) most a.counters c.counters few (driven_after count 1 a.counters b.counters c.counters one.counts two.counts one.driven two.driven);
 }
-
-track_stays : (old new : Rig) (bay : ℕ) (rate : Rate) (head : ℕ) → new.media ≡ old.media → new.cylinders ≡ old.cylinders → track_under new bay rate head ≡ track_under old bay rate head
-track_stays old new bay rate head media cylinders =
-    ap (λ (m : Two (Option Disk)). met_in (in_bay m bay) rate (in_bay new.cylinders bay) head) media
-    ∙ ap (λ (c : Two ℕ). met_in (in_bay old.media bay) rate (in_bay c bay) head) cylinders
 
 none_missed : (P : Type 0) (answer : Result Chrn Code) → is_ok answer ≡ false → IfErr answer (λ code. P) → P
 none_missed P (Ok key) is missed = absurd (false≢true (sym is))
@@ -51,7 +41,7 @@ module _ (start : Rig) (bay round : ℕ) (before : Rig) (none : HasFoundNone bay
 
     middle_track : track_under middle bay R250 0 ≡ track_under start bay R250 0
     middle_track =
-        track_stays start middle bay R250 0 (single.sends.media ∙ none.reads.media) (single.sends.heads.cylinders ∙ none.reads.heads.cylinders)
+        same_under start middle bay R250 0 (single.sends.media ∙ none.reads.media) (single.sends.heads.cylinders ∙ none.reads.heads.cylinders)
 
     -- an address field was found at neither rate
     pub found_neither : is_ok second ≡ false → HasFoundNone bay (round + 1) start after

@@ -1,9 +1,21 @@
 -- Reading a record back to the driver's page.
-use Rattle.std.proofs.Common.{◌≡◌, ℕ, ◌+◌, ◌≤◌, Bool, false, List, length, drop, replicate, get_or, Option, Ok, Err, refl, sym, ap, ◌∙◌, subst, arith, inl, inr}
-use Rattle.floppy_driver.proofs.Common.{false≢true, get_or_append_left, get_or-replicate, Chrn, Rate, Code, NoMark, NotFound, BadCrc, Disk, track_of, IsAddressAt, content_size, content_at, IsSector, one_look_at, Two, in_bay, goes_on_after, goes_on_itself, met_in, key_of, IsUndisturbed, HasNothing, met_track, Rig, HeadsStay, track_under, IsReadReason, ReadsBack, IsFilled, IsBlankUnder, HoldsRecord, HoldsRecords, ReadsRecords}
+use Rattle.std.proofs.Common.{◌≡◌, ℕ, ◌+◌, ◌≤◌, Bool, false, List, length, drop, replicate, get_or, Result, Ok, Err, IsOk, IfErr, refl, sym, ap, ◌∙◌, subst, arith, inl, inr}
+use Rattle.floppy_driver.proofs.Common.{false≢true, get_or_append_left, get_or-replicate, Chrn, Rate, Code, NoMark, NotFound, BadCrc, Overrun, Seek, track_of, IsAddressAt, content_size, content_at, IsSector, one_look_at, in_bay, goes_on_after, key_of, IsUndisturbed, HasNothing, met_track, IsDeviceRefusal, Rig, HeadsStay, track_under, IsReadReason, IsReadCode, IsReadBackMiss, ReadsBack, IsFilled, IsBlankUnder, HoldsRecord, HoldsRecords, ReadsRecords}
 use Rattle.track_model.specs.declared.Look.TheVariants as look
 use Rattle.flop_base.specs.Lists.{with_items}
-use Rattle.floppy_driver.proofs.Shows.{driven_after, driven_within, undisturbed_part, undisturbed_faultless}
+use Rattle.floppy_driver.proofs.Shows.{driven_after, driven_within, heads_stay_after, same_under, undisturbed_faultless}
+use Rattle.floppy_driver.proofs.Rising.{disturbed_later}
+
+-- the refusals of a read
+pub read_device : (code : Code) → IsReadCode code → IsDeviceRefusal code
+read_device NoMark coded = tt
+read_device NotFound coded = tt
+read_device BadCrc coded = tt
+read_device Overrun coded = tt
+read_device _ coded = absurd coded
+
+pub read_not_seek : (code : Code) → IsReadCode code → code ≡ Seek → ⊥
+read_not_seek code coded is = subst IsReadCode is coded
 
 -- a read of a record that is there has no reason to fail
 no_reason : (track : List ℕ) (key : Chrn) (fill : ℕ) (code : Code) → HoldsRecord track key fill → IsReadReason track key code → ⊥
@@ -54,32 +66,43 @@ module _ (old : Rig) (bay : ℕ) (key : Chrn) (rate : Rate) (fill : ℕ) where
   abbrev Blank : Type 0
   Blank = IsBlankUnder old bay rate key.h
 
-  module _ (code : Code) (new : Rig) where
-    pub read_back_missed : ReadsBack bay key rate old (Err code) new → ReadsRecords bay 1 Blank Holds old (Err code) new
-    read_back_missed reads = record {
+  -- one record was read back
+  module _ {got : Result Bool Code} (new : Rig) (reads : ReadsBack bay key rate old got new) where
+    read_back : (answer : Result (Unit {0}) Code) → (IsOk answer → Blank → ⊥) → IfErr answer (λ code. IsReadBackMiss bay Blank Holds old.counters code new.counters)
+        → ReadsRecords bay 1 Blank Holds old answer new
+    read_back answer found refused = record {
       heads = reads.sends.heads;
       media = reads.sends.media;
       memory = reads.memory;
       counts = reads.sends.counts;
       driven = reads.sends.driven;
-      commands = λ ok. absurd (false≢true ok);
-      found = λ ok. absurd (false≢true ok);
-      refused = record {
-        coded = reads.refused.coded;
-        overrun = reads.refused.overrun;
-        disturbed = λ holds quiet. no_reason track key fill code holds (reads.refused.reason quiet);
-        unmarked = λ blank quiet. unmarked_code track key code blank (reads.refused.reason quiet);
-        sent = reads.sends.command;
-      };
+      commands = λ ok. reads.sends.command;
+      found = λ ok some. found ok;
+      refused = refused;
     }
 
+  pub read_back_missed : (code : Code) (new : Rig) → ReadsBack bay key rate old (Err code) new → ReadsRecords bay 1 Blank Holds old (Err code) new
+  read_back_missed code new reads = read_back new reads (Err code) (λ ok. absurd (false≢true ok)) (record {
+    coded = reads.refused.coded;
+    overrun = reads.refused.overrun;
+    disturbed = λ holds quiet. no_reason track key fill code holds (reads.refused.reason quiet);
+    unmarked = λ blank quiet. unmarked_code track key code blank (reads.refused.reason quiet);
+    sent = reads.sends.command;
+  })
+
   module _ (deleted : Bool) (new : Rig) (reads : ReadsBack bay key rate old (Ok deleted) new) where
+    abbrev there : List ℕ
+    there = track_of reads.found.1.disk (in_bay old.cylinders bay) key.h
+
+    met : track ≡ there
+    met =
+        let field = reads.found.1 in
+        met_track (in_bay old.media bay) rate (in_bay old.cylinders bay) key.h field.disk (record { is_in = field.medium; has = field.track; same_rate = field.same_rate })
+
     page_filled : Holds → IsUndisturbed bay old.counters new.counters → IsFilled new.page (content_size key.n) fill
     page_filled holds quiet =
         let content = reads.found.0 in
         let field = reads.found.1 in
-        let there : List ℕ = track_of field.disk (in_bay old.cylinders bay) key.h in
-        let met : track ≡ there = met_track (in_bay old.media bay) rate (in_bay old.cylinders bay) key.h field.disk (record { is_in = field.medium; has = field.track; same_rate = field.same_rate }) in
         let sector : IsSector there key deleted content = field.sector (inl (undisturbed_faultless bay old.counters new.counters reads.sends.counts quiet)) in
         let holds_there : HoldsRecord there key fill = subst (λ (words : List ℕ). HoldsRecord words key fill) met holds in
         filled_page old.page content new.page (content_size key.n) fill reads.found.2 field.size (held_content there key fill deleted content holds_there sector)
@@ -88,59 +111,25 @@ module _ (old : Rig) (bay : ℕ) (key : Chrn) (rate : Rate) (fill : ℕ) where
     not_blank : Blank → ⊥
     not_blank blank =
         let field = reads.found.1 in
-        let there : List ℕ = track_of field.disk (in_bay old.cylinders bay) key.h in
-        let met : track ≡ there = met_track (in_bay old.media bay) rate (in_bay old.cylinders bay) key.h field.disk (record { is_in = field.medium; has = field.track; same_rate = field.same_rate }) in
         blank.addresses field.place key (subst (λ (words : List ℕ). IsAddressAt words field.place key) (sym met) field.address_field)
 
     pub read_back_found : ReadsRecords bay 1 Blank Holds old (Ok tt) new
-    read_back_found = record {
-      heads = reads.sends.heads;
-      media = reads.sends.media;
-      memory = reads.memory;
-      counts = reads.sends.counts;
-      driven = reads.sends.driven;
-      commands = λ ok. reads.sends.command;
-      found = λ ok some blank. not_blank blank;
-      refused = tt;
-    }
+    read_back_found = read_back new reads (Ok tt) (λ ok. not_blank) tt
 
     pub read_back_differs : (IsFilled new.page (content_size key.n) fill → ⊥) → ReadsRecords bay 1 Blank Holds old (Err BadCrc) new
-    read_back_differs other = record {
-      heads = reads.sends.heads;
-      media = reads.sends.media;
-      memory = reads.memory;
-      counts = reads.sends.counts;
-      driven = reads.sends.driven;
-      commands = λ ok. absurd (false≢true ok);
-      found = λ ok. absurd (false≢true ok);
-      refused = record {
-        coded = tt;
-        overrun = λ e. absurd (cc e);
-        disturbed = λ holds quiet. other (page_filled holds quiet);
-        unmarked = λ blank. absurd (not_blank blank);
-        sent = reads.sends.command;
-      };
-    }
+    read_back_differs other = read_back new reads (Err BadCrc) (λ ok. not_blank) (record {
+      coded = tt;
+      overrun = λ e. absurd (cc e);
+      disturbed = λ holds quiet. other (page_filled holds quiet);
+      unmarked = λ blank. absurd (not_blank blank);
+      sent = reads.sends.command;
+    })
 
 -- ---- one record after the other
 
--- the track that is met stays the same if neither the medium nor the heads change
-same_under : (old new : Rig) (bay : ℕ) (rate : Rate) (h : ℕ) → HeadsStay old new → new.media ≡ old.media → track_under new bay rate h ≡ track_under old bay rate h
-same_under old new bay rate h heads media =
-    ap (λ (m : Two (Option Disk)). met_in (in_bay m bay) rate (in_bay new.cylinders bay) h) media
-    ∙ ap (λ (c : Two ℕ). met_in (in_bay old.media bay) rate (in_bay c bay) h) heads.cylinders
-
-pub heads_stay_after : (a b c : Rig) → HeadsStay a b → HeadsStay b c → HeadsStay a c
-heads_stay_after a b c one two = record {
-  cylinders = two.cylinders ∙ one.cylinders;
-  numbers = two.numbers ∙ one.numbers;
-  changes = two.changes ∙ one.changes;
-  spun = record { first = λ e. two.spun.first (one.spun.first e); second = λ e. two.spun.second (one.spun.second e) };
-}
-
 -- a blank track stays blank if neither the medium nor the heads change
 pub blank_next : (old new : Rig) (bay : ℕ) (rate : Rate) (h : ℕ) → HeadsStay old new → new.media ≡ old.media → IsBlankUnder old bay rate h → IsBlankUnder new bay rate h
-blank_next old new bay rate h heads media blank = subst HasNothing (sym (same_under old new bay rate h heads media)) blank
+blank_next old new bay rate h heads media blank = subst HasNothing (sym (same_under old new bay rate h media heads.cylinders)) blank
 
 -- the record after those that were read back could not be read back
 pub reads_failed : (old middle new : Rig) (bay so_far most : ℕ) (blank next_blank there next : Type 0) (code : Code) → so_far + 1 ≤ most → (blank → next_blank) → (there → next) → ReadsRecords bay so_far blank there old (Ok tt) middle → ReadsRecords bay 1 next_blank next middle (Err code) new → ReadsRecords bay most blank there old (Err code) new
@@ -157,12 +146,12 @@ reads_failed old middle new bay so_far most blank next_blank there next code wit
   refused = record {
     coded = second.refused.coded;
     overrun = λ e. let rose = second.refused.overrun e in let s = first.counts.stalls in omega arith;
-    disturbed = λ holds quiet. second.refused.disturbed (has holds) (undisturbed_part bay old.counters middle.counters new.counters new.counters first.counts second.counts (goes_on_itself new.counters) quiet);
-    unmarked = λ blank quiet. second.refused.unmarked (goes blank) (undisturbed_part bay old.counters middle.counters new.counters new.counters first.counts second.counts (goes_on_itself new.counters) quiet);
+    disturbed = λ holds quiet. second.refused.disturbed (has holds) (disturbed_later bay old.counters middle.counters new.counters first.counts second.counts 1 quiet);
+    unmarked = λ blank quiet. second.refused.unmarked (goes blank) (disturbed_later bay old.counters middle.counters new.counters first.counts second.counts 1 quiet);
     sent = let rose = second.refused.sent in let d = first.counts.data_commands in omega arith;
   };
 }
 
 pub held_next : (old middle : Rig) (bay : ℕ) (rate : Rate) (c h last fill r : ℕ) → HeadsStay old middle → middle.media ≡ old.media → 1 ≤ r → r ≤ last → HoldsRecords (track_under old bay rate h) c h last fill → HoldsRecord (track_under middle bay rate h) (key_of c h r) fill
 held_next old middle bay rate c h last fill r heads media some most holds =
-    subst (λ (words : List ℕ). HoldsRecord words (key_of c h r) fill) (sym (same_under old middle bay rate h heads media)) (holds r some most)
+    subst (λ (words : List ℕ). HoldsRecord words (key_of c h r) fill) (sym (same_under old middle bay rate h media heads.cylinders)) (holds r some most)

@@ -1,21 +1,12 @@
 -- One attempt at a read.
 use Rattle.std.proofs.Common.{◌≡◌, ◌↔◌, ℕ, ◌≤◌, IsTrue, Bool, true, List, Option, is_some, Result, Ok, Err, IfOk, IfErr, refl, sym, ap, ◌∙◌, subst, arith, inl, inr}
-use Rattle.floppy_driver.proofs.Common.{Disk, Chrn, Rate, Code, NoMark, NotFound, Overrun, BadCrc, Seek, Prepare, content_size, Two, in_bay, DriveCounts, IsFaultless, GoesOn, SameOutside, goes_on_after, goes_on_itself, faults_go_on, met_in, Rig, track_under, IsReadReason, IsReadCode, IsReadMiss, FindsField, ReadsData, Bay, StationState, bay_of, met, IsDeviceRefusal, Driver, notes_of, shown, with_notes, with_waiting, HasAsked, IsPrepared, CanTry, IsSure, IsReadWhole, IsReadFailed, TriesRead}
+use Rattle.floppy_driver.proofs.Common.{Disk, Chrn, Rate, Code, Seek, Prepare, content_size, Two, in_bay, DriveCounts, GoesOn, SameOutside, goes_on_after, faults_go_on, Rig, track_under, IsReadReason, IsReadMiss, FindsField, ReadsData, Bay, StationState, bay_of, met, Driver, notes_of, shown, with_notes, with_waiting, HasAsked, IsPrepared, CanTry, IsSure, IsReadWhole, IsReadFailed, TriesRead}
 use Rattle.floppy_driver.specs.declared.retry_plan.Prepare.TheVariants as prepare
 use Rattle.flop_base.specs.Lists.{with_items}
-use Rattle.floppy_driver.proofs.Shows.{held_bay, held_bay_shown, read_shown, waiting_goes_on, waiting_driven, waiting_undisturbed, driven_after, undisturbed_part, undisturbed_faultless}
+use Rattle.floppy_driver.proofs.Shows.{held_bay, held_bay_shown, read_shown, waiting_goes_on, waiting_driven, waiting_undisturbed, driven_after, undisturbed_faultless}
+use Rattle.floppy_driver.proofs.ReadBacks.{read_device, read_not_seek}
+use Rattle.floppy_driver.proofs.Rising.{disturbed_first, disturbed_later, less_later}
 use Rattle.floppy_driver.proofs.Attempts.{sure_way, prepared_shown, prepared_steady}
-
-device_code : (code : Code) → IsReadCode code → IsDeviceRefusal code
-device_code NoMark is = tt
-device_code NotFound is = tt
-device_code BadCrc is = tt
-device_code Overrun is = tt
-device_code Seek is = absurd is
-device_code _ is = is
-
-no_seek : (code : Code) → IsReadCode code → code ≡ Seek → ⊥
-no_seek code is e = subst IsReadCode e is
 
 module _ (driver after : Driver) (old mid : Rig) (bay : ℕ) (key : Chrn) (address : ℕ) (way : Prepare) (spares : ℕ) (waiting : List DriveCounts) (can : CanTry driver old bay) (notes : after ≡ with_notes driver bay (notes_of after bay)) where
   module _ (new : Rig) (tries attempt : ℕ) (answer : Result Bool Code) (rate : Rate) (same_rate : rate ≡ (notes_of driver bay).rate) (known : Bool) (known_is : known ≡ is_some (notes_of driver bay).known) (plan : (way ≡ prepare.Seek) ↔ ((attempt ≡ 1) × IsTrue known × (2 ≤ tries))) (prepared : IsPrepared bay key.c way old (notes_of driver bay) true mid (notes_of after bay)) (reads : ReadsData bay key rate address mid answer new) where
@@ -30,9 +21,8 @@ module _ (driver after : Driver) (old mid : Rig) (bay : ℕ) (key : Chrn) (addre
 
     done_field : (deleted : Bool) (content : List ℕ) → FindsField bay key rate mid deleted content new → new.memory ≡ with_items mid.memory address content → IsReadWhole bay key address (shown driver old spares waiting) deleted (shown after new spares waiting)
     done_field deleted content field memory =
-        let f = faults_go_on old.counters mid.counters bay prepared.moves.counts in
         let g = faults_go_on mid.counters new.counters bay reads.sends.counts in
-        let less : IsFaultless bay old.counters new.counters → IsFaultless bay mid.counters new.counters = λ is. (let h = is.0 in omega arith, is.1) in
+        let less = less_later bay old.counters mid.counters new.counters prepared.moves.counts reads.sends.counts 1 in
         let before = shown driver old spares waiting in
         let memory_is : new.memory ≡ with_items old.memory address content = memory ∙ ap (λ (m : List ℕ). with_items m address content) prepared.moves.memory in
         record {
@@ -63,20 +53,17 @@ module _ (driver after : Driver) (old mid : Rig) (bay : ℕ) (key : Chrn) (addre
     failed_code code miss =
         let s = prepared.moves.counts.stalls in
         record {
-          device = device_code code miss.coded;
+          device = read_device code miss.coded;
           reason = λ sure quiet.
               let whole = waiting_undisturbed old.counters new.counters bay waiting quiet in
-              let first = undisturbed_part bay old.counters old.counters mid.counters new.counters (goes_on_itself old.counters) prepared.moves.counts reads.sends.counts whole in
-              let second = undisturbed_part bay old.counters mid.counters new.counters new.counters prepared.moves.counts reads.sends.counts (goes_on_itself new.counters) whole in
+              let first = disturbed_first bay old.counters mid.counters new.counters prepared.moves.counts reads.sends.counts 1 whole in
+              let second = disturbed_later bay old.counters mid.counters new.counters prepared.moves.counts reads.sends.counts 1 whole in
               let at = prepared.surely refl (sure_way way tries attempt known plan sure) (undisturbed_faultless bay old.counters mid.counters prepared.moves.counts first) in
               let track_is : track_under mid bay rate key.h ≡ met (bay_of (shown driver old spares waiting) bay) key.c key.h =
-              ap (λ (n : ℕ). met_in (in_bay mid.media bay) rate n key.h) at
-              ∙ ap (λ (m : Two (Option Disk)). met_in (in_bay m bay) rate key.c key.h) prepared.moves.media
-              ∙ ap (λ (r : Rate). met_in (in_bay old.media bay) r key.c key.h) same_rate
-              ∙ ap (λ (b : Bay). met b key.c key.h) (sym was) in
+              rw (at, prepared.moves.media, same_rate, was) refl in
               subst (λ (t : List ℕ). IsReadReason t key code) track_is (miss.reason second);
           overrun = λ is. let r = miss.overrun is in omega arith;
-          lost = λ is. absurd (no_seek code miss.coded is);
+          lost = λ is. absurd (read_not_seek code miss.coded is);
           sent = λ other. let c = reads.sends.command in let d = prepared.moves.counts.data_commands in omega arith;
         }
 
@@ -90,7 +77,7 @@ module _ (driver after : Driver) (old mid : Rig) (bay : ℕ) (key : Chrn) (addre
 
     placed : (a : Result Bool Code) → IfErr a (λ code. IsReadMiss (track_under mid bay rate key.h) key bay mid.counters code new.counters) → a ≡ Err Seek → ⊥
     placed (Ok deleted) miss is = cc is
-    placed (Err code) miss is = no_seek code miss.coded (cc is)
+    placed (Err code) miss is = read_not_seek code miss.coded (cc is)
 
     -- the sector was read for, with the heads ready
     pub tries_read : TriesRead (IsSure tries attempt) bay key address (shown driver old spares waiting) answer (shown after new spares waiting)

@@ -1,10 +1,11 @@
 -- Attempts at a read, one after the other.
 use Rattle.std.proofs.Common.{◌≡◌, ℕ, ◌+◌, ◌-◌, ◌<◌, ◌≤◌, ◌++◌, Bool, List, length, take, drop, min, Ok, Err, refl, sym, ap, ◌∙◌, subst, arith, inl, inr}
-use Rattle.floppy_driver.proofs.Common.{get_or-take, get_or-drop, length-take, length-drop, same_number_lists, Chrn, Code, NoMark, NotFound, BadCrc, Look, content_size, one_look_at, Counters, IsFaultless, DisturbedLess, CostsUpTo, GoesOn, SameOutside, goes_on_after, goes_on_itself, faults_go_on, HasClearAddress, HasLook, AllFound, IsReadReason, read_port_accesses, read_time, StationState, bay_of, met, IsRead, ReadsDrive, HasAsked, IsSure, IsReadWhole, IsReadFailed, TriesRead}
+use Rattle.floppy_driver.proofs.Common.{get_or-take, get_or-drop, length-take, length-drop, same_number_lists, Chrn, Code, NoMark, NotFound, BadCrc, Look, content_size, one_look_at, Counters, DisturbedLess, CostsUpTo, GoesOn, SameOutside, goes_on_after, faults_go_on, HasClearAddress, HasLook, AllFound, IsReadReason, read_port_accesses, read_time, StationState, bay_of, met, IsRead, ReadsDrive, HasAsked, IsSure, IsReadWhole, IsReadFailed, TriesRead}
 use Rattle.track_model.specs.declared.Look.TheVariants as look
 use Rattle.flop_base.specs.Lists.{with_items}
 use Rattle.floppy_driver.proofs.TriedReads.{HasTriedRead}
-use Rattle.floppy_driver.proofs.Shows.{driven_after, driven_within, undisturbed_part}
+use Rattle.floppy_driver.proofs.Shows.{driven_after, driven_within}
+use Rattle.floppy_driver.proofs.Rising.{disturbed_later, less_later}
 use Rattle.floppy_driver.proofs.Attempts.{spoilt_none, spoilt_more, all_sure, last_sure}
 
 -- ---- memory outside the range
@@ -81,7 +82,7 @@ module _ (start : StationState) (bay : ℕ) (key : Chrn) (address : ℕ) where
         let s = goes.stalls in
         record {
           device = failed.device;
-          reason = λ is quiet. failed.reason is (undisturbed_part bay start.counters counters new.counters new.counters goes more (goes_on_itself new.counters) quiet);
+          reason = λ is quiet. failed.reason is (disturbed_later bay start.counters counters new.counters goes more 1 quiet);
           overrun = λ is. let r = failed.overrun is in omega arith;
           lost = λ is. let r = failed.lost is in omega arith;
           sent = λ other. let r = failed.sent other in let d = goes.data_commands in omega arith;
@@ -90,9 +91,8 @@ module _ (start : StationState) (bay : ℕ) (key : Chrn) (address : ℕ) where
     read_since : (deleted : Bool) (new : StationState) → SameOutside address (content_size key.n) start.memory memory → GoesOn counters new.counters → IsReadWhole bay key address between deleted new → IsRead bay key address start deleted new
     read_since deleted new same more done =
         let read = done.read in
-        let f = faults_go_on start.counters counters bay goes in
         let d = goes.data_commands in
-        let less : IsFaultless bay start.counters new.counters → IsFaultless bay counters new.counters = λ is. (let g = is.0 in omega arith, is.1) in
+        let less = less_later bay start.counters counters new.counters goes more 1 in
         record {
           disk = read.disk;
           cylinder = read.cylinder;
@@ -179,18 +179,11 @@ module _ (start : StationState) (bay : ℕ) (key : Chrn) (address : ℕ) where
 
   -- ---- the same, by the number of the attempt
 
-  tried_at : (count attempt tries : ℕ) (code failed : Code) (mid new : StationState) → count + 1 ≡ attempt → 1 ≤ tries → tries ≡ start.tries → HasTriedRead bay key address count start code mid → TriesRead (IsSure tries attempt) bay key address mid (Err failed) new → HasTriedRead bay key address attempt start failed new
-  tried_at count attempt tries code failed mid new next some same tried once =
-      let sure = subst (λ (t : ℕ). TriesRead (IsSure t attempt) bay key address mid (Err failed) new) same once in
-      let this = subst (λ (a : ℕ). TriesRead (IsSure start.tries a) bay key address mid (Err failed) new) (sym next) sure in
-      subst (λ (a : ℕ). HasTriedRead bay key address a start failed new) next
-      (tried_more count code failed mid new (omega arith) tried this)
-
   pub tried_next : (attempt tries : ℕ) (code failed : Code) (mid new : StationState) → 1 ≤ attempt → 1 ≤ tries → tries ≡ start.tries → HasTriedRead bay key address (attempt - 1) start code mid → TriesRead (IsSure tries attempt) bay key address mid (Err failed) new → HasTriedRead bay key address (attempt + 1 - 1) start failed new
   tried_next attempt tries code failed mid new first some same tried once =
-      let back : attempt ≡ attempt + 1 - 1 = omega arith in
-      subst (λ (a : ℕ). HasTriedRead bay key address a start failed new) back
-      (tried_at (attempt - 1) attempt tries code failed mid new (omega arith) some same tried once)
+      let here : attempt ≡ attempt - 1 + 1 = omega arith in
+      let there : attempt - 1 + 1 ≡ attempt + 1 - 1 = omega arith in
+      subst (λ (a : ℕ). HasTriedRead bay key address a start failed new) there (tried_more (attempt - 1) code failed mid new (omega arith) tried (rw (same, here) at once))
 
   pub done_at : (attempt tries : ℕ) (code : Code) (sure : Type 0) (deleted : Bool) (mid new : StationState) → 1 ≤ attempt → attempt ≤ tries → tries ≡ start.tries → HasTriedRead bay key address (attempt - 1) start code mid → TriesRead sure bay key address mid (Ok deleted) new → CostsUpTo (read_time start bay) (read_port_accesses start) start.counters new.counters → ReadsDrive bay key address start (Ok deleted) new
   done_at attempt tries code sure deleted mid new first last same tried once costs =

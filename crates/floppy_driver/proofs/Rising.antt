@@ -1,6 +1,6 @@
 -- How counts rise in a call and in its parts.
-use Rattle.std.proofs.Common.{ℕ, ◌+◌, ◌⊎◌, arith, inl, inr}
-use Rattle.floppy_driver.proofs.Common.{cases_lt, RoseBy, Counters, faults_of, FaultsRoseBy, FaultsRoseLess, DisturbedLess, IsUndisturbed, GoesOn, faults_go_on}
+use Rattle.std.proofs.Common.{ℕ, ◌+◌, ◌⊎◌, List, Result, Ok, Err, IfErr, arith, inl, inr}
+use Rattle.floppy_driver.proofs.Common.{cases_lt, RoseBy, Code, IsAttemptRefusal, Counters, DriveCounts, with_waiting, faults_of, FaultsRoseBy, FaultsRoseLess, DisturbedLess, IsUndisturbed, GoesOn, faults_go_on}
 
 -- a call with two parts
 module _ (bay : ℕ) (a b c : Counters) (one : GoesOn a b) (two : GoesOn b c) where
@@ -57,6 +57,18 @@ module _ (bay : ℕ) (a b c : Counters) (one : GoesOn a b) (two : GoesOn b c) wh
 
   pub commands_later : (n : ℕ) → RoseBy n b.data_commands c.data_commands → RoseBy n a.data_commands c.data_commands
   commands_later n rose = let s = one.data_commands in omega arith
+
+  -- why a format was refused, seen from earlier counts, whatever spare drives wait
+  pub refusal_later : (before after : List DriveCounts) (answer : Result (Unit {0}) Code) → IfErr answer (λ code. IsAttemptRefusal bay b code c) → IfErr answer (λ code. IsAttemptRefusal bay (with_waiting a before) code (with_waiting c after))
+  refusal_later before after (Ok is) refused = tt
+  refusal_later before after (Err code) refused = record {
+    device = refused.device;
+    undisturbed = λ quiet. refused.undisturbed (disturbed_later 1 (record { faults = quiet.faults; stalls = quiet.stalls; together = quiet.together }));
+    overrun = λ e. stalls_later 1 (refused.overrun e);
+    lost = λ e. rose_later 77 (refused.lost e);
+    sent = λ other. commands_later 1 (refused.sent other);
+    read_back = λ which. commands_later 2 (refused.read_back which);
+  }
 
 -- an undisturbed call has no stall and no lost pulse
 module _ (bay : ℕ) (a b : Counters) (goes : GoesOn a b) (quiet : IsUndisturbed bay a b) where

@@ -1,7 +1,7 @@
 -- What commands do to the station that is shown, and to the agreement of driver and machine.
-use Rattle.std.proofs.Common.{◌≡◌, ℕ, zero, suc, ◌+◌, ◌-◌, ◌≤◌, ◌⊎◌, Bool, true, false, List, Option, Some, None, refl, sym, ap, ◌∙◌, subst, arith, inl, inr}
+use Rattle.std.proofs.Common.{◌≡◌, ℕ, zero, suc, ◌+◌, ◌-◌, ◌≤◌, ◌⊎◌, Bool, true, false, List, Option, Some, None, IfSome, refl, sym, ap, ◌∙◌, subst, arith, inl, inr}
 use Rattle.std.specs.Prelude.{◌==◌, ◌&&◌, not, is_some, if◌then◌else◌}
-use Rattle.floppy_driver.proofs.Common.{false≢true, cases_lt, R500, Disk, Two, in_bay, with_bay, DriveCounts, Counters, faults_of, IsFaultless, DisturbedLess, IsUndisturbed, GoesOn, IsDriven, faults_go_on, Rig, StaysSpun, HeadsStay, OnlyAsks, MovesHeads, SendsRead, SendsWrite, Bay, StationState, Becomes, Stays, bay_of, set_bay, is_acknowledged, Notes, Driver, notes_of, is_held, bay_shown, with_waiting, shown, with_notes, HasAsked, IsNoted, IsAttached}
+use Rattle.floppy_driver.proofs.Common.{false≢true, cases_lt, R500, Rate, Disk, IsDisk, Two, in_bay, with_bay, DriveCounts, Counters, faults_of, IsFaultless, DisturbedLess, IsUndisturbed, GoesOn, IsDriven, faults_go_on, Rig, IsSound, track_under, StaysSpun, HeadsStay, OnlyAsks, MovesHeads, SendsRead, Bay, StationState, Becomes, Stays, bay_of, set_bay, is_acknowledged, Notes, Driver, notes_of, is_held, bay_shown, with_waiting, shown, with_notes, HasAsked, IsNoted, IsAttached}
 
 -- ---- counts
 
@@ -48,21 +48,6 @@ driven_within few most old new le driven = record {
   past_driver = driven.past_driver;
 }
 
--- what was undisturbed as a whole was undisturbed in each part
-pub undisturbed_part : (bay : ℕ) (a b c d : Counters) → GoesOn a b → GoesOn b c → GoesOn c d → IsUndisturbed bay a d → IsUndisturbed bay b c
-undisturbed_part bay a b c d one two three quiet =
-    let f = faults_go_on a b bay one in
-    let g = faults_go_on b c bay two in
-    let h = faults_go_on c d bay three in
-    let s = one.stalls in
-    let t = two.stalls in
-    let u = three.stalls in
-    record {
-      faults = let q = quiet.faults in omega arith;
-      stalls = let q = quiet.stalls in omega arith;
-      together = let q = quiet.together in omega arith;
-    }
-
 -- if nothing disturbs, the drive has no fault
 pub undisturbed_faultless : (bay : ℕ) (old new : Counters) → GoesOn old new → IsUndisturbed bay old new → IsFaultless bay old new
 undisturbed_faultless bay old new goes quiet =
@@ -87,6 +72,12 @@ disturbed_less_more n bay a b c one two most not less =
     ]
 
 -- ---- bays
+
+-- the medium in a bay of a sound machine is a disk
+pub sound_disk : (rig : Rig) (bay : ℕ) (disk : Disk) → IsSound rig → in_bay rig.media bay ≡ Some disk → IsDisk disk
+sound_disk rig bay disk sound is =
+    subst (λ (m : Option Disk). IfSome m IsDisk) is
+    (elim (bay == 0) as (λ f. IfSome (if f then rig.media.first else rig.media.second) IsDisk) [ true ↦ sound.first | false ↦ sound.second ])
 
 shown_at : (is_first : Bool) (driver : Driver) (rig : Rig) → (if is_first then bay_shown driver.first rig.media.first rig.changes.first else bay_shown driver.second rig.media.second rig.changes.second) ≡ bay_shown (if is_first then driver.first else driver.second) (if is_first then rig.media.first else rig.media.second) (if is_first then rig.changes.first else rig.changes.second)
 shown_at true driver rig = refl
@@ -142,34 +133,30 @@ held_lines_stay rig bay after notes held moves =
       | inr cleared ↦ cleared ∙ cleared_same bay rig.changes (held_is_clear notes (in_bay rig.changes bay) held)
     ]
 
--- ---- the station that is shown
+-- ---- two calls
 
-shown_parts : Driver → Two (Option Disk) → Two Bool → List ℕ → Counters → ℕ → StationState
-shown_parts driver media changes memory counters spares = record {
-  bays = record {
-    first = bay_shown driver.first media.first changes.first;
-    second = bay_shown driver.second media.second changes.second;
-  };
-  memory = memory;
-  spares = spares;
-  tries = driver.tries;
-  counters = counters;
+pub heads_stay_after : (a b c : Rig) → HeadsStay a b → HeadsStay b c → HeadsStay a c
+heads_stay_after a b c one two = record {
+  cylinders = two.cylinders ∙ one.cylinders;
+  numbers = two.numbers ∙ one.numbers;
+  changes = two.changes ∙ one.changes;
+  spun = record { first = λ e. two.spun.first (one.spun.first e); second = λ e. two.spun.second (one.spun.second e) };
 }
+
+-- the track that is met stays the same if neither the medium nor the heads change
+pub same_under : (old new : Rig) (bay : ℕ) (rate : Rate) (h : ℕ) → new.media ≡ old.media → new.cylinders ≡ old.cylinders → track_under new bay rate h ≡ track_under old bay rate h
+same_under old new bay rate h media cylinders = rw (media, cylinders) refl
+
+-- ---- the station that is shown
 
 module _ (driver : Driver) (old new : Rig) (spares : ℕ) (waiting : List DriveCounts) where
   -- if media and change lines stay, only memory and counters changed
   pub memory_shown : new.media ≡ old.media → new.changes ≡ old.changes → Becomes (record (shown driver old spares waiting) { memory = new.memory }) (shown driver new spares waiting)
-  unfolding shown_parts
-  memory_shown media changes =
-      ap (λ m. shown_parts driver m new.changes new.memory (with_waiting new.counters waiting) spares) media
-      ∙ ap (λ c. shown_parts driver old.media c new.memory (with_waiting new.counters waiting) spares) changes
+  memory_shown media changes = rw (media, changes) refl
 
   -- if memory stays too, only counters changed
   pub counters_shown : new.media ≡ old.media → new.changes ≡ old.changes → new.memory ≡ old.memory → Stays (shown driver old spares waiting) (shown driver new spares waiting)
-  unfolding shown_parts
-  counters_shown media changes memory =
-      memory_shown media changes
-      ∙ ap (λ m. shown_parts driver old.media old.changes m (with_waiting new.counters waiting) spares) memory
+  counters_shown media changes memory = rw (media, changes, memory) refl
 
   pub asked_shown : OnlyAsks old new → Stays (shown driver old spares waiting) (shown driver new spares waiting)
   asked_shown asks = counters_shown asks.media asks.heads.changes asks.memory
@@ -237,19 +224,14 @@ noted_later notes medium medium' line line' spun spun' pcn pcn' cylinder cylinde
     }
 
 pub spun_at : (old new : Two Bool) (bay : ℕ) → StaysSpun old new → in_bay old bay ≡ true → in_bay new bay ≡ true
-spun_at old new bay stays = by_bay (bay == 0)
-  where
-    by_bay : (is_first : Bool) → (if is_first then old.first else old.second) ≡ true → (if is_first then new.first else new.second) ≡ true
-    by_bay true = stays.first
-    by_bay false = stays.second
+spun_at old new bay stays =
+    elim (bay == 0) as (λ f. (if f then old.first else old.second) ≡ true → (if f then new.first else new.second) ≡ true) [ true ↦ stays.first | false ↦ stays.second ]
 
 module _ (driver : Driver) (old new : Rig) (counts : GoesOn old.counters new.counters) where
   -- if heads, numbers and lines stay, and no medium is taken out, the notes stay true
   noted_stays : (bay : ℕ) → HeadsStay old new → (in_bay new.media bay ≡ None → in_bay old.media bay ≡ None) → IsNotedAt driver old bay → IsNotedAt driver new bay
   noted_stays bay heads media noted =
-      noted_later (notes_of driver bay) (in_bay old.media bay) (in_bay new.media bay) (in_bay old.changes bay) (in_bay new.changes bay)
-      (in_bay old.spun bay) (in_bay new.spun bay) (in_bay old.numbers bay) (in_bay new.numbers bay) (in_bay old.cylinders bay) (in_bay new.cylinders bay)
-      (faults_of old.counters bay) (faults_of new.counters bay) media (ap (λ (t : Two Bool). in_bay t bay) heads.changes)
+      noted_later (notes_of driver bay) _ _ _ _ _ _ _ _ _ _ _ _ media (ap (λ (t : Two Bool). in_bay t bay) heads.changes)
       (spun_at old.spun new.spun bay heads.spun) (ap (λ (t : Two ℕ). in_bay t bay) heads.numbers) (ap (λ (t : Two ℕ). in_bay t bay) heads.cylinders)
       (faults_go_on old.counters new.counters bay counts) noted
 
@@ -263,11 +245,8 @@ module _ (driver : Driver) (old new : Rig) (counts : GoesOn old.counters new.cou
   pub noted_other : (bay : ℕ) → bay ≤ 1 → MovesHeads bay old new → IsNotedAt driver old (1 - bay) → IsNotedAt driver new (1 - bay)
   noted_other bay in_range moves noted =
       let other = 1 - bay in
-      noted_later (notes_of driver other) (in_bay old.media other) (in_bay new.media other) (in_bay old.changes other) (in_bay new.changes other)
-      (in_bay old.spun other) (in_bay new.spun other) (in_bay old.numbers other) (in_bay new.numbers other) (in_bay old.cylinders other) (in_bay new.cylinders other)
-      (faults_of old.counters other) (faults_of new.counters other) (λ none. ap (λ (t : Two (Option Disk)). in_bay t other) (sym moves.media) ∙ none)
-      (other_line bay in_range moves.changes)
-      (spun_at old.spun new.spun other moves.spun) moves.other_number moves.other_cylinder
+      noted_later (notes_of driver other) _ _ _ _ _ _ _ _ _ _ _ _ (λ none. ap (λ (t : Two (Option Disk)). in_bay t other) (sym moves.media) ∙ none)
+      (other_line bay in_range moves.changes) (spun_at old.spun new.spun other moves.spun) moves.other_number moves.other_cylinder
       (faults_go_on old.counters new.counters other counts) noted
     where
       other_line : (n : ℕ) → n ≤ 1 → (new.changes ≡ old.changes) ⊎ (new.changes ≡ with_bay old.changes n false) → in_bay new.changes (1 - n) ≡ in_bay old.changes (1 - n)
@@ -276,30 +255,22 @@ module _ (driver : Driver) (old new : Rig) (counts : GoesOn old.counters new.cou
       other_line (suc zero) small (inr cleared) = ap (λ (t : Two Bool). t.first) cleared
       other_line (suc (suc n)) small (inr cleared) = absurd (omega arith)
 
-pub attached_asked : (driver : Driver) (old new : Rig) → OnlyAsks old new → IsAttached driver old → IsAttached driver new
-attached_asked driver old new asks =
-    attached_stays driver old new asks.counts asks.heads
-    (λ none. ap (λ (t : Two (Option Disk)). t.first) (sym asks.media) ∙ none) (λ none. ap (λ (t : Two (Option Disk)). t.second) (sym asks.media) ∙ none)
-
-pub attached_read : (driver : Driver) (old new : Rig) → SendsRead old new → IsAttached driver old → IsAttached driver new
-attached_read driver old new sends =
-    attached_stays driver old new sends.counts sends.heads
-    (λ none. ap (λ (t : Two (Option Disk)). t.first) (sym sends.media) ∙ none) (λ none. ap (λ (t : Two (Option Disk)). t.second) (sym sends.media) ∙ none)
+pub attached_same : (driver : Driver) (old new : Rig) → HeadsStay old new → new.media ≡ old.media → GoesOn old.counters new.counters → IsAttached driver old → IsAttached driver new
+attached_same driver old new heads media counts =
+    attached_stays driver old new counts heads
+    (λ none. ap (λ (t : Two (Option Disk)). t.first) (sym media) ∙ none) (λ none. ap (λ (t : Two (Option Disk)). t.second) (sym media) ∙ none)
 
 -- the agreement after a write, if the medium of the bay stays in
-pub attached_written : (driver : Driver) (old new : Rig) (bay : ℕ) → bay ≤ 1 → SendsWrite bay old new → (in_bay new.media bay ≡ None → in_bay old.media bay ≡ None) → IsAttached driver old → IsAttached driver new
-attached_written driver old new zero in_range sends stays = attached_stays driver old new sends.counts sends.heads stays (λ none. sym sends.other_medium ∙ none)
-attached_written driver old new (suc zero) in_range sends stays = attached_stays driver old new sends.counts sends.heads (λ none. sym sends.other_medium ∙ none) stays
-attached_written driver old new (suc (suc n)) in_range sends stays = absurd (omega arith)
+pub attached_written : (driver : Driver) (old new : Rig) (bay : ℕ) → bay ≤ 1 → GoesOn old.counters new.counters → HeadsStay old new → in_bay new.media (1 - bay) ≡ in_bay old.media (1 - bay) → (in_bay new.media bay ≡ None → in_bay old.media bay ≡ None) → IsAttached driver old → IsAttached driver new
+attached_written driver old new zero in_range counts heads other stays = attached_stays driver old new counts heads stays (λ none. sym other ∙ none)
+attached_written driver old new (suc zero) in_range counts heads other stays = attached_stays driver old new counts heads (λ none. sym other ∙ none) stays
+attached_written driver old new (suc (suc n)) in_range counts heads other stays = absurd (omega arith)
 
 -- ---- other notes on a bay
 
 pub notes_set : (driver : Driver) (bay : ℕ) (notes : Notes) → notes_of (with_notes driver bay notes) bay ≡ notes
-notes_set driver bay notes = by_bay (bay == 0)
-  where
-    by_bay : (is_first : Bool) → (if is_first then (if is_first then record driver { first = notes } else record driver { second = notes }).first else (if is_first then record driver { first = notes } else record driver { second = notes }).second) ≡ notes
-    by_bay true = refl
-    by_bay false = refl
+notes_set driver bay notes =
+    elim (bay == 0) as (λ f. let put : Driver = (if f then record driver { first = notes } else record driver { second = notes }) in (if f then put.first else put.second) ≡ notes) [ true ↦ refl | false ↦ refl ]
 
 pub other_notes : (driver : Driver) (bay : ℕ) (notes : Notes) → bay ≤ 1 → notes_of (with_notes driver bay notes) (1 - bay) ≡ notes_of driver (1 - bay)
 other_notes driver (suc (suc n)) notes in_range = absurd (omega arith)

@@ -1,33 +1,27 @@
 -- Working with a drive until its change line clears.
 use Rattle.std.proofs.Common.{◌≡◌, ℕ, zero, suc, ◌-◌, ◌≤◌, Bool, true, false, List, Option, Some, None, IsSome, refl, sym, ap, ◌∙◌, arith}
-use Rattle.floppy_driver.proofs.Common.{false≢true, Disk, Two, in_bay, DriveCounts, faults_of, IsDriven, goes_on_after, faults_go_on, Rig, OnlyAsks, Bay, StationState, set_bay, Notes, Driver, notes_of, bay_shown, with_waiting, shown, with_notes, IsAttached, Works, ClearsChange, OnlyReads}
+use Rattle.floppy_driver.proofs.Common.{false≢true, Disk, Two, in_bay, DriveCounts, GoesOn, HeadsStay, IsDriven, goes_on_after, faults_go_on, Rig, OnlyAsks, set_bay, Notes, Driver, notes_of, bay_shown, with_waiting, shown, with_notes, IsAttached, Works, ClearsChange, OnlyReads}
 use Rattle.floppy_driver.proofs.Rounds.{HasStayedSet}
 use Rattle.floppy_driver.proofs.Shows.{IsNotedAt, noted_at, noted_later, spun_at, driven_after}
 use Rattle.floppy_driver.proofs.RateFound.{spun_after}
 
-pub works_asked : (old : Rig) (bay : ℕ) (new : Rig) → OnlyAsks old new → Works bay old new
-works_asked old bay new asks = record {
-  media = asks.media;
-  memory = asks.memory;
-  spun = asks.heads.spun;
-  other_cylinder = ap (λ (t : Two ℕ). in_bay t (1 - bay)) asks.heads.cylinders;
-  other_number = ap (λ (t : Two ℕ). in_bay t (1 - bay)) asks.heads.numbers;
-  other_change = ap (λ (t : Two Bool). in_bay t (1 - bay)) asks.heads.changes;
-  empty = λ none. ap (λ (t : Two Bool). in_bay t bay) asks.heads.changes;
-  counts = asks.counts;
+works_stay : (old : Rig) (bay : ℕ) (new : Rig) → HeadsStay old new → new.media ≡ old.media → new.memory ≡ old.memory → GoesOn old.counters new.counters → Works bay old new
+works_stay old bay new heads media memory counts = record {
+  media = media;
+  memory = memory;
+  spun = heads.spun;
+  other_cylinder = ap (λ (t : Two ℕ). in_bay t (1 - bay)) heads.cylinders;
+  other_number = ap (λ (t : Two ℕ). in_bay t (1 - bay)) heads.numbers;
+  other_change = ap (λ (t : Two Bool). in_bay t (1 - bay)) heads.changes;
+  empty = λ none. ap (λ (t : Two Bool). in_bay t bay) heads.changes;
+  counts = counts;
 }
 
+pub works_asked : (old : Rig) (bay : ℕ) (new : Rig) → OnlyAsks old new → Works bay old new
+works_asked old bay new asks = works_stay old bay new asks.heads asks.media asks.memory asks.counts
+
 pub works_read : (most : ℕ) (old : Rig) (bay : ℕ) (new : Rig) → OnlyReads most old new → Works bay old new
-works_read most old bay new reads = record {
-  media = reads.media;
-  memory = reads.memory;
-  spun = reads.heads.spun;
-  other_cylinder = ap (λ (t : Two ℕ). in_bay t (1 - bay)) reads.heads.cylinders;
-  other_number = ap (λ (t : Two ℕ). in_bay t (1 - bay)) reads.heads.numbers;
-  other_change = ap (λ (t : Two Bool). in_bay t (1 - bay)) reads.heads.changes;
-  empty = λ none. ap (λ (t : Two Bool). in_bay t bay) reads.heads.changes;
-  counts = reads.counts;
-}
+works_read most old bay new reads = works_stay old bay new reads.heads reads.media reads.memory reads.counts
 
 pub works_after : (a : Rig) (bay : ℕ) (b c : Rig) → Works bay a b → Works bay b c → Works bay a c
 works_after a bay b c one two = record {
@@ -72,31 +66,11 @@ clear_is_full driver old bay new attached works clear = by_medium (in_bay old.me
 pub noted_worked : (driver : Driver) (old : Rig) (bay : ℕ) (new : Rig) → IsAttached driver old → Works bay old new → IsNotedAt driver new (1 - bay)
 noted_worked driver old bay new attached works =
     let other = 1 - bay in
-    noted_later (notes_of driver other) (in_bay old.media other) (in_bay new.media other) (in_bay old.changes other) (in_bay new.changes other)
-    (in_bay old.spun other) (in_bay new.spun other) (in_bay old.numbers other) (in_bay new.numbers other) (in_bay old.cylinders other) (in_bay new.cylinders other)
-    (faults_of old.counters other) (faults_of new.counters other) (λ none. ap (λ (t : Two (Option Disk)). in_bay t other) (sym works.media) ∙ none)
+    noted_later (notes_of driver other) _ _ _ _ _ _ _ _ _ _ _ _ (λ none. ap (λ (t : Two (Option Disk)). in_bay t other) (sym works.media) ∙ none)
     works.other_change (spun_at old.spun new.spun other works.spun) works.other_number works.other_cylinder
     (faults_go_on old.counters new.counters other works.counts) (noted_at driver old other attached)
 
-worked_parts : Bay → Bay → List ℕ → ℕ → Driver → Rig → List DriveCounts → StationState
-worked_parts first second memory spares driver new waiting = record {
-  bays = record { first = first; second = second };
-  memory = memory;
-  spares = spares;
-  tries = driver.tries;
-  counters = with_waiting new.counters waiting;
-}
-
 pub worked_shown : (driver after : Driver) (old : Rig) (bay : ℕ) (new : Rig) (notes : Notes) (spares : ℕ) (waiting : List DriveCounts) → bay ≤ 1 → after ≡ with_notes driver bay notes → Works bay old new → shown after new spares waiting ≡ record (set_bay (shown driver old spares waiting) bay (bay_shown notes (in_bay new.media bay) (in_bay new.changes bay))) { counters = with_waiting new.counters waiting }
-unfolding worked_parts
-worked_shown driver after old zero new notes spares waiting in_range is works =
-    ap (λ (d : Driver). shown d new spares waiting) is
-    ∙ ap (λ (m : Two (Option Disk)). worked_parts (bay_shown notes new.media.first new.changes.first) (bay_shown driver.second m.second new.changes.second) new.memory spares driver new waiting) works.media
-    ∙ ap (λ (b : Bool). worked_parts (bay_shown notes new.media.first new.changes.first) (bay_shown driver.second old.media.second b) new.memory spares driver new waiting) works.other_change
-    ∙ ap (λ (m : List ℕ). worked_parts (bay_shown notes new.media.first new.changes.first) (bay_shown driver.second old.media.second old.changes.second) m spares driver new waiting) works.memory
-worked_shown driver after old (suc zero) new notes spares waiting in_range is works =
-    ap (λ (d : Driver). shown d new spares waiting) is
-    ∙ ap (λ (m : Two (Option Disk)). worked_parts (bay_shown driver.first m.first new.changes.first) (bay_shown notes new.media.second new.changes.second) new.memory spares driver new waiting) works.media
-    ∙ ap (λ (b : Bool). worked_parts (bay_shown driver.first old.media.first b) (bay_shown notes new.media.second new.changes.second) new.memory spares driver new waiting) works.other_change
-    ∙ ap (λ (m : List ℕ). worked_parts (bay_shown driver.first old.media.first old.changes.first) (bay_shown notes new.media.second new.changes.second) m spares driver new waiting) works.memory
+worked_shown driver after old zero new notes spares waiting in_range is works = rw (is, works.media, works.other_change, works.memory) refl
+worked_shown driver after old (suc zero) new notes spares waiting in_range is works = rw (is, works.media, works.other_change, works.memory) refl
 worked_shown driver after old (suc (suc n)) new notes spares waiting in_range is works = absurd (omega arith)

@@ -1,9 +1,10 @@
 -- One attempt at a write, as the station shows it.
 use Rattle.std.proofs.Common.{MatchOption, IfErr, ◌≡◌, ◌↔◌, ℕ, zero, suc, ◌-◌, ◌≤◌, Bool, true, false, IsTrue, List, Option, Some, None, IsSome, is_some, Result, Ok, Err, refl, sym, ap, ◌∙◌, subst, arith}
-use Rattle.floppy_driver.proofs.Common.{option_map_or, Chrn, Rate, Code, Disk, Two, in_bay, bytes_from, content_size, DriveCounts, Counters, GoesOn, goes_on_after, faults_go_on, Prepare, met_in, Change, Written, change_keeps_tracks, Bay, StationState, Becomes, Stays, bay_of, set_bay, met, Rig, IsSound, HeadsStay, track_under, ChangesMedium, Notes, Driver, notes_of, is_held, bay_shown, with_waiting, shown, with_notes, HasAsked, IsSure, IsAttached, IsPrepared, CanWrite, IsMissCause, IsReadBack, WritesChecked, ChangesBay, TriesWrite}
+use Rattle.floppy_driver.proofs.Common.{option_map_or, Chrn, Rate, Code, Disk, Two, in_bay, bytes_from, content_size, DriveCounts, Counters, GoesOn, IsUndisturbed, goes_on_after, faults_go_on, Prepare, Change, Written, change_keeps_tracks, Bay, StationState, Becomes, Stays, bay_of, set_bay, met, Rig, IsSound, track_under, ChangesMedium, Notes, Driver, notes_of, is_held, with_waiting, shown, with_notes, HasAsked, IsSure, IsAttached, IsPrepared, CanWrite, IsMissCause, IsReadBack, WritesChecked, ChangesBay, TriesWrite}
 use Rattle.floppy_driver.specs.declared.retry_plan.Prepare.TheVariants as prepare
-use Rattle.floppy_driver.proofs.Attempts.{prepared_ready, prepared_shown, prepared_steady, sure_way}
-use Rattle.floppy_driver.proofs.Shows.{waiting_goes_on, waiting_driven, waiting_undisturbed, driven_after, held_bay, bay_shown_at, held_bay_shown, held_lines_stay, attached_stays}
+use Rattle.floppy_driver.proofs.Attempts.{can_try_stays, prepared_shown, prepared_steady, sure_way}
+use Rattle.floppy_driver.proofs.FormatReady.{can_write_prepared}
+use Rattle.floppy_driver.proofs.Shows.{waiting_goes_on, waiting_driven, waiting_undisturbed, driven_after, held_bay, bay_shown_at, held_bay_shown, held_lines_stay, attached_written}
 use Rattle.floppy_driver.proofs.Rising.{less_first, less_later, disturbed_later, stalls_later, commands_later, rose_later}
 
 -- ---- earlier counts
@@ -22,10 +23,10 @@ read_back_earlier written medium now rate noted cylinder change bay a b c waitin
   commands = commands_later bay a b c one two 2 back.commands;
 }
 
--- why a write was refused, seen from earlier counts
-cause_earlier : (written : Written) (track : List ℕ) (change : Option Change) (bay : ℕ) (code : Code) (a b c : Counters) → GoesOn a b → GoesOn b c → IsMissCause written track change bay b code c → IsMissCause written track change bay a code c
-cause_earlier written track change bay code a b c one two cause =
-    let later = disturbed_later bay a b c one two 1 in
+-- why a write was refused, seen from earlier counts, whatever spare drives wait
+cause_earlier : (written : Written) (track : List ℕ) (change : Option Change) (bay : ℕ) (code : Code) (a b c : Counters) (waiting : List DriveCounts) → GoesOn a b → GoesOn b c → IsMissCause written track change bay b code c → IsMissCause written track change bay (with_waiting a waiting) code (with_waiting c waiting)
+cause_earlier written track change bay code a b c waiting one two cause =
+    let later = λ (quiet : IsUndisturbed bay (with_waiting a waiting) (with_waiting c waiting)). disturbed_later bay a b c one two 1 (waiting_undisturbed a c bay waiting quiet) in
     record {
       device = cause.device;
       no_mark = λ is quiet. cause.no_mark is (later quiet);
@@ -37,54 +38,18 @@ cause_earlier written track change bay code a b c one two cause =
       read_back = λ is. commands_later bay a b c one two 2 (cause.read_back is);
     }
 
--- the reason is the same whatever spare drives wait
-waiting_cause : (written : Written) (track : List ℕ) (change : Option Change) (bay : ℕ) (code : Code) (a b : Counters) (waiting : List DriveCounts) → IsMissCause written track change bay a code b → IsMissCause written track change bay (with_waiting a waiting) code (with_waiting b waiting)
-waiting_cause written track change bay code a b waiting cause =
-    let same = waiting_undisturbed a b bay waiting in
-    record {
-      device = cause.device;
-      no_mark = λ is quiet. cause.no_mark is (same quiet);
-      not_found = λ is quiet. cause.not_found is (same quiet);
-      bad_data = λ is quiet. cause.bad_data is (same quiet);
-      overrun = cause.overrun;
-      lost = cause.lost;
-      sent = cause.sent;
-      read_back = cause.read_back;
-    }
-
 -- ---- the station that is shown
-
-parts : Driver → Two (Option Disk) → Two Bool → List ℕ → Counters → ℕ → StationState
-parts driver media changes memory counters spares = record {
-  bays = record {
-    first = bay_shown driver.first media.first changes.first;
-    second = bay_shown driver.second media.second changes.second;
-  };
-  memory = memory;
-  spares = spares;
-  tries = driver.tries;
-  counters = counters;
-}
 
 -- the medium of one bay changed, and nothing else that is shown
 put_shown : (driver : Driver) (old new : Rig) (spares : ℕ) (waiting : List DriveCounts) (bay : ℕ) → bay ≤ 1 → in_bay new.media (1 - bay) ≡ in_bay old.media (1 - bay) → new.changes ≡ old.changes → new.memory ≡ old.memory → Becomes (set_bay (shown driver old spares waiting) bay (record (bay_of (shown driver old spares waiting) bay) { medium = in_bay new.media bay })) (shown driver new spares waiting)
-unfolding parts
-put_shown driver old new spares waiting zero in_range other changes memory =
-    ap (λ m. parts driver (record { first = new.media.first; second = m }) new.changes new.memory (with_waiting new.counters waiting) spares) other
-    ∙ ap (λ c. parts driver (record { first = new.media.first; second = old.media.second }) c new.memory (with_waiting new.counters waiting) spares) changes
-    ∙ ap (λ m. parts driver (record { first = new.media.first; second = old.media.second }) old.changes m (with_waiting new.counters waiting) spares) memory
-put_shown driver old new spares waiting (suc zero) in_range other changes memory =
-    ap (λ m. parts driver (record { first = m; second = new.media.second }) new.changes new.memory (with_waiting new.counters waiting) spares) other
-    ∙ ap (λ c. parts driver (record { first = old.media.first; second = new.media.second }) c new.memory (with_waiting new.counters waiting) spares) changes
-    ∙ ap (λ m. parts driver (record { first = old.media.first; second = new.media.second }) old.changes m (with_waiting new.counters waiting) spares) memory
+put_shown driver old new spares waiting zero in_range other changes memory = rw (other, changes, memory) refl
+put_shown driver old new spares waiting (suc zero) in_range other changes memory = rw (other, changes, memory) refl
 put_shown driver old new spares waiting (suc (suc n)) in_range other changes memory = absurd (omega arith)
 
 -- the same after a station in which only counters had changed
 put_after : (start middle new : StationState) (bay : ℕ) (medium : Option Disk) → Stays start middle → Becomes (set_bay middle bay (record (bay_of middle bay) { medium = medium })) new → (bay_of new bay).medium ≡ medium → Becomes (set_bay start bay (record (bay_of start bay) { medium = (bay_of new bay).medium })) new
 put_after start middle new bay medium stays becomes is =
-    let To : StationState → StationState = λ s. record (set_bay s bay (record (bay_of s bay) { medium = medium })) { counters = new.counters } in
-    let later : new ≡ To start = becomes ∙ ap To stays in
-    subst (λ m. new ≡ record (set_bay start bay (record (bay_of start bay) { medium = m })) { counters = new.counters }) (sym is) later
+    rw is (becomes ∙ ap (λ (s : StationState). record (set_bay s bay (record (bay_of s bay) { medium = medium })) { counters = new.counters }) stays)
 
 -- ---- a bay that can be written
 
@@ -100,31 +65,17 @@ protection_stays old bay rate written (Some one) new changed =
     let Protection : Option Disk → Bool = λ m. option_map_or (λ disk. disk.protected) m false in
     ap Protection changed.is ∙ (change_keeps_tracks written changed.before one changed.after changed.makes).alike.protected ∙ ap Protection (sym changed.was)
 
-attached_checked : (driver : Driver) (old new : Rig) (bay : ℕ) → bay ≤ 1 → GoesOn old.counters new.counters → HeadsStay old new → in_bay new.media (1 - bay) ≡ in_bay old.media (1 - bay) → (in_bay new.media bay ≡ None → in_bay old.media bay ≡ None) → IsAttached driver old → IsAttached driver new
-attached_checked driver old new zero in_range counts heads other stays = attached_stays driver old new counts heads stays (λ none. sym other ∙ none)
-attached_checked driver old new (suc zero) in_range counts heads other stays = attached_stays driver old new counts heads (λ none. sym other ∙ none) stays
-attached_checked driver old new (suc (suc n)) in_range counts heads other stays = absurd (omega arith)
-
 pub can_write_checked : (driver : Driver) (old : Rig) (bay : ℕ) (rate : Rate) (written : Written) (answer : Result (Unit {0}) Code) (new : Rig) → CanWrite driver old bay → WritesChecked bay rate written old answer new → IsSound new → CanWrite driver new bay
 can_write_checked driver old bay rate written answer new can wrote sound = record {
-  ready = record {
-    in_range = can.ready.in_range;
-    held = ap (λ (t : Two Bool). is_held (notes_of driver bay) (in_bay t bay)) wrote.heads.changes ∙ can.ready.held;
-    attached = attached_checked driver old new bay can.ready.in_range wrote.counts wrote.heads wrote.other_medium (medium_stays old bay rate written wrote.change new wrote.does) can.ready.attached;
-    sound = sound;
-  };
+  ready =
+      can_try_stays driver old new bay can.ready wrote.heads
+      (attached_written driver old new bay can.ready.in_range wrote.counts wrote.heads wrote.other_medium (medium_stays old bay rate written wrote.change new wrote.does) can.ready.attached) sound;
   unprotected = protection_stays old bay rate written wrote.change new wrote.does ∙ can.unprotected;
 }
 
 -- ---- an attempt, from its prepared heads
 
 module _ (driver after : Driver) (old mid : Rig) (bay target : ℕ) (way : Prepare) (ready : Bool) (can : CanWrite driver old bay) (is : after ≡ with_notes driver bay (notes_of after bay)) (prepared : IsPrepared bay target way old (notes_of driver bay) ready mid (notes_of after bay)) where
-  pub can_write_prepared : IsAttached after mid → IsSound mid → CanWrite after mid bay
-  can_write_prepared attached sound = record {
-    ready = prepared_ready driver after old mid bay target way ready can.ready is prepared attached sound;
-    unprotected = ap (λ (t : Two (Option Disk)). option_map_or (λ disk. disk.protected) (in_bay t bay) false) prepared.moves.media ∙ can.unprotected;
-  }
-
   module _ (spares : ℕ) (waiting : List DriveCounts) where
     medium_old : (bay_of (shown driver old spares waiting) bay).medium ≡ in_bay mid.media bay
     medium_old = ap (λ (b : Bay). b.medium) (bay_shown_at driver old spares waiting bay) ∙ ap (λ (t : Two (Option Disk)). in_bay t bay) (sym prepared.moves.media)
@@ -164,26 +115,18 @@ module _ (driver after : Driver) (old mid : Rig) (bay target : ℕ) (way : Prepa
           ap (λ (t : Two Bool). in_bay t bay) (wrote.heads.changes ∙ held_lines_stay old bay mid (notes_of driver bay) can.ready.held prepared.moves)
 
       held_now : is_held (notes_of after bay) (in_bay new.changes bay) ≡ true
-      held_now =
-          ap (λ (b : Bool). is_held (notes_of after bay) b) lines_now
-          ∙ ap (λ (n : Notes). is_held n (in_bay old.changes bay)) prepared.notes_are
-          ∙ can.ready.held
+      held_now = rw (lines_now, prepared.notes_are) can.ready.held
 
       bay_now : bay_of (shown after new spares waiting) bay ≡ held_bay (notes_of after bay) (in_bay new.media bay)
       bay_now = held_bay_shown after new spares waiting bay held_now
 
       met_now : met (bay_of (shown after new spares waiting) bay) (in_bay mid.cylinders bay) written.key.h ≡ track_under new bay (notes_of driver bay).rate written.key.h
-      met_now =
-          ap (λ (b : Bay). met b (in_bay mid.cylinders bay) written.key.h) bay_now
-          ∙ ap (λ rate. met_in (in_bay new.media bay) rate (in_bay mid.cylinders bay) written.key.h) rate_after
-          ∙ ap (λ (t : Two ℕ). met_in (in_bay new.media bay) (notes_of driver bay).rate (in_bay t bay) written.key.h) (sym wrote.heads.cylinders)
+      met_now = rw (bay_now, rate_after, wrote.heads.cylinders) refl
 
       refused_bay : (code : Code) → IsMissCause written (track_under new bay (notes_of driver bay).rate written.key.h) wrote.change bay mid.counters code new.counters → IsMissCause written (met (bay_of (shown after new spares waiting) bay) (in_bay mid.cylinders bay) written.key.h) wrote.change bay (with_waiting old.counters waiting) code (with_waiting new.counters waiting)
       refused_bay code cause =
-          let track = track_under new bay (notes_of driver bay).rate written.key.h in
-          let all = cause_earlier written track wrote.change bay code old.counters mid.counters new.counters prepared.moves.counts wrote.counts cause in
           subst (λ row. IsMissCause written row wrote.change bay (with_waiting old.counters waiting) code (with_waiting new.counters waiting)) (sym met_now)
-          (waiting_cause written track wrote.change bay code old.counters new.counters waiting all)
+          (cause_earlier written _ wrote.change bay code old.counters mid.counters new.counters waiting prepared.moves.counts wrote.counts cause)
 
       refused_answer : (result : Result (Unit {0}) Code) → IfErr result (λ code. IsMissCause written (track_under new bay (notes_of driver bay).rate written.key.h) wrote.change bay mid.counters code new.counters) → IfErr result (λ code. IsMissCause written (met (bay_of (shown after new spares waiting) bay) (in_bay mid.cylinders bay) written.key.h) wrote.change bay (with_waiting old.counters waiting) code (with_waiting new.counters waiting))
       refused_answer (Ok unit) cause = cause

@@ -1,11 +1,8 @@
 -- Changes of the medium in a bay, one attempt after the other.
 use Rattle.std.proofs.Common.{MatchOption, ◌≡◌, ℕ, zero, suc, ◌+◌, ◌≤◌, Bool, true, false, List, [], ◌∷◌, ◌++◌, length, All, Option, Some, None, refl, sym, ap, ◌∙◌, subst, arith}
 use Rattle.std.specs.Prelude.{◌==◌, if◌then◌else◌}
-use Rattle.floppy_driver.proofs.Common.{length-append, Disk, IsDisk, Two, Change, Written, IsChange, AreAlike, alike_itself, alike_both, change_keeps_tracks, Bay, StationState, Becomes, bay_of, set_bay, ChangesDisk, Reaches, IsLastWhole, ChangesBay, WroteWhole}
+use Rattle.floppy_driver.proofs.Common.{length-append, Disk, IsDisk, Two, Change, Written, IsChange, AreAlike, alike_itself, alike_both, change_keeps_tracks, Bay, StationState, Becomes, bay_of, set_bay, ChangesDisk, Reaches, IsLastWhole, ChangesBay, WroteWhole, HasOnlyMedium}
 use Rattle.floppy_driver.proofs.TriedWrites.{with_change}
-
-pub same_disks : (a b : Disk) → Some a ≡ Some b → a ≡ b
-same_disks a b e = cc e
 
 -- ---- what several changes make
 
@@ -21,8 +18,7 @@ reaches_some written None changes mid one after none is = absurd (cc none.1)
 pub reaches_more : (written : Written) (bay : ℕ) (mid new : StationState) (medium : Option Disk) (changes : List Change) (change : Option Change) → Reaches written medium changes (bay_of mid bay).medium → MatchOption change ((bay_of new bay).medium ≡ (bay_of mid bay).medium) (λ one. ChangesBay written bay one mid new) → Reaches written medium (with_change changes change) (bay_of new bay).medium
 reaches_more written bay mid new medium changes None made same = subst (Reaches written medium changes) (sym same) made
 reaches_more written bay mid new medium changes (Some one) made changed =
-    subst (Reaches written medium (changes ++ one ∷ [])) (sym changed.is)
-    (reaches_some written medium changes changed.before one changed.after (subst (Reaches written medium changes) changed.was made) changed.makes)
+    rw changed.is (reaches_some written medium changes changed.before one changed.after (rw changed.was at made) changed.makes)
 
 reaches_none_yet : (written : Written) (medium : Option Disk) → Reaches written medium [] medium
 reaches_none_yet written (Some disk) = refl
@@ -87,3 +83,11 @@ becomes_later start mid new bay a b first second =
 pub bay_after : (start now : StationState) (bay : ℕ) (medium : Option Disk) → Becomes (set_bay start bay (record (bay_of start bay) { medium = medium })) now → bay_of now bay ≡ record (bay_of start bay) { medium = medium }
 bay_after start now bay medium becomes =
     ap (λ (s : StationState). bay_of s bay) becomes ∙ bay_at (bay == 0) start.bays (record (bay_of start bay) { medium = medium })
+
+-- nothing changed at all
+pub medium_itself : (old : StationState) (bay : ℕ) (medium : Option Disk) → (bay_of old bay).medium ≡ medium → HasOnlyMedium bay medium old old
+medium_itself old bay medium is = ap (λ (b : Two Bay). record old { bays = b }) (by_bay (bay == 0) is)
+  where
+    by_bay : (is_first : Bool) → (if is_first then old.bays.first else old.bays.second).medium ≡ medium → old.bays ≡ (if is_first then record old.bays { first = record (if is_first then old.bays.first else old.bays.second) { medium = medium } } else record old.bays { second = record (if is_first then old.bays.first else old.bays.second) { medium = medium } })
+    by_bay true e = rw (← e) refl
+    by_bay false e = rw (← e) refl

@@ -1,7 +1,6 @@
 -- How several attempts at a write begin and end.
-use Rattle.std.proofs.Common.{MatchOption, IsOk, ◌≡◌, ℕ, ◌+◌, ◌*◌, ◌≤◌, ◌⊎◌, Bool, true, false, [], Option, Some, None, Result, Ok, Err, refl, sym, ap, ◌∙◌, subst, arith, inl, inr}
-use Rattle.std.specs.Prelude.{◌==◌, if◌then◌else◌}
-use Rattle.floppy_driver.proofs.Common.{false≢true, Code, Disk, IsDisk, HasTrack, track_of, IsAddressAt, content_at, LookAt, IsLone, IsSector, IsUnder, window_place, Two, faults_of, IsFaultless, FaultsRoseLess, CostsUpTo, DisturbedLess, IsRegularDisk, IsOnMap, Change, Written, IsChange, HasWritten, change_at, entry_of, IsSameOrChanged, met_track, key_cylinder, one_address, rewritten_keeps_sectors, rewritten_keeps_address, Bay, StationState, Becomes, bay_of, set_bay, met, write_port_accesses, write_time, IsLastRead, IsWritten, KeepsRegular, WritesDrive, HasAsked, IsReadBack, TriesWrite, WroteWhole}
+use Rattle.std.proofs.Common.{MatchOption, IsOk, ◌≡◌, ℕ, ◌+◌, ◌*◌, ◌≤◌, ◌⊎◌, [], Option, Some, None, Result, Ok, Err, refl, sym, ap, ◌∙◌, subst, arith, inl, inr}
+use Rattle.floppy_driver.proofs.Common.{false≢true, Code, Disk, IsDisk, HasTrack, track_of, IsAddressAt, content_at, LookAt, IsLone, IsSector, IsUnder, window_place, faults_of, IsFaultless, FaultsRoseLess, CostsUpTo, DisturbedLess, IsRegularDisk, IsOnMap, Change, Written, IsChange, HasWritten, change_at, entry_of, IsSameOrChanged, met_track, key_cylinder, one_address, rewritten_keeps_sectors, rewritten_keeps_address, Bay, StationState, Becomes, bay_of, set_bay, met, write_port_accesses, write_time, IsLastRead, IsWritten, KeepsRegular, WritesDrive, HasAsked, IsReadBack, TriesWrite, WroteWhole}
 use Rattle.track_model.specs.declared.Look.TheVariants as look
 use Rattle.track_model.proofs.Sectored.{lone_found}
 use Rattle.sector_map.proofs.Joined.{change_of_none_regular}
@@ -9,23 +8,18 @@ use Rattle.floppy_driver.proofs.TriedWrites.{IsWriteStart, IsSpared, with_change
 use Rattle.floppy_driver.proofs.Shows.{driven_within}
 use Rattle.floppy_driver.proofs.Attempts.{spoilt_none, all_sure, last_sure}
 use Rattle.floppy_driver.proofs.Rising.{less_later, commands_later}
-use Rattle.floppy_driver.proofs.WriteChanges.{same_disks, reaches_itself}
+use Rattle.floppy_driver.proofs.WriteChanges.{medium_itself, reaches_itself}
+use Rattle.floppy_driver.proofs.LaidTracks.{same_some}
 use Rattle.floppy_driver.proofs.WriteSteps.{meets_field, rate_mid, wrote_more, wrote_changes, written_whole}
 
 -- ---- no attempt yet
-
-own_medium : (is_first : Bool) (bays : Two Bay) → (if is_first then record bays { first = record (if is_first then bays.first else bays.second) { medium = (if is_first then bays.first else bays.second).medium } } else record bays { second = record (if is_first then bays.first else bays.second) { medium = (if is_first then bays.first else bays.second).medium } }) ≡ bays
-own_medium true bays = refl
-own_medium false bays = refl
 
 module _ (written : Written) (bay : ℕ) (start now : StationState) (asked : HasAsked start now) where
   bay_same : bay_of now bay ≡ bay_of start bay
   bay_same = ap (λ (s : StationState). bay_of s bay) asked.stays
 
   becomes_itself : Becomes (set_bay start bay (record (bay_of start bay) { medium = (bay_of now bay).medium })) now
-  becomes_itself =
-      let own : Becomes (set_bay start bay (record (bay_of start bay) { medium = (bay_of start bay).medium })) now = asked.stays ∙ ap (λ (bays : Two Bay). record start { bays = bays; counters = now.counters }) (sym (own_medium (bay == 0) start.bays)) in
-      subst (λ (m : Option Disk). Becomes (set_bay start bay (record (bay_of start bay) { medium = m })) now) (ap (λ (b : Bay). b.medium) (sym bay_same)) own
+  becomes_itself = asked.stays ∙ ap (λ (s : StationState). record s { counters = now.counters }) (medium_itself start bay _ (ap (λ (b : Bay). b.medium) (sym bay_same)))
 
   pub tried_none : (code : Code) → ((kept : ℕ) → (bay_of start bay).acknowledged ≡ Some kept → kept ≤ faults_of now.counters bay) → HasTriedWrite written bay 0 start code now
   tried_none code kept = record {
@@ -176,7 +170,7 @@ module _ (written : Written) (bay : ℕ) (start mid new : StationState) (count :
     still = (rewritten_keeps_sectors written p disk after regular starts.fits same).regular
 
     same_after : back.disk ≡ after
-    same_after = same_disks back.disk after (sym back.is_in ∙ is_in)
+    same_after = same_some back.disk after (sym back.is_in ∙ is_in)
 
     track_after : HasTrack after attempt.cylinder written.key.h
     track_after = subst (λ d. HasTrack d attempt.cylinder written.key.h) same_after back.track
@@ -201,7 +195,7 @@ module _ (written : Written) (bay : ℕ) (start mid new : StationState) (count :
     whole_on_map : WroteWhole written attempt.change → IsOnMap after (entry_of written p)
     whole_on_map whole =
         let wrote = written_whole written bay start mid new count sure (Ok tt) starts tried.so_far attempt disk is regular p here spared whole in
-        let has : HasWritten written p (track_of after written.key.c written.key.h) = subst (λ d. HasWritten written p (track_of d written.key.c written.key.h)) (same_disks wrote.0 after (sym wrote.1 ∙ is_in)) wrote.2 in
+        let has : HasWritten written p (track_of after written.key.c written.key.h) = subst (λ d. HasWritten written p (track_of d written.key.c written.key.h)) (same_some wrote.0 after (sym wrote.1 ∙ is_in)) wrote.2 in
         record { track = track_on; address = address; content = (window_place p + 256, has.look, has.content) }
 
     lone_on_map : IsLone (track_of after written.key.c written.key.h) p → IsOnMap after (entry_of written p)

@@ -1,10 +1,9 @@
 -- The attempts of a write, one after the other.
-use Rattle.std.proofs.Common.{◌≡◌, ℕ, ◌+◌, ◌^◌, ◌<◌, ◌≤◌, Bool, true, false, List, drop, get_or, Option, Some, IfSome, Result, Ok, Err, refl, sym, ap, ◌∙◌, subst, arith, inl, inr}
-use Rattle.std.specs.Prelude.{◌==◌, if◌then◌else◌}
-use Rattle.floppy_driver.proofs.Common.{cases_lt, length-take, length-drop, get_or-take, get_or-drop, get_or_past, Chrn, Code, Disk, IsDisk, content_size, in_bay, DriveCounts, faults_of, CostsUpTo, GoesOn, user_bytes, bytes_from, goes_on_after, goes_on_itself, Written, FitsKey, Bay, StationState, bay_of, write_port_accesses, write_time, WritesDrive, written_from, Rig, AreBytes, IsSound, Driver, notes_of, shown, HasAsked, IsSure, CanWrite, TriesWrite}
+use Rattle.std.proofs.Common.{◌≡◌, ℕ, ◌+◌, ◌^◌, ◌<◌, ◌≤◌, Bool, List, drop, get_or, Some, Result, Ok, Err, refl, sym, ap, ◌∙◌, subst, arith, inl, inr}
+use Rattle.floppy_driver.proofs.Common.{cases_lt, length-take, length-drop, get_or-take, get_or-drop, get_or_past, Chrn, Code, content_size, DriveCounts, faults_of, CostsUpTo, GoesOn, user_bytes, bytes_from, goes_on_after, goes_on_itself, Written, FitsKey, Bay, StationState, bay_of, write_port_accesses, write_time, WritesDrive, written_from, Rig, AreBytes, Driver, notes_of, shown, HasAsked, IsSure, CanWrite, TriesWrite}
 use Rattle.sector_model.specs.Asked.{IsAsked}
 use Rattle.floppy_driver.proofs.TriedWrites.{IsWriteStart, HasTriedWrite, BetweenWrites}
-use Rattle.floppy_driver.proofs.Shows.{bay_shown_at, held_bay_shown, noted_at}
+use Rattle.floppy_driver.proofs.Shows.{bay_shown_at, held_bay_shown, noted_at, sound_disk}
 use Rattle.floppy_driver.proofs.WriteSteps.{tried_more}
 use Rattle.floppy_driver.proofs.WriteEnds.{tried_none, ends_tried, ends_done}
 
@@ -21,16 +20,6 @@ fits_key memory key deleted address sized within = record {
   size = let long = sized.length in omega (arith, length-take (content_size key.n) (drop address memory), length-drop address memory);
   bytes = λ k. below_byte memory k sized.bytes address (content_size key.n);
 }
-
-is_disk : (o : Option Disk) (disk : Disk) → IfSome o IsDisk → o ≡ Some disk → IsDisk disk
-is_disk o disk valid is = subst (λ (m : Option Disk). IfSome m IsDisk) is valid
-
-disk_in : (rig : Rig) (bay : ℕ) (disk : Disk) → IsSound rig → in_bay rig.media bay ≡ Some disk → IsDisk disk
-disk_in rig bay disk sound = by_bay (bay == 0)
-  where
-    by_bay : (is_first : Bool) → (if is_first then rig.media.first else rig.media.second) ≡ Some disk → IsDisk disk
-    by_bay true = is_disk rig.media.first disk sound.first
-    by_bay false = is_disk rig.media.second disk sound.second
 
 -- ---- the start
 
@@ -52,7 +41,7 @@ module _ (driver : Driver) (rig : Rig) (bay : ℕ) (key : Chrn) (address : ℕ) 
   is_start = record {
     fits = subst FitsKey (sym same_written) (fits_key rig.memory key deleted address can.ready.sound.memory within);
     valid = λ disk is.
-        disk_in rig bay disk can.ready.sound (ap (λ (b : Bay). b.medium) (sym (bay_shown_at driver rig spares waiting bay) ∙ same_bay) ∙ is);
+        sound_disk rig bay disk can.ready.sound (ap (λ (b : Bay). b.medium) (sym (bay_shown_at driver rig spares waiting bay) ∙ same_bay) ∙ is);
     some_tries = let some = driver.some_tries in let same = same_tries in omega arith;
   }
 

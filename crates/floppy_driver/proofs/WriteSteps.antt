@@ -5,7 +5,8 @@ use Rattle.floppy_driver.proofs.TriedWrites.{IsWriteStart, IsSpared, IsSameOrCut
 use Rattle.floppy_driver.proofs.Shows.{driven_after, undisturbed_faultless}
 use Rattle.floppy_driver.proofs.Attempts.{spoilt_more}
 use Rattle.floppy_driver.proofs.Rising.{disturbed_first, disturbed_later, stalls_later, rose_later, commands_later}
-use Rattle.floppy_driver.proofs.WriteChanges.{same_disks, reaches_more, reached_alike, few_more, steady_more, last_whole, becomes_later, bay_after}
+use Rattle.floppy_driver.proofs.WriteChanges.{reaches_more, reached_alike, few_more, steady_more, last_whole, becomes_later, bay_after}
+use Rattle.floppy_driver.proofs.LaidTracks.{same_some}
 use Rattle.floppy_driver.proofs.WriteTracks.{cut_keeps, cut_more, never_refused}
 
 -- if an address field is met, it is on a track of the disk that is in
@@ -43,8 +44,7 @@ module _ (written : Written) (bay : ℕ) (start mid new : StationState) (count :
 
     meets_mid : MeetsTrack (bay_of mid bay).medium (bay_of mid bay).rate written.key.c written.key.h middle.0
     meets_mid =
-        subst (λ r. MeetsTrack (bay_of mid bay).medium r written.key.c written.key.h middle.0) (sym rate_mid)
-        (still_meets (bay_of start bay).medium (bay_of start bay).rate written.key.c written.key.h first.0 middle.0 (bay_of mid bay).medium first.1 middle.2 middle.1)
+        rw rate_mid (still_meets (bay_of start bay).medium (bay_of start bay).rate written.key.c written.key.h first.0 middle.0 (bay_of mid bay).medium first.1 middle.2 middle.1)
 
     met_mid : met (bay_of mid bay) written.key.c written.key.h ≡ track_of middle.0 written.key.c written.key.h
     met_mid = met_track (bay_of mid bay).medium (bay_of mid bay).rate written.key.c written.key.h middle.0 meets_mid
@@ -61,12 +61,11 @@ module _ (written : Written) (bay : ℕ) (start mid new : StationState) (count :
 
     module _ (one : Change) (changed : ChangesBay written bay one mid new) where
       made : IsChange written middle.0 one changed.after
-      made = subst (λ d. IsChange written d one changed.after) (same_disks changed.before middle.0 (sym changed.was ∙ middle.1)) changed.makes
+      made = subst (λ d. IsChange written d one changed.after) (same_some changed.before middle.0 (sym changed.was ∙ middle.1)) changed.makes
 
       meets_new : MeetsTrack (bay_of new bay).medium (bay_of new bay).rate written.key.c written.key.h changed.after
       meets_new =
-          subst (λ r. MeetsTrack (bay_of new bay).medium r written.key.c written.key.h changed.after) (sym rate_new)
-          (still_meets (bay_of mid bay).medium (bay_of mid bay).rate written.key.c written.key.h middle.0 changed.after (bay_of new bay).medium meets_mid
+          rw rate_new (still_meets (bay_of mid bay).medium (bay_of mid bay).rate written.key.c written.key.h middle.0 changed.after (bay_of new bay).medium meets_mid
           (change_keeps_tracks written middle.0 one changed.after made).alike changed.is)
 
       met_new : met (bay_of new bay) written.key.c written.key.h ≡ track_of changed.after written.key.c written.key.h
@@ -95,15 +94,14 @@ module _ (written : Written) (bay : ℕ) (start mid new : StationState) (count :
 
         cut_there : IsCut (met (bay_of mid bay) written.key.c written.key.h) (met (bay_of new bay) written.key.c written.key.h) p one.words (window_of written)
         cut_there =
-            subst (λ t. IsCut t (met (bay_of new bay) written.key.c written.key.h) p one.words (window_of written)) (sym met_mid)
-            (record { cuttable = made_there.cuttable; is = met_new ∙ made_there.cut.has })
+            rw met_mid (record { cuttable = made_there.cuttable; is = met_new ∙ made_there.cut.has })
 
         whole_quiet : IsUndisturbed bay mid.counters new.counters → IsWholeChange written one
         whole_quiet quiet =
             let inside = window_inside (met (bay_of mid bay) written.key.c written.key.h) written.key.c written.key.h one.place written.key kept_mid.0 address_on in
             let valid : IsDisk middle.0 = middle.2.valid in
             let long = length-met_track (bay_of mid bay).medium (bay_of mid bay).rate written.key.c written.key.h middle.0 valid meets_mid in
-            let same : changed.before.words_per_track ≡ middle.0.words_per_track = ap (λ (d : Disk). d.words_per_track) (same_disks changed.before middle.0 (sym changed.was ∙ middle.1)) in
+            let same : changed.before.words_per_track ≡ middle.0.words_per_track = ap (λ (d : Disk). d.words_per_track) (same_some changed.before middle.0 (sym changed.was ∙ middle.1)) in
             changed.whole quiet (omega arith)
 
         safe : IsTidy (met (bay_of start bay) written.key.c written.key.h) p written.deleted written.content ⊎ (one.words ≡ length (window_of written))
@@ -149,7 +147,7 @@ module _ (written : Written) (bay : ℕ) (start mid new : StationState) (count :
     none_by : (change : Option Change) → MatchOption change ((bay_of new bay).medium ≡ (bay_of mid bay).medium) (λ one. ChangesBay written bay one mid new) → ((p : ℕ) → IsAddressAt (met (bay_of start bay) written.key.c written.key.h) p written.key → ⊥) → (bay_of new bay).medium ≡ Some disk
     none_by None same absent = same ∙ so_kept.none absent
     none_by (Some one) changed absent =
-        let same : changed.before ≡ disk = same_disks changed.before disk (sym changed.was ∙ so_kept.none absent) in
+        let same : changed.before ≡ disk = same_some changed.before disk (sym changed.was ∙ so_kept.none absent) in
         let made : IsChange written disk one changed.after = subst (λ d. IsChange written d one changed.after) same changed.makes in
         let on : written.key.c ≡ one.cylinder = (key_cylinder disk one.cylinder written.key.h one.place written.key regular made.track made.address).0 in
         let meets : MeetsTrack (bay_of start bay).medium (bay_of start bay).rate written.key.c written.key.h disk = record { is_in = is; has = subst (λ c. HasTrack disk c written.key.h) (sym on) made.track; same_rate = ap (λ (d : Disk). d.rate) (sym same) ∙ changed.same_rate ∙ rate_mid } in
@@ -173,7 +171,7 @@ module _ (written : Written) (bay : ℕ) (start mid new : StationState) (count :
 
       module _ (one : Change) (changed : ChangesBay written bay one mid new) where
         same_before : changed.before ≡ known_mid.0
-        same_before = same_disks changed.before known_mid.0 (sym changed.was ∙ known_mid.1)
+        same_before = same_some changed.before known_mid.0 (sym changed.was ∙ known_mid.1)
 
         made_mid : IsChange written known_mid.0 one changed.after
         made_mid = subst (λ d. IsChange written d one changed.after) same_before changed.makes

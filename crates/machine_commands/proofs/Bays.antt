@@ -1,15 +1,12 @@
 -- What holds of both drives holds of the drive in a bay; and what a rig shows of that drive.
-use Rattle.std.proofs.Common.{◌≡◌, ℕ, zero, suc, ◌-◌, ◌≤◌, ◌==◌, Bool, true, false, if◌then◌else◌, refl, arith}
+use Rattle.std.proofs.Common.{◌≡◌, ℕ, zero, suc, ◌-◌, ◌≤◌, ◌==◌, true, false, if◌then◌else◌, refl, arith}
 use Rattle.machine_commands.proofs.Common.{Two, in_bay, faults_of, DriveState, Board, drive_in, counters_of, is_spun, number_of, rig_of, with_bay}
 use Rattle.machine_commands.proofs.Idling.{KeepsAll, KeepsDrive, KeepsSpeed, StaysIdle}
 use Rattle.machine_commands.proofs.Showing.{two_same}
 
 pub kept_in : (R : DriveState → DriveState → Type 0) (bay : ℕ) (old new : Board) → R old.first new.first → R old.second new.second → R (drive_in old bay) (drive_in new bay)
-kept_in R bay old new first second = by_bay (bay == 0)
-  where
-    by_bay : (b : Bool) → R (if b then old.first else old.second) (if b then new.first else new.second)
-    by_bay true = first
-    by_bay false = second
+kept_in R bay old new first second =
+    elim (bay == 0) as (λ b. R (if b then old.first else old.second) (if b then new.first else new.second)) [ true ↦ first | false ↦ second ]
 
 pub drive_kept : (old new : Board) (bay : ℕ) → KeepsAll old new → KeepsDrive (drive_in old bay) (drive_in new bay)
 drive_kept old new bay keeps = kept_in KeepsDrive bay old new keeps.first keeps.second
@@ -20,11 +17,8 @@ speed_kept old new bay stays = kept_in KeepsSpeed bay old new stays.first stays.
 -- what is shown of a drive
 pub shown_in : {T : Type 0} (part : DriveState → T) (bay : ℕ) (board : Board)
     → part (drive_in board bay) ≡ (if bay == 0 then part board.first else part board.second)
-shown_in part bay board = by_bay (bay == 0)
-  where
-    by_bay : (b : Bool) → part (if b then board.first else board.second) ≡ (if b then part board.first else part board.second)
-    by_bay true = refl
-    by_bay false = refl
+shown_in part bay board =
+    elim (bay == 0) as (λ b. part (if b then board.first else board.second) ≡ (if b then part board.first else part board.second)) [ true ↦ refl | false ↦ refl ]
 
 pub medium_in : (bay : ℕ) (board : Board) → (drive_in board bay).medium ≡ in_bay (rig_of board).media bay
 medium_in = shown_in (λ drive. drive.medium)
@@ -39,11 +33,9 @@ pub spun_in : (bay : ℕ) (board : Board) → is_spun (drive_in board bay) ≡ i
 spun_in = shown_in is_spun
 
 pub faults_in : (bay : ℕ) (board : Board) → (drive_in board bay).faults ≡ faults_of (counters_of board) bay
-faults_in bay board = by_bay (bay == 0)
-  where
-    by_bay : (b : Bool) → (if b then board.first else board.second).faults ≡ (if b then (counters_of board).drives.first else (counters_of board).drives.second).faults
-    by_bay true = refl
-    by_bay false = refl
+faults_in bay board =
+    let drives = (counters_of board).drives in
+    elim (bay == 0) as (λ b. (if b then board.first else board.second).faults ≡ (if b then drives.first else drives.second).faults) [ true ↦ refl | false ↦ refl ]
 
 pub number_in : (bay : ℕ) (board : Board) → bay ≤ 1 → number_of board bay ≡ in_bay (rig_of board).numbers bay
 number_in (suc (suc bay)) board small = absurd (omega arith)

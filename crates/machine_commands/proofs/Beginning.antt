@@ -1,7 +1,7 @@
 -- A data command begins on an idle machine, once all is set up and its bytes are sent.
 use Rattle.std.proofs.Common.{◌≡◌, inl, inr, ℕ, suc, ◌+◌, ◌*◌, ◌/◌, ◌%◌, ◌<◌, ◌≤◌, ◌==◌, not, Bool, true, false, List, [], ◌∷◌, ◌++◌, length, Result as result, refl, sym, ◌∙◌, ap, subst, arith}
 use Rattle.std.specs.Prelude.{bit_and}
-use Rattle.machine_commands.proofs.Common.{Channel, set_up, kept, More, seek_bits, TakesAs, Sent, takes_in, is_taking, asks, data_commands_of, dor_of, is_held, Fdc, Code, Rate, R500, R250, Holds, shown, Low, Order, scene_of, Scene, data_rate, Steady, gap, Board, controller_of, drive_in, holds_of, lines_of, memory_of, Outputs, shown_again, in_bay, Disk, Finishes, Prepares, rate_byte, AreSeeksOver, IsIdle, Sends, rig_of, Motors, Done, All, has_bit, reads_memory, answer, AreShort, IsShort, StandsReady, CanBegin, IsLast, IsSetFor, most_steps_of, IsScene, Lasts, Uses, goes_begins, AreCounts}
+use Rattle.machine_commands.proofs.Common.{Channel, set_up, kept, More, seek_bits, TakesAs, Sent, takes_in, is_taking, asks, data_commands_of, dor_of, is_held, Fdc, Code, Rate, R500, R250, Holds, shown, Low, Order, scene_of, Scene, data_rate, Steady, gap, Board, controller_of, drive_in, holds_of, lines_of, memory_of, Outputs, shown_again, in_bay, Disk, Finishes, Prepares, rate_byte, IsIdle, IsReady, Sends, rig_of, Motors, Done, All, has_bit, reads_memory, answer, AreShort, IsShort, StandsReady, CanBegin, IsLast, IsSetFor, most_steps_of, IsScene, Lasts, Uses, goes_begins, AreCounts}
 use Rattle.dma_8237.specs.Channel.{after_write}
 use Rattle.dma_8237.proofs.SettingUp.{is_set_up}
 use Rattle.fdc_commands.specs.declared.bytes.Accepted.{Accepted}
@@ -119,14 +119,8 @@ has_sent motors bay rate bytes old start idle small counts short stays is reques
   stays = stays;
   sending = record {
     bay_in = small;
-    phase = ap (λ f. f.phase) is ∙ idle.ready.phase;
-    seeks = subst (λ f. AreSeeksOver f.seeks) (sym is) idle.ready.seeks;
-    by_dma = ap (λ f. f.non_dma) is ∙ idle.ready.by_dma;
-    polled = ap (λ f. f.poll_due) is ∙ idle.ready.polled;
-    no_interrupt = ap (λ f. f.interrupt) is ∙ idle.ready.no_interrupt;
-    not_asking = ap (λ f. f.asking) is ∙ idle.ready.not_asking;
-    fifo_on = ap (λ f. f.fifo.on) is ∙ idle.ready.fifo_on;
-    threshold = ap (λ f. f.fifo.threshold) is ∙ idle.ready.threshold;
+    ready = subst (λ f. IsReady (with_bytes [] f)) (sym is)
+        (subst IsReady (ap (λ none. with_bytes none (prepared motors bay rate (controller_of old))) idle.ready.no_bytes) (ready_prepared motors bay rate (controller_of old) idle.ready));
     dor = ap dor_of is;
     first = stays.first.motor ∙ idle.motors_are.first;
     second = stays.second.motor ∙ idle.motors_are.second;
@@ -151,12 +145,12 @@ stands_ready motors bay board sending = record {
   out = record {
     selects = subst (λ n. n ≤ 1) (sym (selects_bay motors bay board sending)) sending.bay_in;
     gated = ap (λ byte. bit_and byte 8 == 8) sending.dor ∙ (is_dor motors bay sending.bay_in).gated;
-    no_seek = sending.seeks.no_seek;
-    polled = sending.polled;
+    no_seek = sending.ready.seeks.no_seek;
+    polled = sending.ready.polled;
   };
-  hushed = record { low = sending.no_interrupt; polled = sending.polled; level = sending.low };
-  on = sending.fifo_on;
-  threshold = sending.threshold;
+  hushed = record { low = sending.ready.no_interrupt; polled = sending.ready.polled; level = sending.low };
+  on = sending.ready.fifo_on;
+  threshold = sending.ready.threshold;
   low = sending.request;
 }
 
@@ -181,9 +175,9 @@ pub record IsTaking (bytes : List ℕ) (byte : ℕ) (fdc : Fdc) : Type 0 where
 is_taking_byte : (motors : Motors) (bay : ℕ) (bytes : List ℕ) (byte : ℕ) (board : Board) → IsSending motors bay board → (controller_of board).command ≡ bytes → IsTaking bytes byte (controller_of board)
 is_taking_byte motors bay bytes byte board sending is = record {
   whole = λ accepted whole. ap (λ b. answer (b ++ byte ∷ [])) is ∙ whole;
-  taking = ap (λ p. takes_in p (is_held (controller_of board))) sending.phase ∙ ap not (sending_free motors bay board sending);
-  dma = sending.by_dma;
-  no_seek = no_bits (controller_of board).seeks sending.seeks;
+  taking = ap (λ p. takes_in p (is_held (controller_of board))) sending.ready.phase ∙ ap not (sending_free motors bay board sending);
+  dma = sending.ready.by_dma;
+  no_seek = no_bits (controller_of board).seeks sending.ready.seeks;
 }
 
 -- ---- the whole command
@@ -261,7 +255,7 @@ is_run order s bay address size motors rate setting accesses channel first next 
         memory = refl;
         rate_is = all.rate_at;
         selects = selects;
-        over = has_finished order scene start (sending_free motors bay start all.sending) outcome sent new goes finishes;
+        over = has_finished order scene start (sending_free motors bay start all.sending) all.short outcome sent new goes finishes;
         lasts = costs.lasts;
       };
     }

@@ -1,9 +1,10 @@
 -- The results of a data command are taken, and the machine is idle again.
-use Rattle.std.proofs.Common.{◌≡◌, ℕ, ◌≤◌, ◌==◌, true, false, Result as result, refl, sym, ◌∙◌, ap, subst, arith}
-use Rattle.machine_commands.proofs.Common.{Chrn, Code, InRange, Results, Ending, is_executing, given, result_byte, interrupt_after, is_held, dor_of, polled, Long, Fdc, Phase, Command, Result, is_unread, with_one, Order, Scene, Low, Board, controller_of, holds_of, Inputs, Finishes, outcome_of, dor_with, IsReady, AreSeeksOver, IsIdle, is_up, latch_taken, Motors, Done, false≢true, nat_tests, phase_after, TakesResults}
+use Rattle.std.proofs.Common.{◌≡◌, ℕ, ◌≤◌, ◌==◌, true, false, [], Result as result, refl, sym, ◌∙◌, ap, subst, arith}
+use Rattle.machine_commands.proofs.Common.{Chrn, Code, InRange, Results, Ending, is_executing, given, result_byte, interrupt_after, is_held, dor_of, polled, Long, Fdc, Phase, Command, Result, is_unread, AreShort, with_one, Order, Scene, Low, Board, controller_of, holds_of, Inputs, Finishes, outcome_of, dor_with, IsReady, AreSeeksOver, IsIdle, is_up, latch_taken, Motors, Done, false≢true, nat_tests, phase_after, TakesResults}
 use Rattle.laws_machine.specs.OnAwaits.Goes.{GoesOn}
-use Rattle.machine_commands.proofs.Idling.{IsResting, KeepsSpeed, KeepsAll, Idles}
+use Rattle.machine_commands.proofs.Idling.{idle_by, IsResting, KeepsSpeed, KeepsAll, Idles}
 use Rattle.machine_commands.proofs.Accesses.{input_idles}
+use Rattle.machine_commands.proofs.Bytes.{with_bytes}
 use Rattle.machine_commands.proofs.Courses.{resting, awaits_end}
 use Rattle.machine_commands.proofs.Settling.{settles_to}
 use Rattle.machine_commands.proofs.Steps.{idles_then, idles_as, keeps_then, speed_then, unpolled, low_line}
@@ -56,10 +57,6 @@ same_key a b c h r n =
     ∙ (ap (λ v. let k : Chrn = record { c = b.c; h = b.h; r = v; n = a.n } in k) r
     ∙ ap (λ v. let k : Chrn = record { c = b.c; h = b.h; r = b.r; n = v } in k) n))
 
-same_outcome : (a b c x y z : ℕ) (key other : Chrn) → a ≡ x → b ≡ y → c ≡ z → key ≡ other → outcome_of a b c key ≡ outcome_of x y z other
-same_outcome a b c x y z key other one two three four =
-    ap (λ v. outcome_of v b c key) one ∙ (ap (λ v. outcome_of x v c key) two ∙ (ap (λ v. outcome_of x y v key) three ∙ ap (λ v. outcome_of x y z v) four))
-
 -- the outcome that these results come to
 abbrev pub outcome_in : Results → result Done Code
 outcome_in results = outcome_of results.st0.0 results.st1.0 results.st2.0 results.key
@@ -86,8 +83,8 @@ has_taken outcome ending results old new fdc at phase rest takes =
     let to_key = idles_then (idles_then (idles_then to_status four.idles) five.idles) six.idles in
     record {
       idles = idles_then to_key seven.idles;
-      outcome_is = takes.is ∙ same_outcome takes.st0 takes.st1 takes.st2 results.st0.0 results.st1.0 results.st2.0 takes.key results.key
-          (one.byte_is ∙ ap result_byte phase) two.byte_is three.byte_is (same_key takes.key results.key four.byte_is five.byte_is six.byte_is seven.byte_is);
+      outcome_is = takes.is
+          ∙ rw (one.byte_is ∙ ap result_byte phase, two.byte_is, three.byte_is, same_key takes.key results.key four.byte_is five.byte_is six.byte_is seven.byte_is) refl;
     }
 
 -- ---- all of the end
@@ -104,10 +101,10 @@ pub record HasFinished (order : Order) (scene : Scene) (start : Board) (outcome 
   pub controller_is : controller_of new ≡ done_at (controller_of at)
   pub low : is_up new ≡ false
 
-pub has_finished : (order : Order) (scene : Scene) (start : Board) → is_held (controller_of start) ≡ false → (outcome : result Done Code) (sent new : Board)
+pub has_finished : (order : Order) (scene : Scene) (start : Board) → is_held (controller_of start) ≡ false → AreShort (holds_of start) → (outcome : result Done Code) (sent new : Board)
     → GoesOn order scene start sent → Finishes sent outcome new → HasFinished order scene start outcome new
-has_finished order scene start free outcome sent new was finishes =
-    let told = awaits_end order scene start free sent finishes.awaited finishes.awaits was in
+has_finished order scene start free short outcome sent new was finishes =
+    let told = awaits_end order scene start free short sent finishes.awaited finishes.awaits was in
     let at = told.at in
     let fdc = controller_of at in
     let rest = resting (with_one start) start at told.goes.awaited told.idle in
@@ -135,14 +132,7 @@ has_finished order scene start free outcome sent new was finishes =
 -- a machine that was idle, to which all bytes of a command but the last were sent
 pub record IsSending (motors : Motors) (bay : ℕ) (board : Board) : Type 0 where
   pub bay_in : bay ≤ 1
-  pub phase : (controller_of board).phase ≡ Command
-  pub seeks : AreSeeksOver (controller_of board).seeks
-  pub by_dma : (controller_of board).non_dma ≡ false
-  pub polled : (controller_of board).poll_due ≡ false
-  pub no_interrupt : (controller_of board).interrupt ≡ false
-  pub not_asking : (controller_of board).asking ≡ false
-  pub fifo_on : (controller_of board).fifo.on ≡ true
-  pub threshold : (controller_of board).fifo.threshold ≡ 8
+  pub ready : IsReady (with_bytes [] (controller_of board))
   pub dor : dor_of (controller_of board) ≡ dor_with motors bay
   pub first : board.first.motor ≡ motors.first
   pub second : board.second.motor ≡ motors.second
@@ -157,24 +147,13 @@ finished_idle motors bay order scene start outcome new sending over first second
     let ready : IsReady (done_at (controller_of over.at)) = record {
       phase = refl;
       no_bytes = holds.command;
-      seeks = subst AreSeeksOver (sym holds.seeks) sending.seeks;
-      by_dma = holds.non_dma ∙ sending.by_dma;
+      seeks = subst AreSeeksOver (sym holds.seeks) sending.ready.seeks;
+      by_dma = holds.non_dma ∙ sending.ready.by_dma;
       polled = awaited.calm.polled;
       no_interrupt = refl;
       not_asking = (awaited.ended over.idle).quiet;
-      fifo_on = holds.on ∙ sending.fifo_on;
-      threshold = holds.threshold ∙ sending.threshold;
+      fifo_on = holds.on ∙ sending.ready.fifo_on;
+      threshold = holds.threshold ∙ sending.ready.threshold;
     } in
-    record {
-      ready = subst IsReady (sym over.controller_is) ready;
-      motors_are = record {
-        bay = bay;
-        bay_in = sending.bay_in;
-        dor = ap dor_of over.controller_is ∙ (ap (λ dor. dor.0) holds.dor ∙ sending.dor);
-        first = over.first.motor ∙ (awaited.first.motor ∙ sending.first);
-        second = over.second.motor ∙ (awaited.second.motor ∙ sending.second);
-      };
-      low = over.low;
-      first = first;
-      second = second;
-    }
+    idle_by motors bay _ new sending.bay_in over.controller_is ready (ap (λ dor. dor.0) holds.dor ∙ sending.dor)
+    (over.first.motor ∙ (awaited.first.motor ∙ sending.first)) (over.second.motor ∙ (awaited.second.motor ∙ sending.second)) over.low first second

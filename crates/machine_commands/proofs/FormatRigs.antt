@@ -1,7 +1,7 @@
 -- A FORMAT TRACK as its driver sees it.
-use Rattle.std.proofs.Common.{◌≡◌, ◌⊎◌, inl, inr, ℕ, ◌<◌, ◌≤◌, true, false, List, Option, Some, None, Result, Ok, Err, refl, sym, ◌∙◌, ap, subst, arith}
+use Rattle.std.proofs.Common.{◌≡◌, ◌⊎◌, inl, inr, ℕ, ◌<◌, ◌≤◌, true, false, List, Option, Some, None, Result, Ok, Err, refl, sym, ◌∙◌, ap, arith}
 use Rattle.std.specs.Prelude.{IsOk, IfErr, MatchOption}
-use Rattle.machine_commands.proofs.Common.{RoseBy, standard_code, Code, Chrn, in_bay, IsFaultless, IsUndisturbed, Disk, HasTrack, Format, Laying, format_keys, rate_fits, Ending, Numbers, Track, Write, Stalled, Scene, head_sent, IsUnchanged, Board, drive_in, memory_of, FormatsTrack, HasTrackUnder, IsFormatMiss, LaysMedium, counters_of, rig_of, told_of, Motors, Done, false≢true, cases_lt, IsLaying, same_rates, FormatEndsAs, FitsOn, HasLaying, LaysTo, LaysTurn}
+use Rattle.machine_commands.proofs.Common.{RoseBy, standard_code, Code, Chrn, in_bay, IsFaultless, IsUndisturbed, Disk, Format, Laying, format_keys, rate_fits, Ending, Numbers, Track, Write, Stalled, Scene, head_sent, IsUnchanged, Board, drive_in, memory_of, FormatsTrack, HasTrackUnder, IsFormatMiss, LaysMedium, counters_of, rig_of, told_of, Motors, Done, false≢true, cases_lt, IsLaying, same_rates, FormatEndsAs, FitsOn, HasLaying, LaysTo, LaysTurn}
 use Rattle.flop_base.specs.declared.answers.Code.TheVariants as code
 use Rattle.track_model.specs.Layouts.{Fits}
 use Rattle.fdc_stages.specs.declared.ending.Ending.TheVariants as ending
@@ -61,28 +61,18 @@ module _ {numbers : Numbers} {scene : Scene} {motors : Motors} {format : Format}
   the_disk disk under = some_same scene.disk disk (in_bay (rig_of old).media scene.bay) (medium_before run) under.medium
 
   there_under : (disk : Disk) → HasTrackUnder (rig_of old) scene.bay format disk → IsThere scene
-  there_under disk under =
-      subst (λ d. HasTrack d scene.cylinder (head_sent scene.sent)) (the_disk disk under)
-      (subst (λ h. HasTrack disk scene.cylinder h) (sym on.head) (subst (λ c. HasTrack disk c format.h) (cylinder_before run) under.track))
+  there_under disk under = rw (← the_disk disk under, on.head, ← cylinder_before run) under.track
 
   fits_under : (disk : Disk) → HasTrackUnder (rig_of old) scene.bay format disk → FitsOn scene numbers keys → Fits (format_keys format) standard_code format.gap3 disk.words_per_track
-  fits_under disk under fits =
-      subst (λ d. Fits (format_keys format) standard_code format.gap3 d.words_per_track) (sym (the_disk disk under))
-      (subst (λ k. Fits k standard_code format.gap3 scene.disk.words_per_track) on.keys_are
-      (subst (λ n. Fits keys n format.gap3 scene.disk.words_per_track) on.code_is (subst (λ g. Fits keys numbers.n g scene.disk.words_per_track) on.gap_is fits)))
+  fits_under disk under fits = rw (on.keys_are, on.code_is, on.gap_is, ← the_disk disk under) at fits
 
   fits_back : (disk : Disk) → HasTrackUnder (rig_of old) scene.bay format disk → Fits (format_keys format) standard_code format.gap3 disk.words_per_track → FitsOn scene numbers keys
-  fits_back disk under fits =
-      subst (λ g. Fits keys numbers.n g scene.disk.words_per_track) (sym on.gap_is)
-      (subst (λ n. Fits keys n format.gap3 scene.disk.words_per_track) (sym on.code_is)
-      (subst (λ k. Fits k standard_code format.gap3 scene.disk.words_per_track) (sym on.keys_are)
-      (subst (λ d. Fits (format_keys format) standard_code format.gap3 d.words_per_track) (the_disk disk under) fits)))
+  fits_back disk under fits = rw (on.keys_are, on.code_is, on.gap_is, ← the_disk disk under) fits
 
   -- that disk has the rate of the format
   rate_under : (disk : Disk) → HasTrackUnder (rig_of old) scene.bay format disk → rate_fits scene.rate scene.disk.rate ≡ true
   rate_under disk under =
-      ap (λ r. rate_fits r scene.disk.rate) run.rate_is
-      ∙ (fits_same format.rate scene.disk.rate ∙ same_rates scene.disk.rate format.rate (sym (ap (λ d. d.rate) (the_disk disk under)) ∙ under.same_rate))
+      rw (run.rate_is, fits_same format.rate scene.disk.rate) (same_rates scene.disk.rate format.rate (sym (ap (λ d. d.rate) (the_disk disk under)) ∙ under.same_rate))
 
   -- what is shown of the media, together with the answer
   pub record ShowsFormat (laying : Option Laying) (answer : Result (Unit {0}) Code) : Type 0 where

@@ -1,6 +1,6 @@
 -- Device steps in which no command and no seek goes on.
-use Rattle.std.specs.Prelude.{◌≡◌, ◌<◌, ◌≤◌, ◌&&◌, true, false, not}
-use Rattle.machine_commands.proofs.Common.{Spends, DriveState, track_words, is_seeking, is_executing, is_held, Fdc, Board, controller_of, channel_of, memory_of, holds_of, is_up}
+use Rattle.std.proofs.Common.{◌≡◌, ℕ, ◌<◌, ◌≤◌, ◌&&◌, true, false, not, sym, ◌∙◌, ap, subst}
+use Rattle.machine_commands.proofs.Common.{dor_of, dor_with, InRange, IsIdle, IsReady, Motors, Spends, DriveState, track_words, is_seeking, is_executing, is_held, Fdc, Board, controller_of, channel_of, memory_of, holds_of, is_up}
 
 -- no command is in execution, no seek runs, no DMA request is up, and no poll is to come
 pub record IsResting (fdc : Fdc) : Type 0 where
@@ -46,3 +46,16 @@ pub record Idles (controller : Fdc) (old new : Board) : Type 0 where
   pub stays : StaysIdle old new
   pub controller_is : controller_of new ≡ controller
   pub channel : channel_of new ≡ channel_of old
+
+-- ---- idle machines
+
+-- a machine whose controller is this one is idle
+pub idle_by : (motors : Motors) (bay : ℕ) (fdc : Fdc) (board : Board) → bay ≤ 1 → controller_of board ≡ fdc → IsReady fdc → dor_of fdc ≡ dor_with motors bay
+    → board.first.motor ≡ motors.first → board.second.motor ≡ motors.second → is_up board ≡ false → InRange board.first → InRange board.second → IsIdle motors board
+idle_by motors bay fdc board small at ready dor on_first on_second low first second = record {
+  ready = subst IsReady (sym at) ready;
+  motors_are = record { bay = bay; bay_in = small; dor = ap dor_of at ∙ dor; first = on_first; second = on_second };
+  low = low;
+  first = first;
+  second = second;
+}

@@ -11,6 +11,12 @@ use Rattle.machine_commands.proofs.StationBays.{flags_medium}
 pub flags_refused : {A : Type 0} (old : StationState) (code : Code) (answer : Result A Code) (new : StationState) → IsRefusedAtOnce code old answer new → flags_shown new ≡ flags_shown old
 flags_refused old code answer new refused = ap flags_shown refused.stays
 
+-- a request that is refused at once, or not
+flags_either : {A : Type 0} (P : Type 0) (old : StationState) (answer : Result A Code) (new : StationState) (refusal : Option Code) → (P → flags_shown new ≡ flags_shown old)
+    → MatchOption refusal P (λ code. IsRefusedAtOnce code old answer new) → flags_shown new ≡ flags_shown old
+flags_either P old answer new None does step = does step
+flags_either P old answer new (Some code) does refused = ap flags_shown refused.stays
+
 -- a look at the change line
 pub flags_told : (old : StationState) (bay : ℕ) (answer : Bool) (new : StationState) → TellsChange bay old answer new → flags_shown new ≡ flags_shown old
 flags_told old bay answer new step = ap flags_shown step.stays
@@ -21,12 +27,9 @@ read_drive : (old : StationState) (bay : ℕ) (key : Chrn) (address : ℕ) (answ
 read_drive old bay key address (Ok deleted) new reads = ap flags_shown reads.found.becomes
 read_drive old bay key address (Err code) new reads = ap flags_shown reads.refused.becomes
 
-read_either : (old : StationState) (bay : ℕ) (key : Chrn) (address : ℕ) (answer : Result Bool Code) (new : StationState) (refusal : Option Code) → MatchOption refusal (ReadsDrive bay key address old answer new) (λ code. IsRefusedAtOnce code old answer new) → flags_shown new ≡ flags_shown old
-read_either old bay key address answer new None reads = read_drive old bay key address answer new reads
-read_either old bay key address answer new (Some code) refused = flags_refused old code answer new refused
-
 pub flags_read : (old : StationState) (bay : ℕ) (key : Chrn) (address : ℕ) (answer : Result Bool Code) (new : StationState) → Reads bay key address old answer new → flags_shown new ≡ flags_shown old
-flags_read old bay key address answer new step = read_either old bay key address answer new (read_refusal old bay key address) step
+flags_read old bay key address answer new step =
+    flags_either (ReadsDrive bay key address old answer new) old answer new (read_refusal old bay key address) (read_drive old bay key address answer new) step
 
 -- ---- a write
 
@@ -40,12 +43,10 @@ write_drive written bay answer old new writes =
     ap flags_shown writes.becomes
     ∙ flags_medium old.bays bay (bay_of new bay).medium (reaches_some written (bay_of old bay).medium writes.changes (bay_of new bay).medium writes.reach)
 
-write_either : (written : Written) (bay : ℕ) (answer : Result (Unit {0}) Code) (old new : StationState) (refusal : Option Code) → MatchOption refusal (WritesDrive written bay old answer new) (λ code. IsRefusedAtOnce code old answer new) → flags_shown new ≡ flags_shown old
-write_either written bay answer old new None writes = write_drive written bay answer old new writes
-write_either written bay answer old new (Some code) refused = flags_refused old code answer new refused
-
 pub flags_write : (old : StationState) (bay : ℕ) (key : Chrn) (address : ℕ) (deleted : Bool) (answer : Result (Unit {0}) Code) (new : StationState) → WritesTo bay key address deleted old answer new → flags_shown new ≡ flags_shown old
-flags_write old bay key address deleted answer new step = write_either (written_from old key address deleted) bay answer old new (write_refusal old bay key address) step
+flags_write old bay key address deleted answer new step =
+    let written = written_from old key address deleted in
+    flags_either (WritesDrive written bay old answer new) old answer new (write_refusal old bay key address) (write_drive written bay answer old new) step
 
 -- ---- a format
 
@@ -59,10 +60,7 @@ format_drive format bay answer old new formats =
     ap flags_shown formats.becomes
     ∙ flags_medium old.bays bay (bay_of new bay).medium (lays_some format (bay_of old bay).medium formats.layings (bay_of new bay).medium formats.lays)
 
-format_either : (format : Format) (bay : ℕ) (answer : Result (Unit {0}) Code) (old new : StationState) (refusal : Option Code) → MatchOption refusal (FormatsDrive format bay old answer new) (λ code. IsRefusedAtOnce code old answer new) → flags_shown new ≡ flags_shown old
-format_either format bay answer old new None formats = format_drive format bay answer old new formats
-format_either format bay answer old new (Some code) refused = flags_refused old code answer new refused
-
 pub flags_format : (old : StationState) (bay c h gap3 fill : ℕ) (answer : Result (Unit {0}) Code) (new : StationState) → FormatsTo bay c h gap3 fill old answer new → flags_shown new ≡ flags_shown old
 flags_format old bay c h gap3 fill answer new step =
-    format_either (record { c = c; h = h; rate = (bay_of old bay).rate; gap3 = gap3; fill = fill }) bay answer old new (format_refusal old bay c h gap3) step
+    let format : Format = record { c = c; h = h; rate = (bay_of old bay).rate; gap3 = gap3; fill = fill } in
+    flags_either (FormatsDrive format bay old answer new) old answer new (format_refusal old bay c h gap3) (format_drive format bay answer old new) step

@@ -3,7 +3,7 @@
 use Rattle.std.proofs.Common.{◌≡◌, ℕ, ◌+◌, ◌*◌, ◌≤◌, ◌==◌, Bool, true, false, List, [], ◌∷◌, length, Result as result, sym, subst, arith}
 use Rattle.machine_commands.proofs.Common.{Code, Rate, is_held, Order, Scene, Board, controller_of, holds_of, Inputs, Outputs, stirred, Finishes, Prepares, SetsChannel, Sends, Settles, dor_with, latch_taken, rate_byte, rig_of, Motors, Done, AreShort, most_steps_of, Lasts, Uses, Runs, lasts_clock, lasts_input, lasts_none, lasts_output, lasts_taken, lasts_twice, lasts_wait, lasts_within, uses_input, uses_none, uses_output, uses_taken, uses_twice, uses_wait, uses_within, CostsFor, turn_in, EndsSeek, ReadsLine, Resets, SendsRecalibrate, SendsSeek, SensesDrive, StartsMotor, TakesPolls, none_on, SetsAddress, SetsCount, TakesResults, with_motor_of, Senses, TakesNumber}
 use Rattle.laws_machine.specs.OnAwaits.Goes.{GoesOn}
-use Rattle.machine_commands.proofs.Courses.{awaits_last, awaits_use}
+use Rattle.machine_commands.proofs.Courses.{awaits_end}
 
 -- at most so many device steps, and at most so many port accesses
 pub record Costs (steps accesses : ℕ) (old new : Board) : Type 0 where
@@ -156,10 +156,8 @@ pub finishes_cost : (order : Order) (scene : Scene) (start : Board) → is_held 
     → GoesOn order scene start sent → Finishes sent outcome new → Costs (most_steps_of scene.disk.words_per_track + 3) 8 sent new
 finishes_cost order scene start free short outcome sent new goes finishes =
     let most = most_steps_of scene.disk.words_per_track in
-    let awaits : Costs (most + 2) 1 sent finishes.awaited = record {
-      lasts = awaits_last order scene start free short sent finishes.awaited finishes.awaits goes;
-      uses = awaits_use order scene start free short sent finishes.awaited finishes.awaits goes;
-    } in
+    let ends = awaits_end order scene start free short sent finishes.awaited finishes.awaits goes in
+    let awaits : Costs (most + 2) 1 sent finishes.awaited = record { lasts = ends.lasts; uses = ends.uses } in
     costs_within (most + 2 + 1) (most + 3) (1 + 7) 8 sent new (omega arith) (omega arith)
     (costs_twice (most + 2) 1 1 7 sent finishes.awaited new awaits
     (before 1 7 0 finishes.awaited finishes.taken new (results_cost outcome finishes.awaited finishes.taken finishes.takes) (settles_cost finishes.taken new finishes.settles)))

@@ -37,30 +37,24 @@ moves_then a b c one two = record {
   ];
 }
 
-same_speed_by : (old new : DriveState) → new.motor ≡ old.motor → new.spin ≡ old.spin → KeepsSpeed old new
-same_speed_by old new motor spin = record { motor = motor; spin = λ _. omega arith }
-
 cleared_by : (b : Bool) (was : Bool) (now : Bool) → now ≡ (if b then false else was) → (now ≡ was) ⊎ ((b ≡ true) × (now ≡ false))
 cleared_by true was now is = inr (refl, is)
 cleared_by false was now is = inl is
 
-pulse_moves : (inward : Bool) (old new : DriveState) → Becomes (moved inward old) old new → MovesDrive old new
-pulse_moves inward old new becomes = record {
-  medium = ap (λ d. d.medium) becomes.becomes;
-  speed = same_speed_by old new (ap (λ d. d.motor) becomes.becomes) (ap (λ d. d.spin) becomes.becomes);
+-- the drive is now `to` but for its faults, and `to` differs in the place of its heads and its change line
+becomes_moves : (to old new : DriveState) → to.medium ≡ old.medium → to.motor ≡ old.motor → to.spin ≡ old.spin → (new.change ≡ old.change) ⊎ ((is_some old.medium ≡ true) × (new.change ≡ false))
+    → Becomes to old new → MovesDrive old new
+becomes_moves to old new medium motor spin change becomes = record {
+  medium = ap (λ d. d.medium) becomes.becomes ∙ medium;
+  speed = record { motor = ap (λ d. d.motor) becomes.becomes ∙ motor; spin = λ _. (let same = ap (λ d. d.spin) becomes.becomes in omega arith) };
   never_falls = becomes.never_falls;
   spends = becomes.spends;
-  change = cleared_by (is_some old.medium) old.change new.change (ap (λ d. d.change) becomes.becomes);
+  change = change;
 }
 
-lost_moves : (old new : DriveState) → Becomes old old new → MovesDrive old new
-lost_moves old new becomes = record {
-  medium = ap (λ d. d.medium) becomes.becomes;
-  speed = same_speed_by old new (ap (λ d. d.motor) becomes.becomes) (ap (λ d. d.spin) becomes.becomes);
-  never_falls = becomes.never_falls;
-  spends = becomes.spends;
-  change = inl (ap (λ d. d.change) becomes.becomes);
-}
+pulse_moves : (inward : Bool) (old new : DriveState) → Becomes (moved inward old) old new → MovesDrive old new
+pulse_moves inward old new becomes =
+    becomes_moves (moved inward old) old new refl refl refl (cleared_by (is_some old.medium) old.change new.change (ap (λ d. d.change) becomes.becomes)) becomes
 
 -- a pulse and the word time after it: the pulse moved the heads, or it was lost
 pub record IsPulsed (inward : Bool) (old new : DriveState) : Type 0 where
@@ -81,7 +75,7 @@ pulsed inward old new (between, pulse, becomes) =
         );
       })
       | inr (stays, rose) ↦ (record {
-        moves = moves_then old between new (lost_moves old between stays) passes;
+        moves = moves_then old between new (becomes_moves old old between refl refl refl (inl (ap (λ d. d.change) stays.becomes)) stays) passes;
         either = inr (turned.keeps.cylinder ∙ ap (λ d. d.cylinder) stays.becomes, let more = turned.keeps.never_falls in omega arith);
       })
     ]

@@ -1,11 +1,12 @@
 -- Calls past the driver, as a driver sees them.
 use Rattle.std.proofs.Common.{◌≡◌, ◌↔◌, ℕ, zero, suc, ◌+◌, ◌-◌, ◌<◌, ◌≤◌, Bool, true, false, Option, Some, None, is_some, IsSome, IsErr, OnOk, IfErr, if◌then◌else◌, nat_lt, Result, Ok, Err, IsTrue, refl, sym, ◌∙◌, ap, subst, arith}
-use Rattle.machine_commands.proofs.Common.{last_count, Disk, DriveGoesOn, GoesOn, user_bytes, DriveState, InRange, data_commands_of, dor_of, Holds, counted, Board, controller_of, drive_in, holds_of, memory_of, byte_set, Bus, IsIdle, IsReady, is_up, counts_of, counters_of, is_spun, rig_of, stalls_left, Motors, IsBitSet, false≢true, drop-set-lt, take-set-lt, IsPastDriver, drive_same, at_speed, loaded, unloaded, with_motor, becomes_at, clock_of, stays, IsEmpty, Exchanged, ExchangesDrive, PutsIn, PutsMemory, TakesDrive, TakesOut, Untouched}
+use Rattle.machine_commands.proofs.Common.{last_count, Disk, DriveGoesOn, GoesOn, user_bytes, DriveState, InRange, data_commands_of, dor_of, Holds, counted, Board, controller_of, drive_in, holds_of, memory_of, byte_set, Bus, IsIdle, is_up, counts_of, counters_of, is_spun, rig_of, stalls_left, Motors, IsBitSet, false≢true, drop-set-lt, take-set-lt, IsPastDriver, drive_same, at_speed, loaded, unloaded, with_motor, becomes_at, clock_of, stays, IsEmpty, Exchanged, ExchangesDrive, PutsIn, PutsMemory, TakesDrive, TakesOut, Untouched}
 use Rattle.std.specs.Prelude.{slice_set}
 use Rattle.std.specs.Prelude.{List}
 use Rattle.pc_bus.specs.Handling.{Touches, touched}
 use Rattle.fdc_core.specs.Drives.Following.{FollowsMotor}
 use Rattle.machine_commands.specs.Shown.{page_part, user_part}
+use Rattle.machine_commands.proofs.Idling.{idle_by}
 use Rattle.machine_commands.proofs.Selecting.{is_dor, switched}
 use Rattle.machine_commands.proofs.Bays.{both_in, cylinder_in, medium_in, parts_same, parts_with, shown_in, spun_in}
 use Rattle.machine_commands.proofs.Showing.{counts_go}
@@ -73,15 +74,6 @@ drive_goes old target new is faults left =
     let becomes = becomes_at target old new is faults left in
     record { never_falls = becomes.never_falls; spends = becomes.spends }
 
-becomes_same : (old new : DriveState) → new ≡ old → SameDrive old new
-becomes_same old new becomes = record {
-  medium = ap (λ (d : DriveState). d.medium) becomes;
-  cylinder = ap (λ (d : DriveState). d.cylinder) becomes;
-  change = ap (λ (d : DriveState). d.change) becomes;
-  spun = ap (λ (d : DriveState). at_speed d) becomes;
-  counts = drive_goes old old new becomes refl refl;
-}
-
 -- the drive has another medium, or none
 record Swapped (medium : Option Disk) (old new : DriveState) : Type 0 where
   is : new.medium ≡ medium
@@ -115,7 +107,7 @@ unloaded_empty s none =
 untouched : (old new : Board) (bay : ℕ) → bay ≤ 1 → old.bus.direct ≤ last_count → Touches bay old new → drive_in new bay ≡ drive_in old bay → Untouched (rig_of old) (rig_of new)
 untouched old new bay small few touches becomes =
     let leaves = touched_leaves old new few touches.bus in
-    let here = becomes_same (drive_in old bay) (drive_in new bay) becomes in
+    let here = same_drive (drive_in old bay) (drive_in new bay) becomes in
     let other = same_drive (drive_in old (1 - bay)) (drive_in new (1 - bay)) touches.other in
     let (first, second) = both_in SameDrive bay old new small here other in
     record {
@@ -259,19 +251,9 @@ puts_memory address byte old new below few is =
 
 pub still_idle : (motors : Motors) (old new : Board) → controller_of new ≡ controller_of old → is_up new ≡ is_up old → new.first.motor ≡ motors.first → new.second.motor ≡ motors.second
     → InRange new.first → InRange new.second → IsIdle motors old → IsIdle motors new
-still_idle motors old new controller up first second first_in second_in was = record {
-  ready = subst IsReady (sym controller) was.ready;
-  motors_are = record {
-    bay = was.motors_are.bay;
-    bay_in = was.motors_are.bay_in;
-    dor = ap dor_of controller ∙ was.motors_are.dor;
-    first = first;
-    second = second;
-  };
-  low = up ∙ was.low;
-  first = first_in;
-  second = second_in;
-}
+still_idle motors old new controller up on_first on_second first second was =
+    let has = was.motors_are in
+    idle_by motors has.bay (controller_of old) new has.bay_in controller was.ready has.dor on_first on_second (up ∙ was.low) first second
 
 pub memory_idle : (motors : Motors) (address byte : ℕ) (old new : Board) → new ≡ record old { bus = byte_set address byte old.bus } → InRange new.first → InRange new.second → IsIdle motors old → IsIdle motors new
 memory_idle motors address byte old new is first second was =

@@ -3,7 +3,7 @@ use Rattle.std.proofs.Common.{◌≡◌, ℕ, suc, ◌%◌, ◌≤◌, ◌==◌,
 use Rattle.std.specs.Prelude.{bit_and}
 use Rattle.machine_commands.proofs.Common.{in_bay, InRange, has_ended, is_executing, is_held, dor_of, data_commands_of, Fdc, Board, controller_of, drive_in, lines_of, lines_of_drive, OnlyAsks, dor_with, IsReady, IsIdle, rig_of, Motors, option_map_or, line_bits, ReadsLine}
 use Rattle.fdc_core.specs.Drives.Lines.{absent_lines}
-use Rattle.machine_commands.proofs.Idling.{IsResting, Idles}
+use Rattle.machine_commands.proofs.Idling.{idle_by, IsResting, Idles}
 use Rattle.machine_commands.proofs.Accesses.{input_idles}
 use Rattle.machine_commands.proofs.Bytes.{IsListening}
 use Rattle.machine_commands.proofs.Selecting.{is_dor, with_dor, selects_idle}
@@ -49,19 +49,10 @@ ready_listens motors bay fdc small dor ready = record { rests = ready_rests fdc 
 
 pub idle_again : (motors : Motors) (bay : ℕ) (old new : Board) (fdc : Fdc) → IsIdle motors old → bay ≤ 1 → dor_of fdc ≡ dor_with motors bay → IsReady fdc → Idles fdc old new
     → InRange new.first → InRange new.second → IsIdle motors new
-idle_again motors bay old new fdc was small dor ready idles first second = record {
-  ready = subst IsReady (sym idles.controller_is) ready;
-  motors_are = record {
-    bay = bay;
-    bay_in = small;
-    dor = ap dor_of idles.controller_is ∙ dor;
-    first = idles.stays.first.motor ∙ was.motors_are.first;
-    second = idles.stays.second.motor ∙ was.motors_are.second;
-  };
-  low = idles.stays.low was.ready.no_interrupt was.low;
-  first = first;
-  second = second;
-}
+idle_again motors bay old new fdc was small dor ready idles first second =
+    let stays = idles.stays in
+    idle_by motors bay fdc new small idles.controller_is ready dor (stays.first.motor ∙ was.motors_are.first) (stays.second.motor ∙ was.motors_are.second)
+    (stays.low was.ready.no_interrupt was.low) first second
 
 pub idle_asks : (old new : Board) (fdc : Fdc) → Idles fdc old new → fdc.seeks.cylinders ≡ (controller_of old).seeks.cylinders
     → data_commands_of fdc ≡ data_commands_of (controller_of old) → OnlyAsks (rig_of old) (rig_of new)

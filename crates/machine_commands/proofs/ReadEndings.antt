@@ -195,43 +195,38 @@ module _ (motors : Motors) (bay : ℕ) (key : Chrn) (rate : Rate) (address : ℕ
   landed : (content : List ℕ) → HasBytes address content scene.memory (memory_of at) → HasBytes address content (memory_of old) (memory_of new)
   landed content bytes = subst (λ m. HasBytes address content m (memory_of new)) (memory_before ran.run) (subst (λ m. HasBytes address content (memory_of start) m) (sym (memory_after ran.run)) bytes)
 
+  -- what was found, with where its content landed
+  found_at : (Lands : List ℕ → Type 0) → ((content : List ℕ) → length content ≡ content_size key.n → HasBytes address content (memory_of old) (memory_of new) → Lands content)
+      → IfOk (mark_told outcome) (λ deleted. (content : List ℕ) × FindsField bay key rate (rig_of old) deleted content (rig_of new) × Lands content)
+  found_at Lands lands = by_told (mark_told outcome) tells
+    where
+      by_told : (told : result Bool Code) → Tells scene faults (memory_of at) Stall told
+          → IfOk told (λ deleted. (content : List ℕ) × FindsField bay key rate (rig_of old) deleted content (rig_of new) × Lands content)
+      by_told (Ok deleted) (content, finds) = (content, field deleted content finds, lands content (content_long deleted content finds) (landed content finds.in_memory))
+      by_told (Err refusal) says = tt
+
   pub reads_data : address + content_size key.n ≤ user_bytes → ReadsData bay key rate address (rig_of old) (mark_told outcome) (rig_of new)
   reads_data below = record {
     sends = read_sends ran.run ran.run.over.goes.listens.drives;
-    found = by_told (mark_told outcome) tells;
+    found = found_at (λ content. user_part (memory_of new) ≡ with_items (user_part (memory_of old)) address content)
+        (λ content long there. user_with (memory_of old) (memory_of new) address content sends.prepares.memory there (omega arith));
     refused = refused;
     outside = user_outside (memory_of old) (memory_of new) address (content_size key.n) sends.prepares.memory but;
     page = page_same (memory_of old) (memory_of new) address (content_size key.n) sends.prepares.memory but below;
   }
-    where
-      by_told : (told : result Bool Code) → Tells scene faults (memory_of at) Stall told
-          → IfOk told (λ deleted. (content : List ℕ) × FindsField bay key rate (rig_of old) deleted content (rig_of new)
-          × (user_part (memory_of new) ≡ with_items (user_part (memory_of old)) address content))
-      by_told (Ok deleted) (content, finds) =
-          let long = content_long deleted content finds in
-          (content, field deleted content finds, user_with (memory_of old) (memory_of new) address content sends.prepares.memory (landed content finds.in_memory) (omega arith))
-      by_told (Err refusal) says = tt
 
   pub reads_back : address ≡ user_bytes → ReadsBack bay key rate (rig_of old) (mark_told outcome) (rig_of new)
   reads_back at_page = record {
     sends = read_sends ran.run ran.run.over.goes.listens.drives;
-    found = by_told (mark_told outcome) tells;
+    found = found_at (λ content. page_part (memory_of new) ≡ with_items (page_part (memory_of old)) 0 content)
+        (λ content long there. let range = size_range key.n coded in
+        page_with (memory_of old) (memory_of new) content sends.prepares.memory (subst (λ a. HasBytes a content (memory_of old) (memory_of new)) at_page there) (omega arith));
     refused = refused;
     memory = user_same (memory_of old) (memory_of new) address (content_size key.n) sends.prepares.memory but (omega arith);
   }
-    where
-      by_told : (told : result Bool Code) → Tells scene faults (memory_of at) Stall told
-          → IfOk told (λ deleted. (content : List ℕ) × FindsField bay key rate (rig_of old) deleted content (rig_of new)
-          × (page_part (memory_of new) ≡ with_items (page_part (memory_of old)) 0 content))
-      by_told (Ok deleted) (content, finds) =
-          let long = content_long deleted content finds in
-          let range = size_range key.n coded in
-          let there : HasBytes user_bytes content (memory_of old) (memory_of new) = subst (λ a. HasBytes a content (memory_of old) (memory_of new)) at_page (landed content finds.in_memory) in
-          (content, field deleted content finds, page_with (memory_of old) (memory_of new) content sends.prepares.memory there (omega arith))
-      by_told (Err refusal) says = tt
 
-  pub read_idle : InRange new.first → InRange new.second → IsIdle motors new
-  read_idle = idle_after ran.run
-
-  pub read_costs : CostsFor bay 2 261 29 (rig_of old) (rig_of new)
-  read_costs = run_costs ran.run 29 ran.uses (turn_same bay (rig_of old) (rig_of new) (read_sends ran.run ran.run.over.goes.listens.drives).media)
+  pub read_after : InRange new.first → InRange new.second → IsIdle motors new × CostsFor bay 2 261 29 (rig_of old) (rig_of new)
+  read_after first second = (
+    idle_after ran.run first second,
+    run_costs ran.run 29 ran.uses (turn_same bay (rig_of old) (rig_of new) (read_sends ran.run ran.run.over.goes.listens.drives).media),
+  )

@@ -1,8 +1,8 @@
 -- A reset and set-up, from any state of the machine.
-use Rattle.std.proofs.Common.{◌≡◌, ◌⊎◌, true, false, [], ◌∷◌, ◌++◌, refl, sym, ◌∙◌, ap, subst, arith}
-use Rattle.machine_commands.proofs.Common.{InRange, Ready, dor_written, ccr_written, Writes, dor_of, data_commands_of, polled, Fdc, Board, controller_of, lines_of, IsReset, IsReady, IsIdle, is_up, rig_of, Specify, Configure, at_rest, with_polls, specified, configured, reset, Resets, none_on}
+use Rattle.std.proofs.Common.{◌≡◌, ◌⊎◌, ◌&&◌, not, true, false, [], ◌∷◌, ◌++◌, refl, sym, ◌∙◌, ap, subst, arith}
+use Rattle.machine_commands.proofs.Common.{Command, InRange, Ready, is_executing, is_held, is_seeking, dor_written, ccr_written, Writes, data_commands_of, polled, Fdc, Board, controller_of, lines_of, IsReset, IsReady, IsIdle, is_up, rig_of, Specify, Configure, at_rest, with_polls, specified, configured, reset, Resets, none_on}
 use Rattle.fdc_commands.specs.Table.{answer}
-use Rattle.machine_commands.proofs.Idling.{IsResting, KeepsSpeed, KeepsAll, Idles}
+use Rattle.machine_commands.proofs.Idling.{idle_by, IsResting, KeepsSpeed, KeepsAll, Idles}
 use Rattle.machine_commands.proofs.Accesses.{accessed_keeps, gap_idles, output_idles}
 use Rattle.machine_commands.proofs.Bytes.{IsListening, AreMore, with_bytes, whole_at}
 use Rattle.machine_commands.proofs.Selecting.{with_dor, clear_bit, dor_access}
@@ -34,32 +34,13 @@ configured_at fdc = configured 0x07 (with_bytes [] (specified_at fdc))
 abbrev pub set_up_at : Fdc → Fdc
 set_up_at fdc = ccr_written 0x00 (configured_at fdc)
 
-rests_held : (fdc : Fdc) → IsResting (held_at fdc)
-rests_held fdc = record { no_command = refl; no_seek = refl; not_asking = refl; no_poll = refl }
+-- these are proved by computing
+resting : (fdc : Fdc) → is_executing fdc.phase ≡ false → is_seeking fdc.seeks ≡ false → fdc.asking ≡ false → (fdc.poll_due && not (is_held fdc)) ≡ false → IsResting fdc
+resting fdc command seek asking poll = record { no_command = command; no_seek = seek; not_asking = asking; no_poll = poll }
 
-listens_polled : (fdc : Fdc) → IsListening (polled_at fdc)
-listens_polled fdc = record { rests = record { no_command = refl; no_seek = refl; not_asking = refl; no_poll = refl }; phase_is = refl; not_held = refl }
-
-listens_one : (fdc : Fdc) → IsListening (sensed_to (polled_at fdc))
-listens_one fdc = record { rests = record { no_command = refl; no_seek = refl; not_asking = refl; no_poll = refl }; phase_is = refl; not_held = refl }
-
-listens_two : (fdc : Fdc) → IsListening (sensed_to (sensed_to (polled_at fdc)))
-listens_two fdc = record { rests = record { no_command = refl; no_seek = refl; not_asking = refl; no_poll = refl }; phase_is = refl; not_held = refl }
-
-listens_three : (fdc : Fdc) → IsListening (sensed_to (sensed_to (sensed_to (polled_at fdc))))
-listens_three fdc = record { rests = record { no_command = refl; no_seek = refl; not_asking = refl; no_poll = refl }; phase_is = refl; not_held = refl }
-
-listens_sensed : (fdc : Fdc) → IsListening (sensed_at fdc)
-listens_sensed fdc = record { rests = record { no_command = refl; no_seek = refl; not_asking = refl; no_poll = refl }; phase_is = refl; not_held = refl }
-
-listens_specified : (fdc : Fdc) → IsListening (specified_at fdc)
-listens_specified fdc = record { rests = record { no_command = refl; no_seek = refl; not_asking = refl; no_poll = refl }; phase_is = refl; not_held = refl }
-
-rests_configured : (fdc : Fdc) → IsResting (configured_at fdc)
-rests_configured fdc = record { no_command = refl; no_seek = refl; not_asking = refl; no_poll = refl }
-
-rests_set_up : (fdc : Fdc) → IsResting (set_up_at fdc)
-rests_set_up fdc = record { no_command = refl; no_seek = refl; not_asking = refl; no_poll = refl }
+listening : (fdc : Fdc) → is_executing fdc.phase ≡ false → is_seeking fdc.seeks ≡ false → fdc.asking ≡ false → (fdc.poll_due && not (is_held fdc)) ≡ false
+    → fdc.phase ≡ Command → is_held fdc ≡ false → IsListening fdc
+listening fdc command seek asking poll phase held = record { rests = resting fdc command seek asking poll; phase_is = phase; not_held = held }
 
 ready_set_up : (fdc : Fdc) → IsReady (set_up_at fdc)
 ready_set_up fdc = record {
@@ -105,7 +86,7 @@ holds old new resets =
     let access = resets.holds in
     let written = dor_access 0x00 fdc false false old resets.held access refl refl (clear_bit false 0x00 4 refl refl) (clear_bit false 0x00 5 refl refl) in
     let here : controller_of access.between ≡ fdc = ap (λ b. b.chips.controller) written.bus in
-    let gap = gap_idles access.between resets.held access.gap (subst IsResting (sym here) (rests_held (controller_of old))) in
+    let gap = gap_idles access.between resets.held access.gap (subst IsResting (sym here) (resting _ refl refl refl refl)) in
     record {
       keeps = keeps_then old access.between resets.held (accessed_keeps fdc old access.between written.bus written.first_is.keeps written.second_is.keeps) gap.stays.keeps;
       controller_is = gap.controller_is ∙ here;
@@ -126,7 +107,7 @@ releases old new resets =
     let written = dor_access 0x0C fdc false false resets.held resets.released access (ap (dor_written 0x0C) at) refl (clear_bit false 0x0C 4 refl refl) (clear_bit false 0x0C 5 refl refl) in
     let between = access.between in
     let here : controller_of between ≡ fdc = ap (λ b. b.chips.controller) written.bus in
-    let runs = gap_polled fdc (polled_at (controller_of old)) between resets.released access.gap here refl (listens_polled (controller_of old)).rests in
+    let runs = gap_polled fdc (polled_at (controller_of old)) between resets.released access.gap here refl (listening _ refl refl refl refl refl refl).rests in
     record {
       keeps = keeps_then resets.held between resets.released (accessed_keeps fdc resets.held between written.bus written.first_is.keeps written.second_is.keeps) runs.keeps;
       first_off = runs.first.motor ∙ written.first_is.motor;
@@ -139,12 +120,12 @@ polls old new resets =
     let c = controller_of old in
     let rel = releases old new resets in
     let p = resets.polls in
-    let settled = settles_to resets.released p.polled (polled_at c) p.settles (polls_next (released_at c) (polled_at c) resets.released refl (listens_polled c).rests rel.controller) (listens_polled c).rests in
+    let settled = settles_to resets.released p.polled (polled_at c) p.settles (polls_next (released_at c) (polled_at c) resets.released refl (listening _ refl refl refl refl refl refl).rests rel.controller) (listening _ refl refl refl refl refl refl).rests in
     let start : Goes resets.released (polled_at c) p.polled = record { keeps = settled.keeps; first = settled.first; second = settled.second; controller_is = settled.controller_is } in
-    let one = (senses_pending p.status_0 p.polled p.one (polled_at c) 0xC0 0 start.controller_is (listens_polled c) refl refl refl refl p.first).1 in
-    let two = (senses_pending p.status_1 p.one p.two (sensed_to (polled_at c)) 0xC1 0 one.controller_is (listens_one c) refl refl refl refl p.second).1 in
-    let three = (senses_pending p.status_2 p.two p.three (sensed_to (sensed_to (polled_at c))) 0xC2 0 two.controller_is (listens_two c) refl refl refl refl p.third).1 in
-    let four = (senses_pending p.status_3 p.three resets.polled (sensed_to (sensed_to (sensed_to (polled_at c)))) 0xC3 0 three.controller_is (listens_three c) refl refl refl refl p.fourth).1 in
+    let one = (senses_pending p.status_0 p.polled p.one (polled_at c) 0xC0 0 start.controller_is (listening _ refl refl refl refl refl refl) refl refl refl refl p.first).1 in
+    let two = (senses_pending p.status_1 p.one p.two (sensed_to (polled_at c)) 0xC1 0 one.controller_is (listening _ refl refl refl refl refl refl) refl refl refl refl p.second).1 in
+    let three = (senses_pending p.status_2 p.two p.three (sensed_to (sensed_to (polled_at c))) 0xC2 0 two.controller_is (listening _ refl refl refl refl refl refl) refl refl refl refl p.third).1 in
+    let four = (senses_pending p.status_3 p.three resets.polled (sensed_to (sensed_to (sensed_to (polled_at c)))) 0xC3 0 three.controller_is (listening _ refl refl refl refl refl refl) refl refl refl refl p.fourth).1 in
     goes_then (goes_then (goes_then (goes_then start (idles_go one)) (idles_go two)) (idles_go three)) (idles_go four)
 
 -- ---- SPECIFY and CONFIGURE
@@ -168,14 +149,14 @@ configure_whole = refl
 specifies : (old new : Board) → (resets : Resets old new) → Idles (specified_at (controller_of old)) resets.polled resets.specified
 specifies old new resets =
     let c = controller_of old in
-    whole_at (0x03 ∷ 0xAF ∷ []) 0x02 (Specify 0xAF 0x02) resets.polled resets.specified (sensed_at c) (polls old new resets).controller_is (listens_sensed c) refl
-    specify_more specify_whole (specified_at c) (λ lines controller does. does.0 refl) (λ low. low) (listens_specified c).rests resets.specifies
+    whole_at (0x03 ∷ 0xAF ∷ []) 0x02 (Specify 0xAF 0x02) resets.polled resets.specified (sensed_at c) (polls old new resets).controller_is (listening _ refl refl refl refl refl refl) refl
+    specify_more specify_whole (specified_at c) (λ lines controller does. does.0 refl) (λ low. low) (listening _ refl refl refl refl refl refl).rests resets.specifies
 
 configures : (old new : Board) → (resets : Resets old new) → Idles (configured_at (controller_of old)) resets.specified resets.configured
 configures old new resets =
     let c = controller_of old in
-    whole_at (0x13 ∷ 0x00 ∷ 0x07 ∷ []) 0x00 (Configure 0x00 0x07 0x00) resets.specified resets.configured (specified_at c) (specifies old new resets).controller_is (listens_specified c) refl
-    configure_more configure_whole (configured_at c) (λ lines controller does. does.0 refl) (λ low. low) (rests_configured c) resets.configures
+    whole_at (0x13 ∷ 0x00 ∷ 0x07 ∷ []) 0x00 (Configure 0x00 0x07 0x00) resets.specified resets.configured (specified_at c) (specifies old new resets).controller_is (listening _ refl refl refl refl refl refl) refl
+    configure_more configure_whole (configured_at c) (λ lines controller does. does.0 refl) (λ low. low) (resting _ refl refl refl refl) resets.configures
 
 rates : (old new : Board) → (resets : Resets old new) → Idles (set_up_at (controller_of old)) resets.configured resets.rated
 rates old new resets =
@@ -183,7 +164,7 @@ rates old new resets =
     let at = (configures old new resets).controller_is in
     let only : (controller : Fdc) → Writes 0x3F7 0x00 (lines_of resets.configured) (controller_of resets.configured) controller → controller ≡ set_up_at c =
     λ controller writes. writes.control refl ∙ ap (ccr_written 0x00) at in
-    output_idles 0x3F7 0x00 resets.configured resets.rated resets.rates refl refl (set_up_at c) only (λ low. refl) (rests_set_up c)
+    output_idles 0x3F7 0x00 resets.configured resets.rated resets.rates refl refl (set_up_at c) only (λ low. refl) (resting _ refl refl refl refl)
 
 -- ---- all of it
 
@@ -201,7 +182,7 @@ sets_up old new resets =
     let held = holds old new resets in
     let released = releases old new resets in
     let rated_on = rates old new resets in
-    let settled = settles_to resets.rated new (set_up_at c) resets.settles (ap polled rated_on.controller_is) (rests_set_up c) in
+    let settled = settles_to resets.rated new (set_up_at c) resets.settles (ap polled rated_on.controller_is) (resting _ refl refl refl refl) in
     let last : Goes resets.rated (set_up_at c) new = record { keeps = settled.keeps; first = settled.first; second = settled.second; controller_is = settled.controller_is } in
     let set_to = goes_then (goes_then (polls old new resets) (idles_go (specifies old new resets))) (idles_go (configures old new resets)) in
     let all = goes_then (goes_then set_to (idles_go rated_on)) last in
@@ -221,10 +202,4 @@ resets_all old new resets =
 pub resets_idle : (old new : Board) → Resets old new → InRange new.first → InRange new.second → IsIdle none_on new
 resets_idle old new resets first second =
     let is = sets_up old new resets in
-    record {
-      ready = subst IsReady (sym is.controller_is) (ready_set_up (controller_of old));
-      motors_are = record { bay = 0; bay_in = omega arith; dor = ap dor_of is.controller_is; first = is.first_off; second = is.second_off };
-      low = is.low;
-      first = first;
-      second = second;
-    }
+    idle_by none_on 0 _ new (omega arith) is.controller_is (ready_set_up (controller_of old)) refl is.first_off is.second_off is.low first second

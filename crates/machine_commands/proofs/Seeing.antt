@@ -1,6 +1,6 @@
 -- What a driver sees of a data command, from an idle machine until the machine is idle again.
 use Rattle.std.proofs.Common.{◌≡◌, ℕ, zero, suc, ◌+◌, ◌-◌, ◌≤◌, ◌==◌, true, List, [], ◌∷◌, Some, is_some, min, nat_lt, if◌then◌else◌, slice_index, Result as result, refl, sym, ◌∙◌, ap, arith}
-use Rattle.machine_commands.proofs.Common.{last_count, RoseBy, Spends, Code, Rate, Two, in_bay, GoesOn, IsDriven, IsFaultless, IsUndisturbed, faults_of, spends_twice, DriveState, InRange, data_commands_of, Order, Scene, head_sent, track_met, IsCalm, Stalled, met_is, counted, Board, controller_of, drive_in, holds_of, memory_of, met_in, track_under, IsIdle, latch_taken, counters_of, is_spun, rig_of, stalls_left, Motors, Done, sum_by-cons, TurnsOn, long_holds, most_steps_of, Uses, SendsRead, CostsFor, HeadsStay, turn_in, SendsWrite, page_part, user_part}
+use Rattle.machine_commands.proofs.Common.{last_count, RoseBy, Spends, Code, Rate, Two, in_bay, GoesOn, IsDriven, IsFaultless, IsUndisturbed, faults_of, spends_twice, DriveState, InRange, data_commands_of, Order, Scene, head_sent, track_met, IsCalm, Stalled, met_is, counted, Board, controller_of, drive_in, holds_of, memory_of, track_under, IsIdle, latch_taken, counters_of, is_spun, rig_of, stalls_left, Motors, Done, sum_by-cons, TurnsOn, long_holds, most_steps_of, Uses, SendsRead, CostsFor, HeadsStay, turn_in, SendsWrite, page_part, user_part}
 use Rattle.laws_machine.specs.OnQuiet.Quiet.{HaveTurned}
 use Rattle.sector_model.specs.Lasting.{turn_of}
 use Rattle.machine_commands.proofs.Beginning.{HasRun}
@@ -144,11 +144,7 @@ module _ {order : Order} {scene : Scene} {motors : Motors} {rate : Rate} {start 
 
   -- the track that passed under the head, as the driver knew it
   pub track_before : (head : ℕ) → head_sent scene.sent ≡ head → track_met scene ≡ track_under (rig_of old) scene.bay rate head
-  track_before head is =
-      met_is scene rate run.rate_is
-      ∙ (ap (λ m. met_in m rate scene.cylinder (head_sent scene.sent)) (sym medium_before)
-      ∙ (ap (λ c. met_in (in_bay (rig_of old).media scene.bay) rate c (head_sent scene.sent)) (sym cylinder_before)
-      ∙ ap (met_in (in_bay (rig_of old).media scene.bay) rate (in_bay (rig_of old).cylinders scene.bay)) is))
+  track_before head is = rw (medium_before, cylinder_before, ← is) (met_is scene rate run.rate_is)
 
   -- ---- all of it
 

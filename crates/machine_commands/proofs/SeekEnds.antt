@@ -1,6 +1,6 @@
 -- A seek from its first byte to the end of its result.
-use Rattle.std.proofs.Common.{◌≡◌, inl, inr, ℕ, zero, suc, ◌+◌, ◌≤◌, ◌==◌, false, List, [], ◌∷◌, ◌++◌, Some, None, slice_index, slice_set, refl, sym, ◌∙◌, ap, subst, arith}
-use Rattle.machine_commands.proofs.Common.{DriveState, Ready, Seeking, ended, sensed, after_sense, is_seeking, has_ended, Motion, Ended, Obeys, polled, Fdc, Lines, next_entry, Board, controller_of, drive_in, lines_of, Outputs, RunsGap, Bus, drive_stays, dor_with, IsIdle, is_up, Sends, Motors, answer, EndsSeek, none_pending}
+use Rattle.std.proofs.Common.{◌≡◌, inl, inr, ℕ, suc, ◌+◌, ◌≤◌, ◌==◌, false, List, [], ◌∷◌, ◌++◌, Some, None, slice_index, slice_set, refl, sym, ◌∙◌, ap, subst, arith}
+use Rattle.machine_commands.proofs.Common.{DriveState, Ready, Seeking, ended, sensed, after_sense, is_seeking, has_ended, Motion, Obeys, polled, Fdc, Lines, next_entry, Board, controller_of, drive_in, lines_of, Outputs, RunsGap, Bus, drive_stays, dor_with, IsIdle, is_up, Sends, Motors, answer, EndsSeek, none_pending}
 use Rattle.fdc_commands.specs.declared.command.Command.{Command}
 use Rattle.machine_commands.proofs.Idling.{IsResting, KeepsDrive, KeepsSpeed, Idles}
 use Rattle.machine_commands.proofs.Accesses.{accessed, accessed_keeps, same_drive, same_speed}
@@ -20,18 +20,12 @@ over_at seeks bay number = record { cylinders = slice_set seeks.cylinders bay nu
 
 pub sensed_of : (bay number status : ℕ) (seeks : Seeking) → bay ≤ 1 → seeks.pending ≡ none_pending
     → sensed (ended seeks bay number status) ≡ Some (status, slice_index (slice_set seeks.cylinders bay number) bay)
-sensed_of zero number status seeks small none =
-    ap (λ p. let s : Seeking = record { cylinders = slice_set seeks.cylinders 0 number; seek = Some (record { drive = 0; motion = Ended }); pending = slice_set p 0 (Some status) } in sensed s) none
-sensed_of (suc zero) number status seeks small none =
-    ap (λ p. let s : Seeking = record { cylinders = slice_set seeks.cylinders 1 number; seek = Some (record { drive = 1; motion = Ended }); pending = slice_set p 1 (Some status) } in sensed s) none
 sensed_of (suc (suc bay)) number status seeks small none = absurd (omega arith)
+sensed_of _ number status seeks small none = rw none refl
 
 pub after_sense_of : (bay number status : ℕ) (seeks : Seeking) → bay ≤ 1 → seeks.pending ≡ none_pending → after_sense (ended seeks bay number status) ≡ over_at seeks bay number
-after_sense_of zero number status seeks small none =
-    ap (λ p. let s : Seeking = record { cylinders = slice_set seeks.cylinders 0 number; seek = Some (record { drive = 0; motion = Ended }); pending = slice_set p 0 (Some status) } in after_sense s) none
-after_sense_of (suc zero) number status seeks small none =
-    ap (λ p. let s : Seeking = record { cylinders = slice_set seeks.cylinders 1 number; seek = Some (record { drive = 1; motion = Ended }); pending = slice_set p 1 (Some status) } in after_sense s) none
 after_sense_of (suc (suc bay)) number status seeks small none = absurd (omega arith)
+after_sense_of _ number status seeks small none = rw none refl
 
 -- ---- the way
 

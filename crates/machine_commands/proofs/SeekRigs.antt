@@ -1,12 +1,12 @@
 -- RECALIBRATE and SEEK, as a driver sees them.
-use Rattle.std.proofs.Common.{◌≡◌, ◌⊎◌, inl, inr, ℕ, zero, suc, ◌+◌, ◌-◌, ◌%◌, ◌<◌, ◌≤◌, ◌==◌, Bool, true, false, List, [], ◌∷◌, ◌++◌, Option, None, is_some, length, slice_index, slice_set, nat_lt, refl, sym, ◌∙◌, ap, subst, arith}
+use Rattle.std.proofs.Common.{◌≡◌, ◌⊎◌, inl, inr, ℕ, zero, suc, ◌+◌, ◌-◌, ◌%◌, ◌≤◌, ◌==◌, Bool, true, false, List, [], ◌∷◌, ◌++◌, Option, None, is_some, length, slice_index, slice_set, refl, sym, ◌∙◌, ap, subst, arith}
 use Rattle.std.specs.Prelude.{bit_and}
 use Rattle.std.proofs.Math.ListN.{length-set}
-use Rattle.machine_commands.proofs.Common.{RoseBy, DriveGoesOn, DriveState, InRange, Ready, Seeking, seek_bits, ended, after_sense, sought, recalibrated, Motion, Outward, Toward, Ended, dor_of, data_commands_of, Fdc, Board, controller_of, drive_in, dor_with, IsReady, IsIdle, AreSeeksOver, is_spun, number_of, rig_of, Motors, counts_of, get_or-set_other, false≢true, eqb_tells, nat_tests, Recalibrate, Seek, SendsRecalibrate, SendsSeek, user_part, page_part}
+use Rattle.machine_commands.proofs.Common.{DriveGoesOn, DriveState, InRange, Ready, Seeking, seek_bits, ended, after_sense, sought, recalibrated, Motion, Outward, Toward, Ended, data_commands_of, Fdc, Board, controller_of, drive_in, dor_with, IsReady, IsIdle, AreSeeksOver, is_spun, number_of, rig_of, Motors, counts_of, get_or-set_other, cases_lt, false≢true, eqb_tells, Recalibrate, Seek, SendsRecalibrate, SendsSeek, user_part, page_part}
 use Rattle.std.proofs.lemmas.Grind.{get_or-set_at}
 use Rattle.fdc_commands.specs.Table.{answer}
 use Rattle.floppy_driver.specs.Heads.{MovesHeads, Recalibrates, Seeks}
-use Rattle.machine_commands.proofs.Idling.{KeepsSpeed}
+use Rattle.machine_commands.proofs.Idling.{KeepsSpeed, idle_by}
 use Rattle.machine_commands.proofs.Bytes.{AreMore}
 use Rattle.machine_commands.proofs.Moving.{MovesDrive, OutwardWay, OutwardOver, TowardWay, TowardOver, turns_move, outward_rule, toward_rule}
 use Rattle.machine_commands.proofs.Seeking.{Leaves, on_way, at_end}
@@ -40,11 +40,10 @@ seek_whole bay target = refl
 
 -- status register 0 of a pending result isn't 80, the sign that none is pending
 recalibrated_told : (bay : ℕ) (reached : Bool) → bay ≤ 1 → (recalibrated bay reached == 0x80) ≡ false
-recalibrated_told zero true small = refl
-recalibrated_told zero false small = refl
-recalibrated_told (suc zero) true small = refl
-recalibrated_told (suc zero) false small = refl
 recalibrated_told (suc (suc bay)) reached small = absurd (omega arith)
+recalibrated_told zero true small = refl
+recalibrated_told (suc zero) true small = refl
+recalibrated_told _ _ small = refl
 
 sought_told : (bay : ℕ) → bay ≤ 1 → (sought bay == 0x80) ≡ false
 sought_told (suc (suc bay)) small = absurd (omega arith)
@@ -52,11 +51,10 @@ sought_told _ small = refl
 
 -- the bit EQUIPMENT CHECK says that track 0 was not reached
 reached_told : (bay : ℕ) (reached : Bool) → bay ≤ 1 → (bit_and (recalibrated bay reached) 0x10 == 0) ≡ reached
-reached_told zero true small = refl
-reached_told zero false small = refl
-reached_told (suc zero) true small = refl
-reached_told (suc zero) false small = refl
 reached_told (suc (suc bay)) reached small = absurd (omega arith)
+reached_told zero true small = refl
+reached_told (suc zero) true small = refl
+reached_told _ _ small = refl
 
 outward_ends : (drive : DriveState) (n : ℕ) (m : Motion) (now : DriveState) → 80 ≤ n → OutwardWay drive n m now → ⊥
 outward_ends drive n (Outward pulses) now long (left, stepped) = absurd (omega arith)
@@ -95,11 +93,7 @@ toward_ends drive from target n (Outward pulses) now small near long way = way
 toward_ends drive from target n Ended now small near long way = way
 
 at_first : (from target : ℕ) → ((from + 0 ≡ from) × (from ≤ target)) ⊎ ((from + 0 ≡ from) × (target ≤ from))
-at_first from target = by_less (nat_lt target from) refl
-  where
-    by_less : (b : Bool) → nat_lt target from ≡ b → ((from + 0 ≡ from) × (from ≤ target)) ⊎ ((from + 0 ≡ from) × (target ≤ from))
-    by_less true is = let less : target < from = grind (arith, nat_tests) in inr (omega arith, omega arith)
-    by_less false is = let more : from ≤ target = grind (arith, nat_tests) in inl (omega arith, more)
+at_first from target = elim (cases_lt target from) [ inl less ↦ inr (omega arith, omega arith) | inr more ↦ inl (omega arith, more) ]
 
 seek_command : (bay target : ℕ) (fdc : Fdc) (drive : DriveState) → bay ≤ 1 → seek_bits fdc.seeks ≡ 0 → target ≤ 79 → slice_index fdc.seeks.cylinders bay ≤ 79
     → SeekCommand bay fdc drive (TowardWay drive (slice_index fdc.seeks.cylinders bay) target) (TowardOver bay drive (slice_index fdc.seeks.cylinders bay) target)
@@ -174,19 +168,7 @@ sought_idle motors bay number code old new idle small within moves left at low f
       fifo_on = was.fifo_on;
       threshold = was.threshold;
     } in
-    record {
-      ready = subst IsReady (sym at) ready;
-      motors_are = record {
-        bay = bay;
-        bay_in = small;
-        dor = ap dor_of at;
-        first = one.motor ∙ idle.motors_are.first;
-        second = two.motor ∙ idle.motors_are.second;
-      };
-      low = low;
-      first = first;
-      second = second;
-    }
+    idle_by motors bay _ new small at ready refl (one.motor ∙ idle.motors_are.first) (two.motor ∙ idle.motors_are.second) low first second
 
 -- ---- the rig
 
@@ -231,17 +213,13 @@ number_new : (motors : Motors) (bay number code : ℕ) (old new : Board) → IsI
     → controller_of new ≡ sensed_to (at_end (with_dor (dor_with motors bay) (controller_of old)) bay number code) → number_of new bay ≡ number
 number_new motors bay number code old new idle small at =
     let seeks = (controller_of old).seeks in
-    ap (λ c. slice_index c.seeks.cylinders bay) at
-    ∙ (ap (λ s. slice_index s.cylinders bay) (after_sense_of bay number code seeks small idle.ready.seeks.no_result)
-    ∙ number_here seeks.cylinders bay number small idle.ready.seeks.four)
+    rw (at, after_sense_of bay number code seeks small idle.ready.seeks.no_result) (number_here seeks.cylinders bay number small idle.ready.seeks.four)
 
 number_other : (motors : Motors) (bay number code : ℕ) (old new : Board) → IsIdle motors old → bay ≤ 1
     → controller_of new ≡ sensed_to (at_end (with_dor (dor_with motors bay) (controller_of old)) bay number code) → number_of new (1 - bay) ≡ number_of old (1 - bay)
 number_other motors bay number code old new idle small at =
     let seeks = (controller_of old).seeks in
-    ap (λ c. slice_index c.seeks.cylinders (1 - bay)) at
-    ∙ (ap (λ s. slice_index s.cylinders (1 - bay)) (after_sense_of bay number code seeks small idle.ready.seeks.no_result)
-    ∙ number_there seeks.cylinders bay (1 - bay) number (λ same. absurd (omega arith)))
+    rw (at, after_sense_of bay number code seeks small idle.ready.seeks.no_result) (number_there seeks.cylinders bay (1 - bay) number (λ same. absurd (omega arith)))
 
 -- ---- RECALIBRATE
 
@@ -253,25 +231,11 @@ recalibrated_to motors bay status old new idle small sends =
     seek_done motors bay (OutwardWay (drive_in old bay)) (OutwardOver bay (drive_in old bay)) status old sends.selected sends.sent new idle small
     (recalibrate_command bay fdc (drive_in old bay) small (no_bits fdc.seeks idle.ready.seeks)) sends.selects sends.sends sends.ends
 
--- the facts of the drive, as the rig shows them
-record OutwardShown (bay : ℕ) (reached : Bool) (old new : DriveState) : Type 0 where
-  pub arrives : reached ≡ true → new.cylinder ≡ 0
-  pub away : reached ≡ false → 1 ≤ new.cylinder
-  pub lost : reached ≡ false → RoseBy (new.cylinder + 79 - old.cylinder) old.faults new.faults
-
-outward_shown : (bay status number code : ℕ) (old new : DriveState) → bay ≤ 1 → status ≡ code → OutwardOver bay old number code new → OutwardShown bay (bit_and status 0x10 == 0) old new
-outward_shown bay status number code old new small is over =
-    let told : (bit_and status 0x10 == 0) ≡ over.reached = ap (λ s. bit_and s 0x10 == 0) (is ∙ over.status_is) ∙ reached_told bay over.reached small in
-    record {
-      arrives = λ yes. over.arrives (sym told ∙ yes);
-      away = λ short. over.away (sym told ∙ short);
-      lost = λ short. over.lost (sym told ∙ short);
-    }
-
-recalibrates_rig : (bay : ℕ) (reached : Bool) (old new : Board) → bay ≤ 1 → MovesHeads bay (rig_of old) (rig_of new) → number_of new bay ≡ 0
-    → OutwardShown bay reached (drive_in old bay) (drive_in new bay) → Recalibrates bay (rig_of old) reached (rig_of new)
-recalibrates_rig (suc (suc bay)) reached old new small moves number is = absurd (omega arith)
-recalibrates_rig _ reached old new small moves number is = record { moves = moves; number = number; arrives = is.arrives; away = is.away; lost = is.lost }
+recalibrates_rig : (bay number code : ℕ) (reached : Bool) (old new : Board) → bay ≤ 1 → MovesHeads bay (rig_of old) (rig_of new) → number_of new bay ≡ 0
+    → (over : OutwardOver bay (drive_in old bay) number code (drive_in new bay)) → over.reached ≡ reached → Recalibrates bay (rig_of old) reached (rig_of new)
+recalibrates_rig (suc (suc bay)) number code reached old new small moves now over told = absurd (omega arith)
+recalibrates_rig _ number code reached old new small moves now over told =
+    record { moves = moves; number = now; arrives = λ yes. over.arrives (told ∙ yes); away = λ short. over.away (told ∙ short); lost = λ short. over.lost (told ∙ short) }
 
 pub recalibrates : (motors : Motors) (bay status : ℕ) (old new : Board) → IsIdle motors old → bay ≤ 1 → SendsRecalibrate motors bay old status new
     → Recalibrates bay (rig_of old) (bit_and status 0x10 == 0) (rig_of new)
@@ -279,9 +243,9 @@ recalibrates motors bay status old new idle small sends =
     let done = recalibrated_to motors bay status old new idle small sends in
     let moves = moves_heads bay old new small done.over.moves done.leaves (number_other motors bay done.number done.code old new idle small done.controller_is)
     (ap data_commands_of done.controller_is) in
-    recalibrates_rig bay (bit_and status 0x10 == 0) old new small moves
-    (number_new motors bay done.number done.code old new idle small done.controller_is ∙ done.over.number_is)
-    (outward_shown bay status done.number done.code (drive_in old bay) (drive_in new bay) small done.status_is done.over)
+    recalibrates_rig bay done.number done.code (bit_and status 0x10 == 0) old new small moves
+    (number_new motors bay done.number done.code old new idle small done.controller_is ∙ done.over.number_is) done.over
+    (sym (ap (λ s. bit_and s 0x10 == 0) (done.status_is ∙ done.over.status_is) ∙ reached_told bay done.over.reached small))
 
 pub recalibrate_idle : (motors : Motors) (bay status : ℕ) (old new : Board) → IsIdle motors old → bay ≤ 1 → SendsRecalibrate motors bay old status new
     → InRange new.first → InRange new.second → IsIdle motors new

@@ -1,8 +1,8 @@
 -- One device step after results were read, and polls.
-use Rattle.std.proofs.Common.{◌≡◌, ◌⊎◌, inl, inr, sym, ◌∙◌, ap, subst}
+use Rattle.std.proofs.Common.{◌≡◌, ◌⊎◌, inl, inr, ◌∙◌, ap, subst}
 use Rattle.machine_commands.proofs.Common.{interrupts, polled, Fdc, Board, controller_of, regapped, Steady, gap, RunsGap, Step, stirred, is_up, Settles}
 use Rattle.pc_bus.specs.Steps.{Runs}
-use Rattle.machine_commands.proofs.Idling.{IsResting, KeepsDrive, KeepsSpeed, KeepsAll}
+use Rattle.machine_commands.proofs.Idling.{IsResting, KeepsSpeed, KeepsAll}
 use Rattle.machine_commands.proofs.Steps.{idles_none, step_to, unpolled, keeps_then, regapped_idles, speed_none, speed_then}
 
 pub runs_one : (old new : Board) → Runs 1 old new → Step old new
@@ -20,22 +20,22 @@ pub record SettlesTo (old : Board) (fdc : Fdc) (new : Board) : Type 0 where
 pub settles_to : (old new : Board) (fdc : Fdc) → Settles old new → polled (controller_of old) ≡ fdc → IsResting fdc → SettlesTo old fdc new
 settles_to old new fdc settles poll rest =
     let to = step_to (stirred old) settles.between fdc (runs_one (stirred old) settles.between settles.runs) poll rest in
-    let is = settles.taken in
-    record {
+    let counts = settles.counts in
+    rw settles.taken (record {
       keeps = record {
-        memory = ap (λ b. b.bus.chips.memory) is ∙ to.keeps.memory;
-        entries = ap (λ b. b.bus.chips.holding.entries) is ∙ to.keeps.entries;
-        stalls = ap (λ b. b.bus.chips.holding.stalls) is ∙ to.keeps.stalls;
-        first = subst (λ d. KeepsDrive old.first d) (sym (ap (λ b. b.first) is)) to.keeps.first;
-        second = subst (λ d. KeepsDrive old.second d) (sym (ap (λ b. b.second) is)) to.keeps.second;
-        direct = ap (λ b. b.bus.direct) is ∙ to.keeps.direct;
-        taken = settles.counts;
+        memory = to.keeps.memory;
+        entries = to.keeps.entries;
+        stalls = to.keeps.stalls;
+        first = to.keeps.first;
+        second = to.keeps.second;
+        direct = to.keeps.direct;
+        taken = rw settles.taken at counts;
       };
-      first = subst (λ d. KeepsSpeed old.first d) (sym (ap (λ b. b.first) is)) to.first.speed;
-      second = subst (λ d. KeepsSpeed old.second d) (sym (ap (λ b. b.second) is)) to.second.speed;
-      controller_is = ap (λ b. b.bus.chips.controller) is ∙ to.controller_is;
-      level = ap (λ b. b.bus.latch.level) is ∙ to.level;
-    }
+      first = to.first.speed;
+      second = to.second.speed;
+      controller_is = to.controller_is;
+      level = to.level;
+    })
 
 -- ---- device steps in the first of which the poll comes
 

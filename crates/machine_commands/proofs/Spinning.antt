@@ -1,7 +1,7 @@
 -- A motor that goes on.
 use Rattle.std.proofs.Common.{◌≡◌, ℕ, zero, suc, ◌+◌, ◌≤◌, ◌==◌, ◌&&◌, ◌||◌, Bool, true, false, min, nat_le, IsSome, is_some, refl, sym, ◌∙◌, ap, subst, arith}
 use Rattle.machine_commands.proofs.Common.{in_bay, DriveState, InRange, turns, dor_of, data_commands_of, Fdc, Board, controller_of, OnlyAsks, dor_with, IsReady, IsIdle, is_up, is_spun, rig_of, Motors, or_right, nat_tests, StartsMotor, with_motor_of}
-use Rattle.machine_commands.proofs.Idling.{IsResting, KeepsSpeed, KeepsAll, Idles}
+use Rattle.machine_commands.proofs.Idling.{idle_by, IsResting, KeepsSpeed, KeepsAll, Idles}
 use Rattle.machine_commands.proofs.Accesses.{accessed_keeps, gap_idles}
 use Rattle.machine_commands.proofs.Questions.{ready_rests, ready_with}
 use Rattle.machine_commands.proofs.Selecting.{IsSwitched, IsDorWritten, is_dor, with_dor, dor_access, dor_is_written}
@@ -52,19 +52,11 @@ started_keeps motors old on new fdc is =
 
 pub started_idle : (motors : Motors) (bay : ℕ) (old on new : Board) (fdc : Fdc) → is_up old ≡ false → bay ≤ 1 → dor_of fdc ≡ dor_with motors bay → IsStarted motors old on new fdc
     → InRange new.first → InRange new.second → IsIdle motors new
-started_idle motors bay old on new fdc low small dor is first second = record {
-  ready = subst IsReady (sym is.idles.controller_is) is.ready;
-  motors_are = record {
-    bay = bay;
-    bay_in = small;
-    dor = ap dor_of is.idles.controller_is ∙ dor;
-    first = is.idles.stays.first.motor ∙ is.written.first_is.motor;
-    second = is.idles.stays.second.motor ∙ is.written.second_is.motor;
-  };
-  low = is.idles.stays.low (ap (λ b. b.chips.controller.interrupt) is.written.bus ∙ is.ready.no_interrupt) (ap (λ b. b.latch.level) is.written.bus ∙ low);
-  first = first;
-  second = second;
-}
+started_idle motors bay old on new fdc low small dor is first second =
+    let stays = is.idles.stays in
+    let bus = is.written.bus in
+    idle_by motors bay fdc new small is.idles.controller_is is.ready dor (stays.first.motor ∙ is.written.first_is.motor) (stays.second.motor ∙ is.written.second_is.motor)
+    (stays.low (ap (λ b. b.chips.controller.interrupt) bus ∙ is.ready.no_interrupt) (ap (λ b. b.latch.level) bus ∙ low)) first second
 
 -- ---- speed
 

@@ -1,7 +1,7 @@
 -- A station before the first request.
-use Rattle.std.proofs.Common.{◌≡◌, ℕ, ◌+◌, ◌<◌, ◌≤◌, ◌^◌, List, length, take, Bool, false, refl, sym, ap, ◌∙◌, subst, arith}
-use Rattle.std.specs.Prelude.{◌&&◌, not, nat_lt, All, Option, Some, None, if◌then◌else◌}
-use Rattle.machine_commands.proofs.Common.{length-take-le, take-replicate, count_by-le-length, R500, Disk, Two, both, DriveCounts, DriveTells, user_bytes, DriveState, Holds, Bus, AreSetIfEmpty, Board, holds_of, CostsFor, Rig, IsReset, Bay, IsFresh, fresh_bay, stalls_left, rig_of, Notes, Driver, bay_shown, IsFreshDriver, CanSetUp, flags_of_both}
+use Rattle.std.proofs.Common.{◌≡◌, ℕ, ◌+◌, ◌<◌, ◌≤◌, ◌^◌, List, length, take, refl, sym, ap, ◌∙◌, subst, arith}
+use Rattle.std.specs.Prelude.{nat_lt, All, None}
+use Rattle.machine_commands.proofs.Common.{length-take-le, take-replicate, count_by-le-length, both, DriveCounts, DriveTells, user_bytes, Holds, Bus, AreSetIfEmpty, Board, holds_of, CostsFor, Rig, IsReset, IsFresh, fresh_bay, stalls_left, rig_of, Driver, IsFreshDriver, CanSetUp, flags_of_both}
 use Rattle.flop_base.specs.Memory.{zeroes}
 use Rattle.pc_bus.specs.Calls.{AreCalled}
 use Rattle.laws_machine.proofs.OnLines.Showing.{calls_lines, new_lines}
@@ -46,20 +46,10 @@ no_stalls made fresh =
     subst (λ (h : Holds). h.stalls + stalls_left h.entries < 2 ^ 63) (sym (ap (λ (b : Bus). b.chips.holding) fresh.new.bus))
     (omega (arith, count_by-le-length (λ hold. nat_lt 8 hold) holds.items, holds.ok.0, holds.ok.1, holds.small))
 
-free_bay : (notes : Notes) (medium : Option Disk) (changed : Bool) → notes.gate ≡ false → medium ≡ None → bay_shown notes medium changed ≡ fresh_bay None
-free_bay notes medium changed gate none =
-    ap (λ (g : Bool). let b : Bay = record { medium = medium; acknowledged = if g && not changed then Some notes.kept else None; rate = if g && not changed then notes.rate else R500 } in b) gate
-    ∙ ap (λ (m : Option Disk). let b : Bay = record { medium = m; acknowledged = None; rate = R500 } in b) none
-
-two_alike : (a b c : Bay) → a ≡ c → b ≡ c → (let two : Two Bay = record { first = a; second = b } in two) ≡ both c
-two_alike a b c e f = ap (λ v. let two : Two Bay = record { first = v; second = b } in two) e ∙ ap (λ v. let two : Two Bay = record { first = c; second = v } in two) f
-
 module _ (made : Board) (fresh : IsFreshBoard made) (driver : Driver) (new : Rig) (is_fresh_driver : IsFreshDriver driver) (reset : IsReset (rig_of made) new) where
   free_bays : (spares : ℕ) (waiting : List DriveCounts) → (shown driver new spares waiting).bays ≡ both (fresh_bay None)
   free_bays spares waiting =
-      two_alike (bay_shown driver.first new.media.first new.changes.first) (bay_shown driver.second new.media.second new.changes.second) (fresh_bay None)
-      (free_bay driver.first new.media.first new.changes.first is_fresh_driver.first (ap (λ (t : Two (Option Disk)). t.first) reset.media ∙ ap (λ (d : DriveState). d.medium) fresh.new.first ∙ fresh.first.medium))
-      (free_bay driver.second new.media.second new.changes.second is_fresh_driver.second (ap (λ (t : Two (Option Disk)). t.second) reset.media ∙ ap (λ (d : DriveState). d.medium) fresh.new.second ∙ fresh.second.medium))
+      rw (reset.media, fresh.new.first, fresh.new.second, fresh.first.medium, fresh.second.medium, is_fresh_driver.first, is_fresh_driver.second) refl
 
   pub flags_free : (spares : ℕ) (waiting : List DriveCounts) → flags_of_both (shown driver new spares waiting).bays ≡ flags_of_both (both (fresh_bay None))
   flags_free spares waiting = ap flags_of_both (free_bays spares waiting)

@@ -4,21 +4,18 @@ use Rattle.std.specs.Prelude.{is_some, Option}
 use Rattle.machine_commands.proofs.Common.{Rate, Disk, Two, in_bay, with_bay, Bay, flags_of, flags_of_both, with_rate}
 use Rattle.machine_commands.specs.declared.flags.BayFlags.{BayFlags}
 
-flags_put_at : (b : Bool) (bays : Two Bay) (value : Bay) → flags_of_both (if b then record bays { first = value } else record bays { second = value }) ≡ (if b then record (flags_of_both bays) { first = flags_of value } else record (flags_of_both bays) { second = flags_of value })
-flags_put_at true bays value = refl
-flags_put_at false bays value = refl
-
 -- flags of two bays, of which one was replaced
 pub flags_put : (bays : Two Bay) (n : ℕ) (value : Bay) → flags_of_both (with_bay bays n value) ≡ with_bay (flags_of_both bays) n (flags_of value)
-flags_put bays n value = flags_put_at (n == 0) bays value
-
-flags_in_at : (b : Bool) (bays : Two Bay) → (if b then (flags_of_both bays).first else (flags_of_both bays).second) ≡ flags_of (if b then bays.first else bays.second)
-flags_in_at true bays = refl
-flags_in_at false bays = refl
+flags_put bays n value =
+    let flags = flags_of_both bays in
+    elim (n == 0) as (λ b. flags_of_both (if b then record bays { first = value } else record bays { second = value })
+    ≡ (if b then record flags { first = flags_of value } else record flags { second = flags_of value })) [ true ↦ refl | false ↦ refl ]
 
 -- the flags of one bay
 pub flags_in : (bays : Two Bay) (n : ℕ) → in_bay (flags_of_both bays) n ≡ flags_of (in_bay bays n)
-flags_in bays n = flags_in_at (n == 0) bays
+flags_in bays n =
+    let flags = flags_of_both bays in
+    elim (n == 0) as (λ b. (if b then flags.first else flags.second) ≡ flags_of (if b then bays.first else bays.second)) [ true ↦ refl | false ↦ refl ]
 
 put_same_at : {T : Type 0} (b : Bool) (two : Two T) (value : T) → value ≡ (if b then two.first else two.second) → (if b then record two { first = value } else record two { second = value }) ≡ two
 put_same_at true two value same = ap (λ v. record two { first = v }) same
@@ -28,13 +25,10 @@ put_same_at false two value same = ap (λ v. record two { second = v }) same
 pub put_same : {T : Type 0} (two : Two T) (n : ℕ) (value : T) → value ≡ in_bay two n → with_bay two n value ≡ two
 put_same two n value same = put_same_at (n == 0) two value same
 
-in_put_at : {T : Type 0} (b : Bool) (two : Two T) (value : T) → (if b then (if b then record two { first = value } else record two { second = value }).first else (if b then record two { first = value } else record two { second = value }).second) ≡ value
-in_put_at true two value = refl
-in_put_at false two value = refl
-
 -- what was put in is what is there
 pub in_put : {T : Type 0} (two : Two T) (n : ℕ) (value : T) → in_bay (with_bay two n value) n ≡ value
-in_put two n value = in_put_at (n == 0) two value
+in_put two n value =
+    elim (n == 0) as (λ b. let put : Two _ = (if b then record two { first = value } else record two { second = value }) in (if b then put.first else put.second) ≡ value) [ true ↦ refl | false ↦ refl ]
 
 abbrev flagged : Bool → Rate → BayFlags
 flagged loaded rate = record { loaded = loaded; rate = rate }

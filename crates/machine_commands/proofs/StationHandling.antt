@@ -35,19 +35,6 @@ pub line_set : (notes : Notes) (medium : Option Disk) → bay_shown notes medium
 line_set notes medium =
     ap (λ (held : Bool). let b : Bay = record { medium = medium; acknowledged = if held then Some notes.kept else None; rate = if held then notes.rate else R500 } in b) (none_held notes.gate)
 
--- a driver's station, by what of the machine it shows
-abbrev pub shown_with : Driver → ℕ → Counters → Two (Option Disk) → Two Bool → List ℕ → StationState
-shown_with driver spares counters media changes memory = record {
-  bays = record {
-    first = bay_shown driver.first media.first changes.first;
-    second = bay_shown driver.second media.second changes.second;
-  };
-  memory = memory;
-  spares = spares;
-  tries = driver.tries;
-  counters = counters;
-}
-
 abbrev two_bays : Bay → Bay → Two Bay
 two_bays a b = record { first = a; second = b }
 
@@ -59,11 +46,8 @@ module _ (driver : Driver) (old new : Rig) (spares : ℕ) (waiting : List DriveC
   -- a bay has this medium or none, and its change line is set
   pub becomes_exchanged : (left : ℕ) (after : List DriveCounts) (bay : ℕ) (medium : Option Disk) → new.media ≡ with_bay old.media bay medium → new.changes ≡ with_bay old.changes bay true → new.memory ≡ old.memory → Becomes (record (set_bay (shown driver old spares waiting) bay (fresh_bay medium)) { spares = left }) (shown driver new left after)
   becomes_exchanged left after bay medium media changes memory =
-      let counters = with_waiting new.counters after in
-      ap (λ m. shown_with driver left counters m new.changes new.memory) media
-      ∙ ap (λ c. shown_with driver left counters (with_bay old.media bay medium) c new.memory) changes
-      ∙ ap (λ m. shown_with driver left counters (with_bay old.media bay medium) (with_bay old.changes bay true) m) memory
-      ∙ ap (λ b. let s : StationState = record { bays = b; memory = old.memory; spares = left; tries = driver.tries; counters = counters } in s) (line_put_at (bay == 0) driver old.media old.changes medium)
+      rw (media, changes, memory)
+      (ap (λ b. let s : StationState = record { bays = b; memory = old.memory; spares = left; tries = driver.tries; counters = with_waiting new.counters after } in s) (line_put_at (bay == 0) driver old.media old.changes medium))
 
   exchanges : (bay : ℕ) (medium : Option Disk) → Exchanged bay medium old new → Exchanges bay medium (shown driver old spares waiting) (shown driver new spares waiting)
   exchanges bay medium exchanged = record {
@@ -72,11 +56,7 @@ module _ (driver : Driver) (old new : Rig) (spares : ℕ) (waiting : List DriveC
   }
 
   stays : new.media ≡ old.media → new.changes ≡ old.changes → new.memory ≡ old.memory → Stays (shown driver old spares waiting) (shown driver new spares waiting)
-  stays media changes memory =
-      let counters = with_waiting new.counters waiting in
-      ap (λ m. shown_with driver spares counters m new.changes new.memory) media
-      ∙ ap (λ c. shown_with driver spares counters old.media c new.memory) changes
-      ∙ ap (λ m. shown_with driver spares counters old.media old.changes m) memory
+  stays media changes memory = rw (media, changes, memory) refl
 
   unmoved : Untouched old new → IsUnmoved (shown driver old spares waiting) (shown driver new spares waiting)
   unmoved untouched = record {
@@ -84,13 +64,11 @@ module _ (driver : Driver) (old new : Rig) (spares : ℕ) (waiting : List DriveC
     access = past_driver 1 old.counters new.counters waiting waiting untouched.past_driver;
   }
 
-medium_at_either : (b : Bool) (driver : Driver) (rig : Rig) → (if b then bay_shown driver.first rig.media.first rig.changes.first else bay_shown driver.second rig.media.second rig.changes.second).medium ≡ (if b then rig.media.first else rig.media.second)
-medium_at_either true driver rig = refl
-medium_at_either false driver rig = refl
-
 -- the medium that is shown in a bay
 pub medium_at : (driver : Driver) (rig : Rig) (spares : ℕ) (waiting : List DriveCounts) (bay : ℕ) → (bay_of (shown driver rig spares waiting) bay).medium ≡ in_bay rig.media bay
-medium_at driver rig spares waiting bay = medium_at_either (bay == 0) driver rig
+medium_at driver rig spares waiting bay =
+    let bays = (shown driver rig spares waiting).bays in
+    elim (bay == 0) as (λ b. (if b then bays.first else bays.second).medium ≡ (if b then rig.media.first else rig.media.second)) [ true ↦ refl | false ↦ refl ]
 
 module _ (driver : Driver) (old new : Rig) (spares : ℕ) (waiting : List DriveCounts) (bay : ℕ) where
   -- a medium is put in
@@ -109,14 +87,10 @@ module _ (driver : Driver) (old new : Rig) (spares : ℕ) (waiting : List DriveC
 module _ (driver : Driver) (old new : Rig) (spares : ℕ) (waiting : List DriveCounts) where
   -- a byte of memory is set
   pub sets_memory : (address byte : ℕ) → PutsMemory address byte old new → SetsMemory address byte (shown driver old spares waiting) (shown driver new spares waiting)
-  sets_memory address byte step =
-      let counters = with_waiting new.counters waiting in
-      record {
-        becomes = ap (λ m. shown_with driver spares counters m new.changes new.memory) step.media
-            ∙ ap (λ c. shown_with driver spares counters old.media c new.memory) step.changes
-            ∙ ap (λ m. shown_with driver spares counters old.media old.changes m) step.memory;
-        access = past_driver 1 old.counters new.counters waiting waiting step.past_driver;
-      }
+  sets_memory address byte step = record {
+    becomes = rw (step.media, step.changes, step.memory) refl;
+    access = past_driver 1 old.counters new.counters waiting waiting step.past_driver;
+  }
 
 -- ---- flags
 

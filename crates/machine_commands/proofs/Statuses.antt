@@ -81,15 +81,12 @@ senses_drive motors bay status old new idle small senses =
 
 -- bit 6 of the status says whether the medium is protected
 bit_told : (protected track0 : Bool) (bay : ℕ) → bay ≤ 1 → not (bit_and (bits_if protected 0x40 (bits_if track0 0x10 (bit_or (bit_and bay 7) 0x28))) 0x40 == 0) ≡ protected
-bit_told true true zero small = refl
-bit_told true false zero small = refl
-bit_told false true zero small = refl
-bit_told false false zero small = refl
-bit_told true true (suc zero) small = refl
-bit_told true false (suc zero) small = refl
-bit_told false true (suc zero) small = refl
-bit_told false false (suc zero) small = refl
 bit_told protected track0 (suc (suc bay)) small = absurd (omega arith)
+bit_told true true zero small = refl
+bit_told false true zero small = refl
+bit_told true true (suc zero) small = refl
+bit_told false true (suc zero) small = refl
+bit_told _ _ _ small = refl
 
 same_protected : (medium : Option Disk) → is_protected medium ≡ option_map_or (λ disk. disk.protected) medium false
 same_protected None = refl

@@ -1,7 +1,7 @@
 -- A WRITE DATA or WRITE DELETED DATA as its driver sees it.
 use Rattle.std.proofs.Common.{◌≡◌, ◌⊎◌, inl, inr, ℕ, zero, suc, ◌+◌, ◌-◌, ◌≤◌, Bool, true, false, List, length, take, drop, Option, Some, None, Result, Err, refl, sym, ◌∙◌, ap, subst, arith}
 use Rattle.std.specs.Prelude.{IsOk, IfErr, MatchOption}
-use Rattle.machine_commands.proofs.Common.{RoseBy, Rate, R500, R250, Code, Two, in_bay, IsFaultless, IsUndisturbed, user_bytes, bytes_from, HasTrack, track_of, Change, HasClearAddress, met_in, IsAddressAt, content_size, is_overrun, rate_fits, Long, Ending, Window, Write, Stalled, met_is, Scene, data_rate, head_sent, track_met, IsUnchanged, Board, drive_in, memory_of, track_under, WritesData, counters_of, rig_of, told_of, Motors, Done, Chrn, false≢true, take-take, drop-take, Written, window_of, length-met_track, met_track, nothing_from, rates_same, Laid, WriteEndsAs, HasChanged, IsInsideTrack, IsWholeWindow, written_in, ChangesMedium, HasWindowOut, IsWriteMiss}
+use Rattle.machine_commands.proofs.Common.{RoseBy, Rate, R500, R250, Code, Two, in_bay, IsFaultless, IsUndisturbed, user_bytes, bytes_from, HasTrack, track_of, Change, HasClearAddress, IsAddressAt, content_size, is_overrun, rate_fits, Long, Ending, Window, Write, Stalled, met_is, Scene, data_rate, head_sent, track_met, IsUnchanged, Board, drive_in, memory_of, track_under, WritesData, counters_of, rig_of, told_of, Motors, Done, Chrn, false≢true, take-take, drop-take, Written, window_of, length-met_track, met_track, nothing_from, rates_same, Laid, WriteEndsAs, HasChanged, IsInsideTrack, IsWholeWindow, written_in, ChangesMedium, HasWindowOut, IsWriteMiss}
 use Rattle.flop_base.specs.declared.answers.Code.TheVariants as code
 use Rattle.sector_map.specs.Met.{HasNoClearMark, same_rate}
 use Rattle.sector_map.specs.MetTracks.{MeetsTrack}
@@ -86,12 +86,7 @@ module _ {deleted : Bool} {scene : Scene} {motors : Motors} {rate : Rate} {start
       (write_sends run same).other_medium
 
   met_unchanged : IsUnchanged scene (drive_in now scene.bay) → track_met scene ≡ track_under (rig_of new) scene.bay rate scene.sent.key.h
-  met_unchanged is =
-      let medium = medium_after run ∙ is in
-      met_is scene rate run.rate_is
-      ∙ (ap (λ h. met_in (Some scene.disk) rate scene.cylinder h) on.head
-      ∙ (ap (λ c. met_in (Some scene.disk) rate c scene.sent.key.h) (sym (cylinder_after run))
-      ∙ ap (λ m. met_in m rate (in_bay (rig_of new).cylinders scene.bay) scene.sent.key.h) (sym medium)))
+  met_unchanged is = rw (medium_after run ∙ is, cylinder_after run, ← on.head) (met_is scene rate run.rate_is)
 
   -- ---- the window was written, or its beginning
 

@@ -12,39 +12,27 @@ loop-attempt-preserved g c = record {
       (g.C.Commands.rig c.read_id.new.self) c.read_id.ensures.step c.read_id-in-loop-attempt.result (g.C.Commands.rig c.read_id-in-loop-attempt.new.self) c.read_id-in-loop-attempt.ensures.step
       (sym c.is_ok-in-loop-attempt.ensures.value ∙ c.if-is_ok-2.false);
   cost =
-      let before = g.C.Commands.rig c.args.machine.now in
-      let middle = g.C.Commands.rig c.loop-attempt.machine in
-      let first = g.C.Commands.rig c.read_id.new.self in
-      let second = g.C.Commands.rig c.read_id-in-loop-attempt.new.self in
-      costs_next c.args.bay 4 522 24 c.loop-attempt._attempt (c.loop-attempt._attempt + 1) before middle second refl c.loop-attempt.invariant.cost
-      (costs_on c.args.bay 2 2 261 261 12 12 middle first second c.read_id.ensures.costs c.read_id-in-loop-attempt.ensures.costs);
+      costs_next c.args.bay 4 522 24 c.loop-attempt._attempt (c.loop-attempt._attempt + 1) _ _ _ refl c.loop-attempt.invariant.cost
+      (costs_on c.args.bay 2 2 261 261 12 12 _ _ _ c.read_id.ensures.costs c.read_id-in-loop-attempt.ensures.costs);
 }
 
 pub returns-then-is_ok-clause-costs : goal.returns-then-is_ok-clause-costs
 returns-then-is_ok-clause-costs g c =
-    let before = g.C.Commands.rig c.args.machine.now in
-    let middle = g.C.Commands.rig c.loop-attempt.machine in
-    let first = g.C.Commands.rig c.read_id.new.self in
     let many = c.loop-attempt._attempt in
-    costs_for c.args.bay (many * 4 + 2) 12 (many * 522 + 261) 1566 (many * 24 + 12) 72 before first (omega arith) (omega arith) (omega arith)
-    (costs_on c.args.bay (many * 4) 2 (many * 522) 261 (many * 24) 12 before middle first c.loop-attempt.invariant.cost c.read_id.ensures.costs)
+    costs_for c.args.bay (many * 4 + 2) 12 (many * 522 + 261) 1566 (many * 24 + 12) 72 _ _ (omega arith) (omega arith) (omega arith)
+    (costs_on c.args.bay (many * 4) 2 (many * 522) 261 (many * 24) 12 _ _ _ c.loop-attempt.invariant.cost c.read_id.ensures.costs)
 
 pub returns-then-is_ok-2-clause-costs : goal.returns-then-is_ok-2-clause-costs
 returns-then-is_ok-2-clause-costs g c =
-    let before = g.C.Commands.rig c.args.machine.now in
-    let middle = g.C.Commands.rig c.loop-attempt.machine in
-    let first = g.C.Commands.rig c.read_id.new.self in
-    let second = g.C.Commands.rig c.read_id-in-loop-attempt.new.self in
     let many = c.loop-attempt._attempt in
-    costs_for c.args.bay (many * 4 + (2 + 2)) 12 (many * 522 + (261 + 261)) 1566 (many * 24 + (12 + 12)) 72 before second (omega arith) (omega arith) (omega arith)
-    (costs_on c.args.bay (many * 4) (2 + 2) (many * 522) (261 + 261) (many * 24) (12 + 12) before middle second c.loop-attempt.invariant.cost
-    (costs_on c.args.bay 2 2 261 261 12 12 middle first second c.read_id.ensures.costs c.read_id-in-loop-attempt.ensures.costs))
+    costs_for c.args.bay (many * 4 + (2 + 2)) 12 (many * 522 + (261 + 261)) 1566 (many * 24 + (12 + 12)) 72 _ _ (omega arith) (omega arith) (omega arith)
+    (costs_on c.args.bay (many * 4) (2 + 2) (many * 522) (261 + 261) (many * 24) (12 + 12) _ _ _ c.loop-attempt.invariant.cost
+    (costs_on c.args.bay 2 2 261 261 12 12 _ _ _ c.read_id.ensures.costs c.read_id-in-loop-attempt.ensures.costs))
 
 pub returns-clause-costs : goal.returns-clause-costs
 returns-clause-costs g c =
     let many = c.loop-attempt._attempt in
-    costs_for c.args.bay (many * 4) 12 (many * 522) 1566 (many * 24) 72 (g.C.Commands.rig c.args.machine.now) (g.C.Commands.rig c.loop-attempt.machine) (omega arith) (omega arith) (omega arith)
-    c.loop-attempt.invariant.cost
+    costs_for c.args.bay (many * 4) 12 (many * 522) 1566 (many * 24) 72 _ _ (omega arith) (omega arith) (omega arith) c.loop-attempt.invariant.cost
 
 pub returns-clause-finds : goal.returns-clause-finds
 returns-clause-finds g c =

@@ -25,18 +25,14 @@ returns-in_err-read_back_filled-clause-reads g c =
 pub loop-r-preserved : goal.loop-r-preserved
 loop-r-preserved g c =
     let cost =
-    costs_next c.args.bay 2 261 29 (c.loop-r.r - 1) (c.loop-r.r + 1 - 1) (g.C.Commands.rig c.args.machine.now) (g.C.Commands.rig c.loop-r.machine)
-    (g.C.Commands.rig c.read_back_filled.new.machine) (omega arith) c.loop-r.invariant.cost c.read_back_filled.ensures.costs in
+    costs_next c.args.bay 2 261 29 (c.loop-r.r - 1) (c.loop-r.r + 1 - 1) _ _ _ (omega arith) c.loop-r.invariant.cost c.read_back_filled.ensures.costs in
     first_of (search rules, grind (arith, common_steps))
 
 pub returns-in_err-read_back_filled-clause-costs : goal.returns-in_err-read_back_filled-clause-costs
 returns-in_err-read_back_filled-clause-costs g c =
-    let before = g.C.Commands.rig c.args.machine.now in
-    let after = g.C.Commands.rig c.read_back_filled.new.machine in
-    costs_fewer c.args.bay 2 261 29 c.loop-r.r (sectors_at c.args.asked.rate) before after (omega arith)
-    (costs_next c.args.bay 2 261 29 (c.loop-r.r - 1) c.loop-r.r before (g.C.Commands.rig c.loop-r.machine) after (omega arith) c.loop-r.invariant.cost c.read_back_filled.ensures.costs)
+    costs_fewer c.args.bay 2 261 29 c.loop-r.r (sectors_at c.args.asked.rate) _ _ (omega arith)
+    (costs_next c.args.bay 2 261 29 (c.loop-r.r - 1) c.loop-r.r _ _ _ (omega arith) c.loop-r.invariant.cost c.read_back_filled.ensures.costs)
 
 pub returns-clause-costs : goal.returns-clause-costs
 returns-clause-costs g c =
-    costs_fewer c.args.bay 2 261 29 (c.loop-r.r - 1) (sectors_at c.args.asked.rate) (g.C.Commands.rig c.args.machine.now) (g.C.Commands.rig c.loop-r.machine) (omega arith)
-    c.loop-r.invariant.cost
+    costs_fewer c.args.bay 2 261 29 (c.loop-r.r - 1) (sectors_at c.args.asked.rate) _ _ (omega arith) c.loop-r.invariant.cost

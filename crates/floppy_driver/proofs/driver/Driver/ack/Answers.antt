@@ -7,22 +7,16 @@ use Rattle.floppy_driver.proofs.driver.Driver.ack.Goals as goal
 
 pub returns-then-not-is_changed-clause-costs : goal.returns-then-not-is_changed-clause-costs
 returns-then-not-is_changed-clause-costs g c =
-    let before = g.C.Commands.rig c.args.machine.now in
-    let middle = g.C.Commands.rig c.loop-attempt.machine in
-    let cleared = g.C.Commands.rig c.clear_change-reached.new.machine in
-    let seen = g.C.Commands.rig c.is_changed.new.self in
-    let held = g.C.Commands.rig c.hold.new.machine in
     let spent = 6250 + c.loop-attempt._attempt * 405 in
     let made = 1 + c.loop-attempt._attempt * 33 in
-    costs_for c.args.bay 12 12 (spent + (405 + (0 + 1566))) 9031 (made + (31 + (2 + 72))) 172 before held (omega arith) (omega arith) (omega arith)
-    (costs_on c.args.bay 0 12 spent (405 + (0 + 1566)) made (31 + (2 + 72)) before middle held c.loop-attempt.invariant.cost
-    (costs_on c.args.bay 0 12 405 (0 + 1566) 31 (2 + 72) middle cleared held c.clear_change-reached.ensures.costs
-    (costs_on c.args.bay 0 12 0 1566 2 72 cleared seen held c.is_changed.ensures.costs c.hold.ensures.costs)))
+    costs_for c.args.bay 12 12 (spent + (405 + (0 + 1566))) 9031 (made + (31 + (2 + 72))) 172 _ _ (omega arith) (omega arith) (omega arith)
+    (costs_on c.args.bay 0 12 spent (405 + (0 + 1566)) made (31 + (2 + 72)) _ _ _ c.loop-attempt.invariant.cost
+    (costs_on c.args.bay 0 12 405 (0 + 1566) 31 (2 + 72) _ _ _ c.clear_change-reached.ensures.costs
+    (costs_on c.args.bay 0 12 0 1566 2 72 _ _ _ c.is_changed.ensures.costs c.hold.ensures.costs)))
 
 pub returns-clause-costs : goal.returns-clause-costs
 returns-clause-costs g c =
-    costs_for c.args.bay 0 12 (6250 + c.loop-attempt._attempt * 405) 9031 (1 + c.loop-attempt._attempt * 33) 172 (g.C.Commands.rig c.args.machine.now) (g.C.Commands.rig c.loop-attempt.machine) (omega arith) (omega arith) (omega arith)
-    c.loop-attempt.invariant.cost
+    costs_for c.args.bay 0 12 (6250 + c.loop-attempt._attempt * 405) 9031 (1 + c.loop-attempt._attempt * 33) 172 _ _ (omega arith) (omega arith) (omega arith) c.loop-attempt.invariant.cost
 
 pub returns-then-not-is_changed-clause-step : goal.returns-then-not-is_changed-clause-step
 returns-then-not-is_changed-clause-step g c =

@@ -25,7 +25,7 @@ returns-in_err-format-clause-can g c =
     let middle = g.C.Commands.rig c.prepare.new.machine in
     can_write_formatted c.prepare.new.self middle (g.C.Commands.rig c.format.new.self) c.args.bay
     (can_write_prepared c.args.self.now c.prepare.new.self (g.C.Commands.rig c.args.machine.now) middle c.args.bay c.args.asked.c prepare.RecalibrateAndSeek true
-    c.requires.can c.prepare.ensures.notes c.if-not-prepare.ensures.prepared c.prepare.ensures.sound c.prepare.ensures.attached)
+    c.requires.can c.prepare.ensures.notes c.if-not-prepare.ensures.prepared c.prepare.ensures.attached c.prepare.ensures.sound)
     c.format.ensures.sound (format_of c.args.asked) (Err c.in_err-format.field-0.0) step.0 step.1
 
 pub returns-clause-formats : goal.returns-clause-formats
@@ -45,7 +45,7 @@ returns-clause-can g c =
     can_write_read c.prepare.new.self laid (g.C.Commands.rig c.read_back_all.new.machine) c.args.bay
     (can_write_formatted c.prepare.new.self middle laid c.args.bay
     (can_write_prepared c.args.self.now c.prepare.new.self (g.C.Commands.rig c.args.machine.now) middle c.args.bay asked.c prepare.RecalibrateAndSeek true
-    c.requires.can c.prepare.ensures.notes c.if-not-prepare.ensures.prepared c.prepare.ensures.sound c.prepare.ensures.attached)
+    c.requires.can c.prepare.ensures.notes c.if-not-prepare.ensures.prepared c.prepare.ensures.attached c.prepare.ensures.sound)
     c.format.ensures.sound (format_of asked) (Ok c.in_ok-format.field-0) step.0 step.1)
     c.read_back_all.ensures.sound (sectors_at asked.rate)
     (IsBlankUnder laid c.args.bay asked.rate asked.h)
@@ -54,9 +54,4 @@ returns-clause-can g c =
 
 pub returns-clause-counts : goal.returns-clause-counts
 returns-clause-counts g c =
-    let step = c.in_ok-format.ensures.step in
-    let old = (g.C.Commands.rig c.args.machine.now).counters in
-    let middle = (g.C.Commands.rig c.prepare.new.machine).counters in
-    let laid = (g.C.Commands.rig c.format.new.self).counters in
-    goes_on_after old laid (g.C.Commands.rig c.read_back_all.new.machine).counters
-    (goes_on_after old middle laid c.if-not-prepare.ensures.prepared.moves.counts step.1.sends.counts) c.read_back_all.ensures.reads.counts
+    goes_on_after _ _ _ (goes_on_after _ _ _ c.if-not-prepare.ensures.prepared.moves.counts c.in_ok-format.ensures.step.1.sends.counts) c.read_back_all.ensures.reads.counts

@@ -19,12 +19,9 @@ loop-attempt-preserved g c = record {
   idle = c.in-Err.ensures.idle;
   ready = c.in-Err.ensures.ready;
   tries = c.in-Err.ensures.tries ∙ c.loop-attempt.invariant.tries;
-  counts =
-      goes_on_after (g.C.Commands.rig c.args.machine.now).counters (g.C.Commands.rig c.loop-attempt.machine).counters (g.C.Commands.rig c.read_once.new.machine).counters
-      c.loop-attempt.invariant.counts c.in-Err.ensures.counts;
+  counts = goes_on_after _ _ _ c.loop-attempt.invariant.counts c.in-Err.ensures.counts;
   cost =
-      costs_next c.args.bay 2 504 48 (c.loop-attempt.attempt - 1) (c.loop-attempt.attempt + 1 - 1) (g.C.Commands.rig c.args.machine.now) (g.C.Commands.rig c.loop-attempt.machine)
-      (g.C.Commands.rig c.read_once.new.machine) (omega arith) c.loop-attempt.invariant.cost c.read_once.ensures.costs;
+      costs_next c.args.bay 2 504 48 (c.loop-attempt.attempt - 1) (c.loop-attempt.attempt + 1 - 1) _ _ _ (omega arith) c.loop-attempt.invariant.cost c.read_once.ensures.costs;
   tried = λ start spares waiting asked.
       tried_next start c.args.bay c.args.key c.args.address c.loop-attempt.attempt c.loop-attempt.self.tries c.loop-attempt.last c.in-Err.code
       (shown c.loop-attempt.self (g.C.Commands.rig c.loop-attempt.machine) spares waiting) (shown c.read_once.new.self (g.C.Commands.rig c.read_once.new.machine) spares waiting)
@@ -34,16 +31,12 @@ loop-attempt-preserved g c = record {
 
 pub returns-in-Ok-clause-costs : goal.returns-in-Ok-clause-costs
 returns-in-Ok-clause-costs g c =
-    let before = g.C.Commands.rig c.args.machine.now in
-    let after = g.C.Commands.rig c.read_once.new.machine in
-    costs_fewer c.args.bay 2 504 48 c.loop-attempt.attempt c.args.self.now.tries before after (omega arith)
-    (costs_next c.args.bay 2 504 48 (c.loop-attempt.attempt - 1) c.loop-attempt.attempt before (g.C.Commands.rig c.loop-attempt.machine) after (omega arith)
-    c.loop-attempt.invariant.cost c.read_once.ensures.costs)
+    costs_fewer c.args.bay 2 504 48 c.loop-attempt.attempt c.args.self.now.tries _ _ (omega arith)
+    (costs_next c.args.bay 2 504 48 (c.loop-attempt.attempt - 1) c.loop-attempt.attempt _ _ _ (omega arith) c.loop-attempt.invariant.cost c.read_once.ensures.costs)
 
 pub returns-clause-costs : goal.returns-clause-costs
 returns-clause-costs g c =
-    costs_fewer c.args.bay 2 504 48 (c.loop-attempt.attempt - 1) c.args.self.now.tries (g.C.Commands.rig c.args.machine.now) (g.C.Commands.rig c.loop-attempt.machine) (omega arith)
-    c.loop-attempt.invariant.cost
+    costs_fewer c.args.bay 2 504 48 (c.loop-attempt.attempt - 1) c.args.self.now.tries _ _ (omega arith) c.loop-attempt.invariant.cost
 
 pub returns-in-Ok-clause-step : goal.returns-in-Ok-clause-step
 returns-in-Ok-clause-step g c = λ start spares waiting asked none.

@@ -3,7 +3,8 @@ use Rattle.floppy_driver.proofs.Common.{crosses_page, shown}
 use Rattle.floppy_driver.proofs.Shows.{acknowledged_held, asks_shown}
 use Rattle.floppy_driver.proofs.Lasting.{question_costs, questions_cost}
 use Rattle.floppy_driver.proofs.Asking.{refused_asking}
-use Rattle.floppy_driver.proofs.WriteStep.{asked_twice, protection_shown, can_write_asked, writes_refused, writes_protected, writes_drive}
+use Rattle.floppy_driver.proofs.FormatReady.{can_write_asked}
+use Rattle.floppy_driver.proofs.WriteStep.{asked_twice, protection_shown, writes_refused, writes_protected, writes_drive}
 use Rattle.floppy_driver.proofs.driver.Driver.write.Goals as goal
 
 pub returns-then-not-is_held-clause-step : goal.returns-then-not-is_held-clause-step
@@ -36,8 +37,8 @@ returns-then-is_protected-clause-step g c = λ spares waiting.
 
 pub write_in_attempts-requires-clause-ready : goal.write_in_attempts-requires-clause-ready
 write_in_attempts-requires-clause-ready g c =
-    can_write_asked c.is_held.new.self (g.C.Commands.rig c.is_held.new.machine) c.args.bay (g.C.Commands.rig c.is_protected.new.self) c.is_protected.result
-    (c.is_held.ensures.ready c.if-not-is_held.false) c.is_protected.ensures.asks c.is_protected.ensures.sound c.is_protected.ensures.line c.if-is_protected.false
+    can_write_asked c.is_held.new.self (g.C.Commands.rig c.is_held.new.machine) (g.C.Commands.rig c.is_protected.new.self) c.args.bay
+    (c.is_held.ensures.ready c.if-not-is_held.false) c.is_protected.ensures.asks c.is_protected.ensures.sound (sym c.is_protected.ensures.line ∙ c.if-is_protected.false)
 
 pub returns-clause-step : goal.returns-clause-step
 returns-clause-step g c = λ spares waiting.

@@ -9,16 +9,12 @@ loop-attempt-init g c =
 
 pub returns-in-Ok-clause-costs : goal.returns-in-Ok-clause-costs
 returns-in-Ok-clause-costs g c =
-    let before = g.C.Commands.rig c.args.machine.now in
-    let after = g.C.Commands.rig c.write_once.new.machine in
-    costs_fewer c.args.bay 4 765 77 c.loop-attempt.attempt c.args.self.now.tries before after (omega arith)
-    (costs_next c.args.bay 4 765 77 (c.loop-attempt.attempt - 1) c.loop-attempt.attempt before (g.C.Commands.rig c.loop-attempt.machine) after (omega arith)
-    c.loop-attempt.invariant.2 c.write_once.ensures.costs)
+    costs_fewer c.args.bay 4 765 77 c.loop-attempt.attempt c.args.self.now.tries _ _ (omega arith)
+    (costs_next c.args.bay 4 765 77 (c.loop-attempt.attempt - 1) c.loop-attempt.attempt _ _ _ (omega arith) c.loop-attempt.invariant.2 c.write_once.ensures.costs)
 
 pub returns-clause-costs : goal.returns-clause-costs
 returns-clause-costs g c =
-    costs_fewer c.args.bay 4 765 77 (c.loop-attempt.attempt - 1) c.args.self.now.tries (g.C.Commands.rig c.args.machine.now) (g.C.Commands.rig c.loop-attempt.machine) (omega arith)
-    c.loop-attempt.invariant.2
+    costs_fewer c.args.bay 4 765 77 (c.loop-attempt.attempt - 1) c.args.self.now.tries _ _ (omega arith) c.loop-attempt.invariant.2
 
 pub returns-in-Ok-clause-step : goal.returns-in-Ok-clause-step
 returns-in-Ok-clause-step g c = λ start spares waiting asked none.
@@ -31,8 +27,7 @@ loop-attempt-preserved g c = (
   c.write_once.ensures.idle,
   between_more c.args.self.now (g.C.Commands.rig c.args.machine.now) c.args.bay c.args.key c.args.address c.args.deleted (c.loop-attempt.attempt - 1) c.loop-attempt.attempt c.loop-attempt.last c.loop-attempt.self (g.C.Commands.rig c.loop-attempt.machine)
       c.requires.ready c.requires.asked c.loop-attempt.invariant.1 (omega arith) c.write_once.result c.write_once.new.self (g.C.Commands.rig c.write_once.new.machine) c.write_once.ensures.attempt (c.loop-attempt.attempt + 1 - 1) _ (omega arith) c.in-Err.is c.write_once.ensures.tries c.write_once.ensures.memory c.write_once.ensures.counts c.write_once.ensures.ready,
-  costs_next c.args.bay 4 765 77 (c.loop-attempt.attempt - 1) (c.loop-attempt.attempt + 1 - 1) (g.C.Commands.rig c.args.machine.now) (g.C.Commands.rig c.loop-attempt.machine)
-      (g.C.Commands.rig c.write_once.new.machine) (omega arith) c.loop-attempt.invariant.2 c.write_once.ensures.costs,
+  costs_next c.args.bay 4 765 77 (c.loop-attempt.attempt - 1) (c.loop-attempt.attempt + 1 - 1) _ _ _ (omega arith) c.loop-attempt.invariant.2 c.write_once.ensures.costs,
 )
 
 pub returns-clause-step : goal.returns-clause-step

@@ -1,7 +1,6 @@
 use Rattle.std.proofs.Common.{length, sym, ◌∙◌}
 use Rattle.std.specs.Prelude.{Some}
-use Rattle.machine_commands.proofs.Common.{fresh_bay, rig_shown, flags_of, flags_shown, all_counts}
-use Rattle.floppy_driver.specs.Shown.{shown}
+use Rattle.machine_commands.proofs.Common.{fresh_bay, rig_shown, flags_of, all_counts}
 use Rattle.machine_commands.proofs.StationBays.{flags_set}
 use Rattle.machine_commands.proofs.StationHandling.{goes_on, inserts, flags_inserted, flags_given_back}
 use Rattle.machine_commands.proofs.Attaching.{attached_inserted, inserted_goes_on}
@@ -14,27 +13,16 @@ returns-then-is_err-clause-step g c =
     inserts self.driver (rig_shown state self.machine) (rig_shown state c.insert-answer.new.self) (length self.spare.items) (all_counts state self.spare.items) c.args.bay c.args.medium c.insert-answer.result c.insert-answer.ensures.step
 
 pub returns-then-is_err-clause-counts : goal.returns-then-is_err-clause-counts
-returns-then-is_err-clause-counts g c =
-    let state = g.D.Drive.state in
-    let self = c.args.self.now in
-    goes_on (rig_shown state self.machine).counters (rig_shown state c.insert-answer.new.self).counters (all_counts state self.spare.items)
-    (inserted_goes_on (rig_shown state self.machine) (rig_shown state c.insert-answer.new.self) c.args.bay c.args.medium c.insert-answer.result c.insert-answer.ensures.step)
+returns-then-is_err-clause-counts g c = goes_on _ _ _ (inserted_goes_on _ _ c.args.bay c.args.medium c.insert-answer.result c.insert-answer.ensures.step)
 
 pub returns-then-is_err-clause-ready : goal.returns-then-is_err-clause-ready
-returns-then-is_err-clause-ready g c =
-    let state = g.D.Drive.state in
-    let self = c.args.self.now in
-    let old = rig_shown state self.machine in
-    let new = rig_shown state c.insert-answer.new.self in
-    let count = length self.spare.items in
-    let waiting = all_counts state self.spare.items in
-    record {
-      idle = c.insert-answer.ensures.idle c.requires.ready.idle;
-      attached = attached_inserted self.driver old new c.args.bay c.args.medium c.insert-answer.result c.requires.bay c.insert-answer.ensures.step c.requires.ready.attached;
-      flags = c.requires.ready.flags ∙ sym (flags_given_back (shown self.driver old count waiting) c.args.bay c.args.medium c.insert-answer.result (shown self.driver new count waiting) (sym c.is_err.ensures.value ∙ c.if-is_err.true)
-          (inserts self.driver old new count waiting c.args.bay c.args.medium c.insert-answer.result c.insert-answer.ensures.step));
-      spare = c.requires.ready.spare;
-    }
+returns-then-is_err-clause-ready g c = record {
+  idle = c.insert-answer.ensures.idle c.requires.ready.idle;
+  attached = attached_inserted _ _ _ c.args.bay c.args.medium c.insert-answer.result c.requires.bay c.insert-answer.ensures.step c.requires.ready.attached;
+  flags = c.requires.ready.flags
+      ∙ sym (flags_given_back _ c.args.bay c.args.medium c.insert-answer.result _ (sym c.is_err.ensures.value ∙ c.if-is_err.true) (returns-then-is_err-clause-step g c));
+  spare = c.requires.ready.spare;
+}
 
 pub returns-clause-step : goal.returns-clause-step
 returns-clause-step g c =
@@ -43,26 +31,13 @@ returns-clause-step g c =
     inserts self.driver (rig_shown state self.machine) (rig_shown state c.insert-answer.new.self) (length self.spare.items) (all_counts state self.spare.items) c.args.bay c.args.medium c.insert-answer.result c.insert-answer.ensures.step
 
 pub returns-clause-counts : goal.returns-clause-counts
-returns-clause-counts g c =
-    let state = g.D.Drive.state in
-    let self = c.args.self.now in
-    goes_on (rig_shown state self.machine).counters (rig_shown state c.insert-answer.new.self).counters (all_counts state self.spare.items)
-    (inserted_goes_on (rig_shown state self.machine) (rig_shown state c.insert-answer.new.self) c.args.bay c.args.medium c.insert-answer.result c.insert-answer.ensures.step)
+returns-clause-counts g c = goes_on _ _ _ (inserted_goes_on _ _ c.args.bay c.args.medium c.insert-answer.result c.insert-answer.ensures.step)
 
 pub returns-clause-ready : goal.returns-clause-ready
-returns-clause-ready g c =
-    let state = g.D.Drive.state in
-    let self = c.args.self.now in
-    let old = rig_shown state self.machine in
-    let new = rig_shown state c.insert-answer.new.self in
-    let count = length self.spare.items in
-    let waiting = all_counts state self.spare.items in
-    record {
-      idle = c.insert-answer.ensures.idle c.requires.ready.idle;
-      attached = attached_inserted self.driver old new c.args.bay c.args.medium c.insert-answer.result c.requires.bay c.insert-answer.ensures.step c.requires.ready.attached;
-      flags = flags_set self.flags.bays c.exchange_medium.new.self.bays c.args.bay (flags_shown (shown self.driver old count waiting)) (flags_shown (shown self.driver new count waiting))
-          (flags_of (fresh_bay (Some c.args.medium))) c.exchange_medium.ensures c.requires.ready.flags
-          (flags_inserted (shown self.driver old count waiting) c.args.bay c.args.medium c.insert-answer.result (shown self.driver new count waiting) (sym c.is_err.ensures.value ∙ c.if-is_err.false)
-          (inserts self.driver old new count waiting c.args.bay c.args.medium c.insert-answer.result c.insert-answer.ensures.step));
-      spare = c.requires.ready.spare;
-    }
+returns-clause-ready g c = record {
+  idle = c.insert-answer.ensures.idle c.requires.ready.idle;
+  attached = attached_inserted _ _ _ c.args.bay c.args.medium c.insert-answer.result c.requires.bay c.insert-answer.ensures.step c.requires.ready.attached;
+  flags = flags_set _ _ c.args.bay _ _ (flags_of (fresh_bay (Some c.args.medium))) c.exchange_medium.ensures c.requires.ready.flags
+      (flags_inserted _ c.args.bay c.args.medium c.insert-answer.result _ (sym c.is_err.ensures.value ∙ c.if-is_err.false) (returns-clause-step g c));
+  spare = c.requires.ready.spare;
+}

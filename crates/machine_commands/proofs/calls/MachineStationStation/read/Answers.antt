@@ -1,29 +1,18 @@
-use Rattle.std.proofs.Common.{length, sym, ◌∙◌}
-use Rattle.machine_commands.proofs.Common.{rig_shown, all_counts, station_shown}
-use Rattle.floppy_driver.specs.Shown.{shown}
+use Rattle.std.proofs.Common.{sym, ◌∙◌}
 use Rattle.machine_commands.proofs.StationHandling.{goes_on}
 use Rattle.machine_commands.proofs.Keeping.{flags_read}
 use Rattle.machine_commands.proofs.calls.MachineStationStation.read.Goals as goal
 
 pub returns-clause-step : goal.returns-clause-step
-returns-clause-step g c =
-    let items = c.args.self.now.spare.items in
-    c.read.ensures.step (length items) (all_counts g.D.Drive.state items)
+returns-clause-step g c = c.read.ensures.step _ _
 
 pub returns-clause-counts : goal.returns-clause-counts
-returns-clause-counts g c =
-    let state = g.D.Drive.state in
-    goes_on (rig_shown state c.args.self.now.machine).counters (rig_shown state c.read.new.machine).counters (all_counts state c.args.self.now.spare.items) c.read.ensures.counts
+returns-clause-counts g c = goes_on _ _ _ c.read.ensures.counts
 
 pub returns-clause-ready : goal.returns-clause-ready
-returns-clause-ready g c =
-    let state = g.D.Drive.state in
-    let items = c.args.self.now.spare.items in
-    let old = station_shown state c.args.self.now in
-    let new = shown c.read.new.self (rig_shown state c.read.new.machine) (length items) (all_counts state items) in
-    record {
-      idle = c.read.ensures.idle;
-      attached = c.read.ensures.attached;
-      flags = c.requires.ready.flags ∙ sym (flags_read old c.args.bay c.args.key c.args.address c.read.result new (c.read.ensures.step (length items) (all_counts state items)));
-      spare = c.requires.ready.spare;
-    }
+returns-clause-ready g c = record {
+  idle = c.read.ensures.idle;
+  attached = c.read.ensures.attached;
+  flags = c.requires.ready.flags ∙ sym (flags_read _ c.args.bay c.args.key c.args.address c.read.result _ (returns-clause-step g c));
+  spare = c.requires.ready.spare;
+}
