@@ -1,17 +1,19 @@
 """The verify of an image file.
 
-To find the geometry of a raw image by a survey takes longer than to read all its sectors. So the marks on its tracks are
-counted first, and its sectors are read by the geometry that has so many. Mostly that is all.
+The driver reads the sectors one after the other, and a survey, which finds the geometry of a raw image, takes even longer.
+Both are mostly spared. The export of a flat file reads a whole diskette at once, and refuses one that isn't whole. The
+geometry of a raw image can be told by the marks on its tracks.
 """
 from __future__ import annotations
 
 from collections.abc import Iterator
 from pathlib import Path
 
-from .disks import BAY, Disk, Verification
+from .codes import OutOfRange, Unfit
+from .disks import Disk, State, Verification
 from .geometry import NAMED, Geometry
-from .images import load
-from .media import Shape
+from .images import Image, load
+from .media import Shape, Tray
 
 # Each address field and each data field begins with three marks A1: these cells, at any cell of a track.
 RUN, RUN_BYTES = 0x448944894489, 6
@@ -22,26 +24,51 @@ HEADER = 14
 def verified(path: Path, named: Geometry | None = None) -> Verification:
     """Reads every sector of an image's geometry, and says which of them can't be read."""
     image = load(path, named)
-    guess = geometry_by_marks(image.tray.shape(), image.cells) if image.cells and named is None else None
-    with Disk.of(image.tray, named or image.geometry) as disk:
-        if guess is not None and all(refused is None for refused in disk.tried(BAY, guess.keys(), guess.n)):
-            return Verification(guess, guess.length // guess.size, ())
+    is_raw = image.geometry is None and bool(image.cells)
+    guess = geometry_by_first_track(image) if is_raw else image.geometry
+    if guess is not None and is_whole(image.tray, guess):
+        return Verification(guess, guess.length // guess.size, ())
+    by_marks = geometry_by_marks(image) if is_raw else None
+    with Disk.of(image.tray, image.geometry) as disk:
+        if by_marks is not None:
+            found = disk.verify_as(by_marks)
+            if all(sector.state is State.DAMAGED for sector in found.bad):
+                return found
         return disk.verify()
 
 
-def geometry_by_marks(shape: Shape, image: bytes) -> Geometry | None:
-    """The named geometry for whose sectors each track has two runs of marks, one before the address and one before the
-    data.
+def is_whole(tray: Tray, geometry: Geometry) -> bool:
+    """Whether a medium has all sectors of a geometry, all of them good, and no other sector. If it has, a flat file can
+    hold it."""
+    try:
+        tray.flat_as(*geometry)
+    except (Unfit, OutOfRange):
+        return False
+    return True
 
-    If all sectors of this geometry can be read, it is the one that a survey finds: each run belongs to one of these
-    sectors, so the tracks have no other address field."""
-    tracks = tracks_of(shape, image)
-    runs = count_runs(next(tracks))
+
+def geometry_by_first_track(image: Image) -> Geometry | None:
+    """The named geometry for whose sectors the first track of a raw image has two runs of marks, one before the address
+    and one before the data."""
+    shape = image.tray.shape()
+    runs = count_runs(next(tracks_of(shape, image.cells)))
     for geometry, _ in NAMED.values():
         is_like = (geometry.cylinders, geometry.heads, geometry.kilobits) == (shape.cylinders, shape.heads, shape.kilobits)
         if is_like and 2 * geometry.sectors == runs:
-            return geometry if all(count_runs(track) == runs for track in tracks) else None
+            return geometry
     return None
+
+
+def geometry_by_marks(image: Image) -> Geometry | None:
+    """The named geometry for whose sectors each track of a raw image has so many runs of marks.
+
+    If each sector of this geometry is there, although its data may be damaged, it is the geometry that a survey finds:
+    each run belongs to one of these sectors, so the tracks have no other address field."""
+    guess = geometry_by_first_track(image)
+    if guess is None:
+        return None
+    is_like = all(count_runs(track) == 2 * guess.sectors for track in tracks_of(image.tray.shape(), image.cells))
+    return guess if is_like else None
 
 
 def tracks_of(shape: Shape, image: bytes) -> Iterator[bytes]:

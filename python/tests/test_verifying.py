@@ -39,6 +39,19 @@ def with_plain_track(made: disks.Disk) -> disks.Disk:
     return made
 
 
+def with_deleted(made: disks.Disk) -> disks.Disk:
+    """The same diskette, with a sector that is marked deleted."""
+    made.write(4, bytes(512), deleted=True, track=3)
+    return made
+
+
+def without_data(made: disks.Disk) -> disks.Disk:
+    """The same diskette, on which the marks before the data of a sector are lost."""
+    place = disks.window_place(5) + 12
+    made.tracks[7][place:place + 3] = [0x9254] * 3
+    return made
+
+
 def bare(made: disks.Disk, track: int) -> disks.Disk:
     """The same diskette, with a track that isn't formatted."""
     made.tracks[track] = [0] * made.words
@@ -50,6 +63,8 @@ CASES = {
     "1.44M": (lambda: disks.formatted(80), "1.44M", (2880, 2880)),
     "720K": (lambda: disks.formatted(80, 250), "720K", (1440, 1440)),
     "a damaged sector": (lambda: damage(disks.formatted(80), 1, 0, 3), "1.44M", (2879, 2880)),
+    "a sector that is marked deleted": (lambda: with_deleted(disks.formatted(80)), "1.44M", (2880, 2880)),
+    "a sector without data": (lambda: without_data(disks.formatted(80)), None, (2879, 2880)),
     "words that begin at another cell": (lambda: turned(disks.formatted(80), 5), "1.44M", (2880, 2880)),
     "a field across the index": (lambda: turned(disks.formatted(80), 16 * 500), "1.44M", (2720, 2880)),
     "marks across the index": (lambda: turned(disks.formatted(80), 16 * 159), "1.44M", (2720, 2880)),
@@ -67,8 +82,9 @@ CASES = {
 def test_it_is_the_verify_of_the_survey(name: str) -> None:
     make, by_marks, (good, asked) = CASES[name]
     path = put("a.rt", make().file())
-    with load(path).tray as tray:
-        guess = geometry_by_marks(tray.shape(), tray.image())
+    image = load(path)
+    with image.tray:
+        guess = geometry_by_marks(image)
     assert (guess and guess.name) == by_marks
     found = verified(path)
     with Disk.open(path) as there:

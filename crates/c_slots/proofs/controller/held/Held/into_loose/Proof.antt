@@ -1,30 +1,11 @@
 -- `into_loose` moves two fields, and what they own goes with them.
-use Rattle.std.specs.Prelude.{◌≡◌, Option, Some}
-use Rattle.c_slots.proofs.Common.{ControllerValue, D, word, box_typed, box_out, box_in}
+use Rattle.c_slots.proofs.Common.{Option, Some, ControllerValue, D, word, box_typed, box_out, box_in, Ura, Val, SProp, ent, ftrue, fsep, Memory, Routine, WpFn, Tables, Logic, Fun, fact, tables, tables_of, WpFn-mono, Item, rewrite, raw, qed, by, move, drop, use1, join, split, fsplit, fjoin, suffices, done, whole, sub, agg, stop, fld, no_more, and_then, of_opd, returns, enter, alloc_all, pass_all, free_all, look_at, get, get_in, sets, yes, Slot, plain, type_at, heard, nothing, triple_of, entered, says, Stays, stay_dropped, walk_of, ends_at, Goes-dropped, walk_Meets}
+use Rattle.std.specs.Prelude.{◌≡◌}
 use Rattle.c_slots.specs.contracts.controller.held.Held as held
 use mathlib.Core.Path.{refl, sym, subst}
 use mathlib.Core.List.{List, [], ◌∷◌, ◌++◌}
-use seplogic.Ra.Ura.{Ura}
-use mir.Val.{Val}
-use base.Logic.{SProp, ent, id⊢}
-use base.Fml.{ftrue, fsep}
-use prog.Memory.{Memory}
-use prog.Routine.{Routine}
-use prog.Wp.{WpFn, Tables}
-use types.Logic.{Logic}
-use contract.Monad.{Fun, fact}
-use contract.Running.{tables, tables_of}
-use sound.WpLaws.{WpFn-mono}
-use types.Kit.{Item, rewrite, ‵, raw, ◌⊛◌, ◌$◌, ◌∵◌, !, qed, by, move, drop, use1, join, split, fsplit, fjoin, suffices, done}
-use types.Part.{whole, sub, agg}
-use types.Run.{stop, fld, no_more, and_then, of_opd, returns, enter}
-use types.ByLocal.{alloc_all, pass_all, free_all, look_at, get, get_in, sets}
-use denote.Exit.{yes}
-use denote.Signature.{Slot, plain, type_at}
-use denote.Steps.{heard, nothing}
-use denote.Triple.Spec.{triple_of}
-use denote.Triple.Table.{entered}
-use denote.Triple.Walked.{says, Stays, stay_dropped, walk_of, ends_at, Goes-dropped, walk_Meets}
+use base.Logic.{id⊢}
+use types.Kit.{‵, ◌⊛◌, ◌$◌, ◌∵◌, !}
 use Rattle.c_slots.proofs.Rows.{controller_box as E}
 use Rattle.c_slots.specs.contracts.controller.held.Held.into_loose as F
 use Rattle.c_slots.specs.contracts.controller.held.Held.into_loose.Key.{name as #self}

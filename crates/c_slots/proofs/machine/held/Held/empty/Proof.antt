@@ -1,36 +1,10 @@
 -- Written by tools/slots. Change proofs/controller/held/Held/empty/Proof.antt, of which this is a copy.
 -- `empty` owns nothing beside the handle.
-use Rattle.std.specs.Prelude.{None}
+use Rattle.c_slots.proofs.Common.{None, Ura, w64, Val, vint, vstruct, vcons, vnil, SProp, ent, emp, ftrue, fsep, Memory, Routine, WpFn, Tables, Logic, Fun, tables, tables_of, WpFn-mono, Item, raw, qed, by, move, keep, drop, join, split, fsplit, fjoin, fpack, feq_i, suffices, done, agg, lit, no_more, and_then, returns, enter, alloc_all, pass_all, free_all, look_at, get, sets, yes, RattleType, Valss, null_ptr, plain, nothing, within, shape, to, triple_of, entered, says, Stays, stay_dropped, walk_of, ends_at, Goes-dropped, walk_Meets, α, handle_tells, and_tt}
 use mathlib.Core.Path.{refl, sym, subst}
 use mathlib.Core.List.{List, [], ◌∷◌, ◌++◌}
 use lib.Dec.{lit<}
-use seplogic.Ra.Ura.{Ura}
-use mir.Syntax.{w64}
-use mir.Val.{Val, vint, vstruct, vcons, vnil}
-use base.Logic.{SProp, ent, emp}
-use base.Fml.{ftrue, fsep}
-use prog.Memory.{Memory}
-use prog.Routine.{Routine}
-use prog.Wp.{WpFn, Tables}
-use types.Logic.{Logic}
-use contract.Monad.{Fun}
-use contract.Running.{tables, tables_of}
-use sound.WpLaws.{WpFn-mono}
-use types.Kit.{Item, ‵, raw, ◌⊛◌, ◌$◌, ◌∵◌, !, qed, by, move, keep, drop, join, split, fsplit, fjoin, fpack, feq_i, suffices, done}
-use types.Part.{agg}
-use types.Run.{lit, no_more, and_then, returns, enter}
-use types.ByLocal.{alloc_all, pass_all, free_all, look_at, get, sets}
-use denote.Exit.{yes}
-use denote.RattleType.{RattleType, Valss}
-use denote.RawPtr.{null_ptr}
-use denote.Signature.{plain}
-use denote.Steps.{nothing}
-use denote.Struct.Struct.{within}
-use denote.Struct.Owning.{shape, to}
-use denote.Triple.Spec.{triple_of}
-use denote.Triple.Table.{entered}
-use denote.Triple.Walked.{says, Stays, stay_dropped, walk_of, ends_at, Goes-dropped, walk_Meets}
-use Rattle.c_slots.proofs.Common.{α, handle_tells, and_tt}
+use types.Kit.{‵, ◌⊛◌, ◌$◌, ◌∵◌, !}
 use Rattle.std.specs.contracts.alloc.Global as Heap
 use Rattle.c_slots.proofs.Rows.{machine_box as E}
 use Rattle.c_slots.specs.contracts.machine.held.Held as held
