@@ -1,26 +1,43 @@
--- Device steps in a row.
-use Rattle.std.proofs.Common.{◌≡◌, ◌≤◌, ◌<◌, ◌+◌, ℕ, suc, Bool, true, false, not, ◌&&◌, ◌||◌, if◌then◌else◌, ◌==◌, List, [], ◌∷◌, length, take, Option, None, Some, refl, sym, subst, inr, length-append, ap, ◌∙◌, inl, arith, length-take-le}
-use Rattle.fdc_core.proofs.Common.{false≢true, DriveState, Becomes, at_index, passed, rate_of, word_under, ahead_same, becomes_at, wants, Search, HearsNothing, DataRate, ReadId, Read, Write, Writing, StageHearsWord, gone_on, after_next, Reading, head_of, write_at, rate_fits, seen_of, at_stage, gone_on_reading, Seeking, with_polls, has_ended, is_seeking, stepped_seek, pulse_of, pulse_due, Execution, Phase, Command, Execute, Result, PassesMany, Works, HoldsLines, IsStill, IsQuiet, comes_poll, SeesUnder, StepsOn, Listens, ListensToNone, is_held, polled, seek_stepped, let_pass, Rests, RestsIn, Moves, MovesDrive, MovesIn, Ends, EndsIn, Stays, Flows, FlowsIn, StepsNowhere, TaskSteps, LastsOn, LastsIn, WritesOn, Fdc}
+-- A word that passes by a search, in place.
+use Rattle.std.proofs.Common.{◌≡◌, ◌<◌, ℕ, ◌+◌, Bool, false, sym, ap, subst, ◌∙◌, inr, ◌≤◌, suc, true, not, ◌&&◌, ◌||◌, if◌then◌else◌, ◌==◌, List, [], ◌∷◌, length, take, Option, None, Some, refl, length-append, inl, arith, length-take-le}
+use Rattle.fdc_core.proofs.Common.{DriveState, Phase, Execute, Read, Reading, heard, IsReading, PassesBy, ReadStage, HearsIn, StepsOn, at_stage, gone_on_reading, ExecutionSteps, Fdc, false≢true, Becomes, at_index, passed, rate_of, word_under, ahead_same, becomes_at, wants, Search, HearsNothing, DataRate, ReadId, Write, Writing, StageHearsWord, gone_on, after_next, head_of, write_at, rate_fits, seen_of, Seeking, with_polls, has_ended, is_seeking, stepped_seek, pulse_of, pulse_due, Execution, Command, Result, PassesMany, Works, HoldsLines, IsStill, IsQuiet, comes_poll, SeesUnder, Listens, ListensToNone, is_held, polled, seek_stepped, let_pass, Rests, RestsIn, Moves, MovesDrive, MovesIn, Ends, EndsIn, Stays, Flows, FlowsIn, StepsNowhere, TaskSteps, LastsOn, LastsIn, WritesOn}
 use Rattle.std.specs.Option.{option_map_or}
 use Rattle.drive_model.specs.Ahead.{LetsPass, AreAhead}
-use Rattle.fdc_stages.specs.declared.reading.ReadStage.TheVariants as stages
 use Rattle.fdc_stages.specs.Searches.{HearsNothingIn}
-use Rattle.fdc_stages.specs.declared.writing.WriteStage.TheVariants as write_stages
-use Rattle.fdc_stages.specs.declared.writing.WriteNext.TheVariants as write_next
-use Rattle.fdc_stages.specs.Searches as searched
-use Rattle.fdc_core.proofs.Words.{heard_time}
-use Rattle.fdc_core.proofs.Following.{at_reading}
-use Rattle.fdc_core.proofs.Passing.{passed_by}
+use Rattle.fdc_core.proofs.Words.{heard_time, at_reading}
 use Rattle.fdc_commands.specs.declared.motion.Motion.{Motion}
 use Rattle.fdc_commands.specs.declared.motion.Motion.TheVariants.{Ended}
 use Rattle.fdc_commands.specs.declared.motion.Seek.{Seek}
 use Rattle.fdc_phases.specs.declared.answers.Answer.{Answer}
 use Rattle.fdc_core.specs.Courses.{Courses}
-use Rattle.fdc_core.proofs.Ending.{executes_left}
-use Rattle.fdc_core.proofs.Hearing.{executes_hears, rests_follows, rests_hears}
-use Rattle.fdc_core.proofs.Staying.{executes_stays, executes_flows, executes_moves, same_stays}
+use Rattle.fdc_core.proofs.Staying.{executes_stays, executes_flows, executes_moves, same_stays, executes_left}
 use Rattle.fdc_core.proofs.Waiting.{executes_lasts}
-use Rattle.fdc_core.proofs.Writes.{executes_writes, rests_writes}
+use Rattle.fdc_core.proofs.Feeding.{executes_hears, rests_follows, rests_hears, executes_writes, rests_writes}
+use Rattle.fdc_stages.specs.Readings as given
+use Rattle.fdc_stages.specs.declared.reading.ReadStage.TheVariants as stages
+use Rattle.fdc_stages.specs.declared.writing.WriteStage.TheVariants as write_stages
+use Rattle.fdc_stages.specs.declared.writing.WriteNext.TheVariants as write_next
+use Rattle.fdc_stages.specs.Searches as searched
+
+-- the word passed by
+pub passed_by : (head_drive steps word : ℕ) (index : Bool) (reading : Reading) (next : ReadStage) (old new : Fdc) → steps < 65535 → index ≡ false
+    → PassesBy word reading.stage next → new ≡ gone_on_reading head_drive (steps + 1) (at_stage reading next) old → StepsOn head_drive steps (Read reading) index word old new
+passed_by head_drive steps word index reading next old new few is passes after =
+    inr (few, (given.On next, ((λ past told reads. subst (λ i. IsReading (heard i word past) reading.wanted.key told next) (sym is) (passes.0 past reading.wanted.key told reads)), tt, passes.1), after))
+
+-- the word didn't pass by, and is heard
+pub heard_after : (head_drive steps word : ℕ) (index : Bool) (reading : Reading) (after : ReadStage) (old new : Fdc) → steps < 65535 → after ≡ reading.stage
+    → old.phase ≡ Execute (record { head_drive = head_drive; steps = steps; task = Read reading })
+    → HearsIn (at_reading head_drive steps (at_stage reading after) old).phase index word (at_reading head_drive steps (at_stage reading after) old) new → StepsOn head_drive steps (Read reading) index word old new
+heard_after head_drive steps word index reading after old new few same at hears =
+    let is : at_reading head_drive steps (at_stage reading after) old ≡ old = ap (λ stage. at_reading head_drive steps (at_stage reading stage) old) same ∙ ap (λ phase. record old { phase = phase }) (sym at) in
+    inr (few, subst (λ phase. HearsIn phase index word old new) at (subst (λ fdc. HearsIn fdc.phase index word fdc new) is hears))
+
+-- another command
+pub steps_same : (old new : Fdc) (before after : DriveState) (phase : Phase) → old.phase ≡ phase → ExecutionSteps phase (record old { phase = phase }) before after new → ExecutionSteps old.phase old before after new
+steps_same old new before after phase is steps = subst (λ fdc. ExecutionSteps fdc.phase fdc before after new) (ap (λ p. record old { phase = p }) (sym is)) steps
+
+-- ---- device steps in a row
 
 -- ---- no poll comes
 

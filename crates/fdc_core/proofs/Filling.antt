@@ -1,18 +1,18 @@
 -- How long a write that has met its address field surely leaves both lines as they are.
-use Rattle.std.proofs.Common.{◌≡◌, ◌≤◌, ◌<◌, ◌+◌, ◌-◌, ℕ, zero, suc, Bool, true, false, min, if◌then◌else◌, List, [], ◌∷◌, length, take, drop, None, Some, refl, sym, ap, subst, ◌∙◌, inl, inr, arith, length-append, length-take-le}
-use Rattle.fdc_core.proofs.Common.{cases_lt, false≢true, nat_tests, AreAhead, DriveState, at_index, is_protected, passed, rate_of, Chrn, content_size, with_word, Fifo, wants, Past, heard, wrote, opens, is_due, is_open, needs_byte, handed_with, heard_where, HasNext, HasWritten, IsWriting, Ending, Done, NoMark, NoSector, NoField, BadCheck, Overrun, NoCount, Protected, Late, Search, WriteNext, WriteStage, Sent, MayReadIdIn, MayReadIdTask, MayReadIn, MayReadTask, MayWriteIn, MayWriteTask, MayFormatIn, MayFormatTask, head_of, write_at, rate_fits, Execution, Execute, Write, Writing, IsQuiet, Foresees, HasSupply, IsQuietBy, WordTime, Saw, KeptOut, Wrote, Stopped, IsTime, HearsWord, PutsWord, Stops, WriteDoes, Works, after_next, byte_taken, fifo_without, oldest_of, without_byte, Fdc}
+use Rattle.std.proofs.Common.{◌≡◌, ◌≤◌, ◌<◌, ◌+◌, ◌-◌, ℕ, zero, suc, Bool, true, false, min, if◌then◌else◌, List, [], ◌∷◌, length, take, None, refl, sym, ap, subst, ◌∙◌, inl, inr, arith, length-append, length-take-le}
+use Rattle.fdc_core.proofs.Common.{cases_lt, false≢true, nat_tests, AreAhead, DriveState, at_index, is_protected, passed, rate_of, Chrn, content_size, Fifo, wants, Past, heard, wrote, opens, is_due, is_open, needs_byte, handed_with, heard_where, HasNext, HasWritten, IsWriting, Ending, Done, NoMark, NoSector, NoField, BadCheck, Overrun, NoCount, Protected, Late, Search, WriteNext, WriteStage, head_of, write_at, rate_fits, Execution, Execute, Write, Writing, IsQuiet, Foresees, HasSupply, IsQuietBy, WordTime, Saw, KeptOut, Wrote, Stopped, IsTime, HearsWord, PutsWord, Stops, WriteDoes, after_next, byte_taken, fifo_without, oldest_of, without_byte, Fdc}
 use Rattle.std.proofs.lemmas.Bool.{le-ltb, lt-ltb}
 use Rattle.std.proofs.lemmas.List.{drop-drop}
 use Rattle.fdc_stages.specs.Windows.{count_from, bytes_from, is_content, words_with}
 use Rattle.fdc_stages.specs.Writings.{EndsWell, IsEnd, bytes_ahead, count_ahead, is_search}
 use Rattle.fdc_stages.specs.declared.window.Part.{Part}
-use Rattle.fdc_stages.specs.declared.window.Part.TheVariants as parts
-use Rattle.fdc_stages.specs.declared.writing.WriteNext.TheVariants as given
-use Rattle.fdc_stages.specs.declared.writing.WriteStage.TheVariants as stages
 use Rattle.track_model.proofs.Written.{length-window}
 use Rattle.fdc_core.proofs.Foreseeing.{foresees_write, some_words}
 use Rattle.fdc_core.proofs.Quieting.{some_none}
 use Rattle.fdc_core.proofs.Turning.{EachTurnsOn, GoesOnTurning, TurnsAs, heard_as, quiet_turning, write_time, wrote_as}
+use Rattle.fdc_stages.specs.declared.window.Part.TheVariants as parts
+use Rattle.fdc_stages.specs.declared.writing.WriteNext.TheVariants as given
+use Rattle.fdc_stages.specs.declared.writing.WriteStage.TheVariants as stages
 
 -- ---- the FIFO
 

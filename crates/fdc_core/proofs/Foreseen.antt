@@ -1,13 +1,13 @@
 -- How long a READ ID and a READ DATA surely leave both lines as they are.
 use Rattle.std.proofs.Common.{◌≡◌, ◌≤◌, ◌<◌, ◌+◌, ◌-◌, ℕ, zero, suc, Bool, true, false, ◌==◌, List, [], ◌∷◌, ◌++◌, length, take, None, Some, refl, sym, ap, subst, ◌∙◌, inl, inr, arith, length-append, length-take-le}
 use Rattle.fdc_core.proofs.Common.{AreAhead, DriveState, InRange, rate_of, Chrn, IsDataMark, content_size, Separator, IsPart, with_word, address_stays, data_mark_stays, part_with_word, reads_mark, Fifo, room_of, wants, Past, heard, HasMark, HasRead, IsBareField, IsContent, IsFailure, IsReading, KeepsMark, ReadOutcome, mark_at, IsSearching, Ending, Done, NoMark, NoSector, NoField, BadCheck, Overrun, NoCount, Protected, Late, ReadStage, Search, over_full, Sent, MayReadIdIn, MayReadIdTask, MayReadIn, MayReadTask, MayWriteIn, MayWriteTask, MayFormatIn, MayFormatTask, Numbers, head_of, rate_fits, Execution, Execute, ReadId, Read, Reading, HasRoom, with_bytes, IsQuiet, StageHears, StepsOn, Foresees, HasBytesLeft, HasNoneWanted, HasSingle, IsCertain, IsCertainOf, IsQuietBy, IsUnmarked, MarksNothing, MayBeMarked, MeetsNothing, past_with, after_heard, after_searched, at_stage, gone_on_reading, is_full, Fdc}
-use Rattle.fdc_stages.specs.Readings as given
-use Rattle.fdc_stages.specs.declared.reading.ReadStage.TheVariants as stages
 use Rattle.fdc_core.proofs.Coursing.{id_at}
-use Rattle.fdc_core.proofs.Following.{at_reading}
 use Rattle.fdc_core.proofs.Foreseeing.{EachGoesOnWith, GoesOnWith, calm_told, hears_ahead, quiet_by, some_words}
 use Rattle.fdc_core.proofs.Quieting.{begins_part, first_none, first_unmarked, plain_none, plain_unmarked, reads_on, searches_on, some_none, some_seen}
 use Rattle.fdc_core.proofs.Taking.{by_space, content_at, content_goes_on, not_full, room_behind, room_down, with_none}
+use Rattle.fdc_core.proofs.Words.{at_reading}
+use Rattle.fdc_stages.specs.Readings as given
+use Rattle.fdc_stages.specs.declared.reading.ReadStage.TheVariants as stages
 
 -- ---- READ ID
 

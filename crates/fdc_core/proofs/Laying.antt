@@ -1,17 +1,17 @@
 -- How long a FORMAT surely leaves both lines as they are.
-use Rattle.std.proofs.Common.{◌≡◌, ◌≤◌, ◌<◌, ◌+◌, ◌-◌, ℕ, zero, suc, Bool, true, false, List, [], ◌∷◌, length, replicate, take, drop, IfSome, Option, None, Some, refl, sym, ap, subst, ◌∙◌, arith, length-append, length-take-le}
-use Rattle.fdc_core.proofs.Common.{false≢true, length-replicate, AreAhead, DriveState, at_index, is_protected, passed, rate_of, Chrn, with_word, Fifo, wants, Past, heard, wrote, Numbers, HasFormatted, IsFormatting, Takes, is_next, handed_with, heard_where, Ending, Done, NoMark, NoSector, NoField, BadCheck, Overrun, NoCount, Protected, Late, FormatNext, FormatPart, Due, Lay, FormatStage, MayFormatTask, format_at, head_of, rate_fits, Execution, Execute, Format, Formatting, IsQuiet, Foresees, HasSupply, IsQuietBy, LaysWith, WordTime, Saw, KeptOut, Wrote, Stopped, IsTime, FormatDoes, after_laid, fifo_without, without_byte, Fdc}
+use Rattle.std.proofs.Common.{◌≡◌, ◌≤◌, ◌<◌, ◌+◌, ◌-◌, ℕ, suc, Bool, true, false, List, [], ◌∷◌, length, replicate, take, drop, refl, sym, ap, subst, ◌∙◌, arith, length-append, length-take-le}
+use Rattle.fdc_core.proofs.Common.{false≢true, length-replicate, AreAhead, DriveState, at_index, is_protected, passed, rate_of, Chrn, Fifo, wants, Past, heard, wrote, Numbers, HasFormatted, IsFormatting, Takes, is_next, handed_with, heard_where, Ending, Done, NoMark, NoSector, NoField, BadCheck, Overrun, NoCount, Protected, Late, FormatNext, FormatPart, Due, Lay, FormatStage, format_at, head_of, rate_fits, Execution, Execute, Format, Formatting, IsQuiet, Foresees, HasSupply, IsQuietBy, LaysWith, WordTime, Saw, KeptOut, Wrote, Stopped, IsTime, FormatDoes, after_laid, fifo_without, without_byte, Fdc}
 use Rattle.fdc_core.specs.Formatting.{HearsFormat, LaysWord}
 use Rattle.fdc_stages.proofs.Among.{keys_grow, laid_among, takes_among}
 use Rattle.fdc_stages.specs.Among.{keys_among}
-use Rattle.fdc_stages.specs.Formats as formats
-use Rattle.fdc_stages.specs.declared.formatting.FormatNext.TheVariants as given
-use Rattle.fdc_stages.specs.declared.formatting.FormatPart.TheVariants as parts
 use Rattle.fdc_stages.specs.Common.{FormatStream}
 use Rattle.fdc_core.proofs.Filling.{length-handed, none_stops, one_if, supply_after, without_is}
 use Rattle.fdc_core.proofs.Foreseeing.{foresees_format, some_words}
 use Rattle.fdc_core.proofs.Quieting.{some_seen}
 use Rattle.fdc_core.proofs.Turning.{EachTurnsOn, GoesOnTurning, TurnsAs, format_time, heard_as, quiet_turning, wrote_as}
+use Rattle.fdc_stages.specs.Formats as formats
+use Rattle.fdc_stages.specs.declared.formatting.FormatNext.TheVariants as given
+use Rattle.fdc_stages.specs.declared.formatting.FormatPart.TheVariants as parts
 
 -- ---- a word that a FORMAT hears
 

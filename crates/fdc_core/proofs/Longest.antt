@@ -6,8 +6,6 @@ use Rattle.fdc_stages.specs.Formats.{is_due as is_laid}
 use Rattle.fdc_stages.specs.Windows.{words_with}
 use Rattle.fdc_stages.specs.Writings.{bytes_ahead, count_ahead, is_search}
 use Rattle.track_model.specs.Windows.{window_word}
-use Rattle.fdc_stages.specs.declared.reading.ReadStage.TheVariants as stages
-use Rattle.fdc_stages.specs.declared.writing.WriteStage.TheVariants as writes
 use Rattle.std.proofs.lemmas.Bool.{le-ltb, lt-ltb}
 use Rattle.fdc_stages.proofs.Among.{keys_bound, keys_grow}
 use Rattle.fdc_stages.specs.Among.{content_among}
@@ -15,6 +13,8 @@ use Rattle.fdc_core.proofs.Filling.{due_numbers, found_numbers}
 use Rattle.fdc_core.proofs.Foreseen.{told_nothing}
 use Rattle.fdc_core.proofs.Foreseeing.{HoldsOfFirst, some_words}
 use Rattle.fdc_core.proofs.Quieting.{first_none, first_unmarked, some_none}
+use Rattle.fdc_stages.specs.declared.reading.ReadStage.TheVariants as stages
+use Rattle.fdc_stages.specs.declared.writing.WriteStage.TheVariants as writes
 
 not_more : (a b : ℕ) → (b < a → ⊥) → a ≤ b
 not_more a b never = elim (cases_lt b a) [

@@ -1,12 +1,12 @@
 -- What a device step, a transfer and the terminal count leave of a write and of a FORMAT.
 use Rattle.std.proofs.Common.{◌≡◌, ℕ, zero, ◌+◌, Bool, true, false, if◌then◌else◌, ◌==◌, List, [], ◌∷◌, ◌++◌, length, replicate, drop, Option, Some, None, refl, sym, ap, subst, ◌∙◌, arith, inl, inr, append_assoc, append-nil}
 use Rattle.fdc_core.proofs.Common.{false≢true, replicate_more, Chrn, DriveState, is_protected, Fifo, room_of, Past, heard, kept_out, wrote, Ending, Done, Overrun, Protected, Late, Numbers, IsFormatting, is_open, opens, is_due, needs_byte, handed_with, heard_where, IsWriting, HasNext, IsStopped, FormatNext, FormatPart, Due, Lay, WriteNext, WriteStage, stopped_written, stopped_formatted, key_after, results_of, no_key, asking_told, fifo_told, with_byte, task_asks, task_told, phase_asks, phase_told, FormatDoes, after_laid, Sent, stepped, told_in, is_executing, is_read, is_reading, moves_bytes, is_moving, WordTime, Saw, KeptOut, Wrote, Stopped, after_time, WriteDoes, Stops, after_next, oldest_of, byte_taken, without_byte, MayWrite, MayFormat, took, IsHanded, write_sent, MayWriteIn, MayWriteTask, MayFormatIn, MayFormatTask, Long, Fdc, Phase, Command, Execute, Result, Task, ReadId, Read, Write, Format, Formatting, Writing}
+use Rattle.fdc_phases.proofs.AtFirst.{rule_room}
+use Rattle.fdc_phases.specs.Written.{IsContent}
 use Rattle.fdc_stages.specs.Formats as formats
 use Rattle.fdc_stages.specs.declared.formatting.FormatNext.TheVariants as format_next
 use Rattle.fdc_stages.specs.declared.writing.WriteNext.TheVariants as write_next
 use Rattle.fdc_stages.specs.declared.writing.WriteStage.TheVariants as stages
-use Rattle.fdc_phases.proofs.AtFirst.{rule_room}
-use Rattle.fdc_phases.specs.Written.{IsContent}
 
 -- ---- bytes from memory
 

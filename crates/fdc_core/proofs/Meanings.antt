@@ -1,10 +1,10 @@
 -- What follows from what is known of a command.
 use Rattle.std.proofs.Common.{◌≡◌, ℕ, Bool, true, false, not, List, ◌++◌, length, refl, sym, ◌∙◌, ap, subst, None, Some}
 use Rattle.fdc_core.proofs.Common.{false≢true, append-nil, Chrn, IsSizeCode, Past, HasFewTurns, HasIdentified, IsStart, IsReading, IsToldOf, Ending, Done, NoMark, NoSector, NoField, BadCheck, NoCount, ReadStage, over_told, over_full, reading_told, searching_few, MayRead, MayReadId, Sent, MayReadIn, MayReadTask, MayReadIdIn, MayReadIdTask, HasEndedAs, is_over, Long, Fdc, Phase, Execute, Result, Task, ReadId, Read}
-use Rattle.fdc_stages.specs.declared.reading.ReadStage.TheVariants as stages
 use Rattle.fdc_stages.proofs.Causes.{found_of, bad_check_of, no_field_of, no_mark_of, no_sector_of}
 use Rattle.fdc_core.specs.Meaning.{ReadMeans, ReadMeansIn, FindsUncounted, ReadGives, AreOfField, bytes_held, IdMeans, IdMeansIn, PacedIn, IsPaced, is_hearing}
 use Rattle.fdc_core.proofs.MayRead.{starts}
+use Rattle.fdc_stages.specs.declared.reading.ReadStage.TheVariants as stages
 
 -- ---- READ DATA
 

@@ -1,11 +1,11 @@
 -- A word of a window, written in place.
 use Rattle.std.proofs.Common.{◌≡◌, ◌<◌, ◌≤◌, ◌+◌, ℕ, zero, Bool, true, false, List, Option, None, Some, IfSome, refl, sym, ap, subst, ◌∙◌, arith}
 use Rattle.fdc_core.proofs.Common.{false≢true, DriveState, Chrn, Fifo, Past, lead_behind, is_open, is_due, opens, needs_byte, is_last, lead_of, rest_behind, handed_with, IsWriting, IsNextWord, WriteStage, head_of, write_at, StageWritesWord, EndsWord, is_ended, write_over, write_end, Execute, Write, Writing, finished, Opens, Closes, after_next, gone_or_over, is_end, byte_taken, without_byte, fifo_without, PutsByte, IsWriteStep, Fdc}
-use Rattle.fdc_stages.specs.declared.writing.WriteStage.TheVariants as stages
 use Rattle.fdc_stages.specs.declared.writing.WriteWord.{WriteWord}
 use Rattle.fdc_phases.specs.declared.phases.End.{End}
 use Rattle.fdc_core.proofs.Laid.{WritesOne}
 use Rattle.fdc_core.proofs.Words.{wrote_time}
+use Rattle.fdc_stages.specs.declared.writing.WriteStage.TheVariants as stages
 
 open_due : (stage : WriteStage) → is_open stage ≡ true → is_due stage ≡ true
 open_due (stages.Window now) is = refl

@@ -2,11 +2,11 @@
 use Rattle.std.proofs.Common.{◌≡◌, ◌≤◌, ◌<◌, ◌+◌, ◌*◌, ℕ, Bool, true, false, List, [], ◌∷◌, ◌++◌, length, take, get_or, Option, None, Some, is_some, refl, sym, ap, subst, ◌∙◌, inl, inr, arith, length-append}
 use Rattle.fdc_core.proofs.Common.{append-nil, append_assoc, get_or_append_left, take_more, false≢true, Spends, last_count, Chrn, AreAhead, DriveState, Becomes, passed, rate_of, word_under, ahead_same, IsDataMark, content_size, IsPlain, IsPart, with_word, address_stays, data_mark_stays, length-with_word, reads_mark, waits_early, waits_mark, Past, heard, HasNoClear, HasSearched, IsMiss, IsMissed, IsSearching, IsSearchingIn, SearchOutcome, HasHeard, HasRead, HearsByte, IsFailure, IsReading, ReadOutcome, mark_at, read_outcome, Ending, Done, NoMark, NoSector, NoField, BadCheck, Overrun, NoCount, Protected, Late, ReadHeard, ReadStage, Search, over_full, reading_told, told_most, rate_fits, seen_of, DataRate, SearchHears, SeesUnder, StageHears, HasBytesLeft, HasNoneWanted, HasSingle, IsUnmarked, MayBeMarked, MeetsNothing, past_with, let_pass}
 use Rattle.std.proofs.lemmas.Nat.{pow_pos}
+use Rattle.fdc_core.proofs.AddressHeard.{same_words}
 use Rattle.fdc_stages.specs.Searches as searched
 use Rattle.fdc_stages.specs.Readings as given
 use Rattle.fdc_stages.specs.declared.reading.ReadHeard.TheVariants as answers
 use Rattle.fdc_stages.specs.declared.reading.ReadStage.TheVariants as stages
-use Rattle.fdc_core.proofs.AddressHeard.{same_words}
 
 -- ---- the words
 

@@ -2,13 +2,13 @@
 use Rattle.std.proofs.Common.{◌≡◌, ◌≤◌, ◌<◌, ◌+◌, ℕ, suc, Bool, true, false, if◌then◌else◌, ◌==◌, List, [], ◌∷◌, ◌++◌, append_assoc, length, length-append, length-take-le, take, get_or, refl, sym, subst, ap, ◌∙◌, inl, inr, arith}
 use Rattle.fdc_core.proofs.Common.{false≢true, ne_eqb, append-nil, take_more, DriveState, Becomes, at_index, rate_of, word_under, Fifo, room_of, wants, Overrun, ReadStage, IsContent, HearsByte, Execute, Read, Reading, head_of, DataRate, rate_fits, seen_of, with_bytes, TakesByte, TakesBytes, HasSpace, HasRoom, TakesMany, IsQuiet, Works, StepsOn, at_stage, gone_on_reading, pushed, is_full, finished, let_pass, Fdc}
 use Rattle.drive_model.specs.Ahead.{LetsPass, AreAhead}
-use Rattle.fdc_stages.specs.declared.reading.ReadStage.TheVariants as stages
 use Rattle.fdc_stages.specs.Readings.{HearsBytes}
-use Rattle.fdc_stages.specs.Readings as given
 use Rattle.fdc_stages.proofs.Bytes.{hears_none, hears_more}
 use Rattle.fdc_core.specs.Courses.{Courses}
-use Rattle.fdc_core.proofs.Following.{at_reading}
 use Rattle.fdc_core.proofs.Coursing.{works_on, ahead_first, ahead_behind, passes_calmly}
+use Rattle.fdc_core.proofs.Words.{at_reading}
+use Rattle.fdc_stages.specs.declared.reading.ReadStage.TheVariants as stages
+use Rattle.fdc_stages.specs.Readings as given
 
 -- ---- bytes to the FIFO
 

@@ -1,9 +1,9 @@
 -- The index comes to a drive that is written on as to one that is let alone. So device steps in a row before it can be
 -- counted by the words that are ahead.
 use Rattle.std.proofs.Common.{◌≡◌, ◌≤◌, ◌<◌, ◌+◌, ℕ, zero, suc, Bool, true, false, if◌then◌else◌, List, [], ◌∷◌, length, Option, None, Some, is_some, refl, sym, ap, subst, ◌∙◌, inl, inr, arith}
-use Rattle.fdc_core.proofs.Common.{DriveState, Becomes, Writes, at_index, can_write, is_protected, passed, rate_of, rewritten, with_gate, Fdc, Execute, Task, Write, Writing, Format, Formatting, DataRate, rate_fits, HoldsLines, Works, IsQuietBy, IsWriteTime, IsFormatTime, WritesIn, WritesOn, IsHeardTime, IsWroteTime, Opens, Closes, let_pass, polled, Disk, with_word_on}
+use Rattle.fdc_core.proofs.Common.{DriveState, Becomes, Writes, at_index, can_write, passed, rate_of, rewritten, with_gate, Fdc, Execute, Task, Write, Writing, Format, Formatting, DataRate, rate_fits, HoldsLines, Works, IsQuietBy, IsWriteTime, IsFormatTime, WritesIn, WritesOn, IsHeardTime, IsWroteTime, Opens, Closes, let_pass, polled, Disk, with_word_on}
 use Rattle.drive_model.specs.Ahead.{AreAhead}
-use Rattle.drive_model.specs.Drive.{at_speed, has_track, track_words, written, cut_off, can_replace}
+use Rattle.drive_model.specs.Drive.{at_speed, track_words, written, cut_off, can_replace}
 use Rattle.fdc_core.specs.Quiet.{WorksBy}
 use Rattle.fdc_core.proofs.Coursing.{none_comes, unpolled}
 

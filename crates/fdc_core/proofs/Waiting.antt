@@ -1,9 +1,10 @@
 -- No byte finds the FIFO full or is missing while the controller can wait.
 use Rattle.std.proofs.Common.{◌≡◌, ◌≤◌, ℕ, ◌+◌, ◌-◌, Bool, true, false, not, ◌&&◌, if◌then◌else◌, ◌==◌, List, [], ◌∷◌, length, Option, Some, refl, sym, ap, subst, ◌∙◌, arith, inl, inr, length-append, length-drop}
 use Rattle.fdc_core.proofs.Common.{false≢true, eqb-true, DriveState, at_index, is_protected, room_of, with_polls, Ending, Done, Overrun, Late, ReadOutcome, Search, SearchOutcome, is_content, lead_from, lead_of, needs_byte, FormatNext, WriteNext, WriteStage, Chrn, key_after, no_key, FormatDoes, after_laid, StepsOn, FindsFull, ending_of, is_overrun, overran, after_searched, after_heard, over_or_on, gone_on_reading, at_stage, pushed, is_full, finished, is_held, polled, TaskSteps, WordTime, Saw, KeptOut, Wrote, Stopped, CanWait, Lasts, LastsIn, LastsOn, task_counted, phase_counted, TaskWaits, WriteDoes, Stops, after_next, oldest_of, without_byte, Fdc, Execution, Phase, Command, Execute, Result, Reading, Task, ReadId, Read, Write, Format, Formatting, Writing}
+use Rattle.fdc_stages.specs.declared.window.Part.{Part}
+use Rattle.fdc_core.proofs.Feeding.{hears_overruns}
 use Rattle.fdc_stages.specs.Readings as heard
 use Rattle.fdc_stages.specs.Searches as searched
-use Rattle.fdc_stages.specs.declared.window.Part.{Part}
 use Rattle.fdc_stages.specs.declared.window.Part.TheVariants as parts
 use Rattle.fdc_stages.specs.Leads as format_leads
 use Rattle.fdc_stages.specs.Writings as writings
@@ -11,7 +12,6 @@ use Rattle.fdc_stages.specs.Formats as formats
 use Rattle.fdc_stages.specs.declared.formatting.FormatNext.TheVariants as format_next
 use Rattle.fdc_stages.specs.declared.writing.WriteNext.TheVariants as write_next
 use Rattle.fdc_stages.specs.declared.writing.WriteStage.TheVariants as stages
-use Rattle.fdc_core.proofs.Hearing.{hears_overruns}
 
 -- what a step leaves: a controller that can wait, and to which the terminal count has come if it had come before
 record Leaves (slack : ℕ) (counted : Bool) (new : Fdc) : Type 0 where

@@ -1,4 +1,3 @@
-pub mod FollowedWrites
 pub mod PassedTimes
 pub mod Facts
 pub mod Hearing
@@ -6,11 +5,5 @@ pub mod Shifted
 pub mod Fields
 pub mod Turns
 pub mod Passing
-pub mod Written
 pub mod WritingWords
 pub mod Writing
-pub mod Looks
-pub mod Late
-pub mod LateFields
-pub mod Spinning
-pub mod Certain

@@ -1,7 +1,7 @@
 -- How many of the first words of a layout are bytes of sector IDs: as many as were handed in, whatever the sector IDs are.
-use Rattle.std.proofs.Common.{◌≡◌, ℕ, zero, suc, ◌+◌, ◌-◌, ◌≤◌, Bool, true, false, List, [], ◌∷◌, ◌++◌, length, map, take, drop, refl, sym, ap, subst, ◌∙◌, arith, length-append}
+use Rattle.std.proofs.Common.{◌≡◌, ℕ, zero, suc, ◌+◌, ◌-◌, ◌≤◌, Bool, true, false, List, [], ◌∷◌, ◌++◌, length, map, take, drop, refl, sym, ap, ◌∙◌, arith, length-append}
 use Rattle.std.proofs.lemmas.List.{map-append, take-map, take-append-drop}
-use Rattle.fdc_stages.proofs.Common.{drop-drop, flat_map, Chrn, Symbol, Byte, Key, content_size, address_content, data_content, sector_symbols, AsksKey, FormatStream, asked-track, asked_first, Numbers, keys_from, symbols_of, IsLaid, StreamTakes}
+use Rattle.fdc_stages.proofs.Common.{drop-drop, flat_map, Chrn, Symbol, Byte, Key, content_size, sector_symbols, FormatStream, asked-track, asked_first, Numbers, keys_from, symbols_of, IsLaid, StreamTakes}
 use Rattle.fdc_stages.specs.Among.{keys_among}
 use Rattle.track_format.proofs.Asked.{asked-append}
 use Rattle.track_format.specs.Keys.{asked_in}

@@ -43,10 +43,10 @@ pub use Rattle.fdc_core.proofs.MayRead.{out_reads, same_stage, starts, starts_gi
 pub use Rattle.fdc_core.proofs.MayWrite.{in_formats, in_writes, told_formats, told_writes, writes_on}
 pub use Rattle.fdc_core.proofs.Tellings.{format_tells, lays_track, write_tells, writes_window}
 pub use Rattle.fdc_core.proofs.drives.Fields.{address_heard, data_field_on, data_mark_back, data_mark_heard, data_mark_on, field_heard, intact_on, whole_back, whole_shifted}
-pub use Rattle.fdc_core.proofs.drives.Late.{few_led, heard_led, led_none, length_front, longer_led, passed_by, still_unheard, time_led, turn_of_led}
-pub use Rattle.fdc_core.proofs.drives.LateFields.{address_in, address_late, found_late}
+pub use Rattle.fdc_core.proofs.drives.Shifted.{few_led, heard_led, led_none, length_front, longer_led, passed_by, still_unheard, time_led, turn_of_led}
+pub use Rattle.fdc_core.proofs.drives.Fields.{address_in, address_late, found_late}
 pub use Rattle.fdc_core.proofs.drives.Shifted.{shifted_bytes_at}
-pub use Rattle.fdc_core.proofs.drives.Spinning.{hearing_none, hears_none, no_index, no_index as spins_on, slow_or_fast, turning_on}
+pub use Rattle.fdc_core.proofs.drives.Shifted.{hearing_none, hears_none, no_index, no_index as spins_on, slow_or_fast, turning_on}
 pub use Rattle.fdc_core.proofs.drives.Turns.{between_is, turn_heard}
 pub use Rattle.fdc_core.proofs.drives.Writing.{drive_less, kept_on, rests_on, saw_on, still_unprotected, stopped_on, wrote_on}
 pub use Rattle.fdc_core.proofs.drives.WritingWords.{heard_met}

@@ -5,7 +5,7 @@ use Rattle.sector_map.specs.Met.{HasLook}
 use Rattle.laws_chip.proofs.Given.{ignored}
 use Rattle.laws_chip.proofs.LateHearing.{IsHearingLed, hearing_first, hearing_led, hearing_led_bytes}
 use Rattle.laws_chip.proofs.LateLooks.{bad_check_late, between_late, field_late, no_field_late, of_field_late}
-use Rattle.fdc_core.proofs.drives.Looks.{bad_met, no_field_met}
+use Rattle.fdc_core.proofs.drives.Turns.{bad_met, no_field_met}
 use Rattle.fdc_sequencer.specs.Fronts.{reset_if}
 use Rattle.laws_chip.specs.SectorCalls.{Call, Does, Writes}
 use Rattle.laws_chip.specs.Media.{Place}

@@ -17,11 +17,11 @@ pub use Rattle.fdc_core.proofs.MayRead.{out_reads, same_stage, told_reads}
 pub use Rattle.fdc_core.proofs.MayWrite.{content_of, in_formats, in_writes, told_formats, told_writes}
 pub use Rattle.fdc_core.proofs.Meanings.{id_tells, paced, paced_id, read_tells}
 pub use Rattle.fdc_core.proofs.drives.Fields.{address_heard, data_mark_heard, field_heard, found_on, lone_found, mark_heard}
-pub use Rattle.fdc_core.proofs.drives.FollowedWrites.{drive_stays, write_leaves}
-pub use Rattle.fdc_core.proofs.drives.Late.{few_led, heard_led, led_none, longer_led, passed_by, still_unheard, time_led, words_led}
-pub use Rattle.fdc_core.proofs.drives.LateFields.{address_in, address_late, found_late}
+pub use Rattle.fdc_core.proofs.drives.Passing.{drive_stays, write_leaves}
+pub use Rattle.fdc_core.proofs.drives.Shifted.{few_led, heard_led, led_none, longer_led, passed_by, still_unheard, time_led, words_led}
+pub use Rattle.fdc_core.proofs.drives.Fields.{address_in, address_late, found_late}
 pub use Rattle.fdc_core.proofs.drives.Passing.{hearing_on as hearing_since, hearing_over as over_since, length_heard, recorded as recorded_since}
-pub use Rattle.fdc_core.proofs.drives.Spinning.{hears_none, no_index, slow_or_fast, spin_on, turning_on}
+pub use Rattle.fdc_core.proofs.drives.Shifted.{hears_none, no_index, slow_or_fast, spin_on, turning_on}
 pub use Rattle.fdc_core.proofs.drives.Turns.{between_is, turn_heard}
 pub use Rattle.fdc_core.proofs.drives.Writing.{drive_less, kept_on, rests_on, saw_on, still_unprotected, stopped_on, there_or_not, wrote_on}
 pub use Rattle.fdc_core.proofs.drives.WritingWords.{closes_same, heard_met, none_or_some, opens_same}

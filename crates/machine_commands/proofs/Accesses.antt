@@ -1,9 +1,10 @@
 -- Port accesses after which the controller rests.
-use Rattle.std.proofs.Common.{◌≡◌, ℕ, ◌==◌, Bool, true, false, if◌then◌else◌, refl, sym, ◌∙◌, ap, subst, arith}
-use Rattle.machine_commands.proofs.Common.{DriveState, Writes, given, interrupt_after, asks, Fdc, Phase, Result, gap, Holds, shown, Board, controller_of, lines_of, is_controllers, Inputs, Outputs, RunsGap, sets_lines, shown_again, Bus, drive_stays, is_fresh, controller_after}
+use Rattle.std.proofs.Common.{◌≡◌, ℕ, ◌==◌, Bool, true, false, if◌then◌else◌, refl, sym, ◌∙◌, ap, subst, arith, ◌⊎◌, inl, inr}
+use Rattle.machine_commands.proofs.Common.{DriveState, Writes, given, interrupt_after, asks, Fdc, Phase, Result, gap, Holds, shown, Board, controller_of, lines_of, is_controllers, Inputs, Outputs, RunsGap, sets_lines, shown_again, Bus, drive_stays, is_fresh, controller_after, interrupts, polled, regapped, Steady, Step, stirred, is_up, Settles}
 use Rattle.pc_bus.specs.Ports.{port_read}
 use Rattle.machine_commands.proofs.Idling.{IsResting, KeepsDrive, KeepsSpeed, KeepsAll, Idles}
-use Rattle.machine_commands.proofs.Steps.{drive_none, speed_none, idles_none, idles_then, idling}
+use Rattle.machine_commands.proofs.Steps.{drive_none, speed_none, idles_none, idles_then, idling, step_to, unpolled, keeps_then, regapped_idles, speed_then}
+use Rattle.pc_bus.specs.Steps.{Runs}
 
 -- ---- the gap
 
@@ -104,3 +105,73 @@ output_idles port value old new access its other fdc only quiet rest =
     let bus : access.between.bus ≡ accessed fdc old.bus = access.writes.bus
     ∙ (ap (λ c. let b : Bus = record old.bus { chips = c; fresh = false } in b) chips ∙ ap (λ c. accessed c old.bus) is) in
     access_idles fdc old access.between new bus (drive_stays access.writes.lines.first other) (drive_stays access.writes.lines.second other) quiet access.gap rest
+
+-- ---- one device step after results were read, and polls
+
+pub runs_one : (old new : Board) → Runs 1 old new → Step old new
+unfolding Runs
+runs_one old new (between, same, step) = subst (λ board. Step board new) same step
+
+-- a device step, and the latch is taken; once the poll has come, the controller rests
+pub record SettlesTo (old : Board) (fdc : Fdc) (new : Board) : Type 0 where
+  pub keeps : KeepsAll old new
+  pub first : KeepsSpeed old.first new.first
+  pub second : KeepsSpeed old.second new.second
+  pub controller_is : controller_of new ≡ fdc
+  pub level : is_up new ≡ interrupts fdc
+
+pub settles_to : (old new : Board) (fdc : Fdc) → Settles old new → polled (controller_of old) ≡ fdc → IsResting fdc → SettlesTo old fdc new
+settles_to old new fdc settles poll rest =
+    let to = step_to (stirred old) settles.between fdc (runs_one (stirred old) settles.between settles.runs) poll rest in
+    let counts = settles.counts in
+    rw settles.taken (record {
+      keeps = record {
+        memory = to.keeps.memory;
+        entries = to.keeps.entries;
+        stalls = to.keeps.stalls;
+        first = to.keeps.first;
+        second = to.keeps.second;
+        direct = to.keeps.direct;
+        taken = rw settles.taken at counts;
+      };
+      first = to.first.speed;
+      second = to.second.speed;
+      controller_is = to.controller_is;
+      level = to.level;
+    })
+
+-- ---- device steps in the first of which the poll comes
+
+pub record RunsPolled (before after : Fdc) (old new : Board) : Type 0 where
+  pub keeps : KeepsAll old new
+  pub first : KeepsSpeed old.first new.first
+  pub second : KeepsSpeed old.second new.second
+  pub controller : (controller_of new ≡ before) ⊎ (controller_of new ≡ after)
+
+-- after the next device step the poll has come, whether it came before or not
+pub polls_next : (before after : Fdc) (board : Board) → polled before ≡ after → IsResting after → (controller_of board ≡ before) ⊎ (controller_of board ≡ after)
+    → polled (controller_of board) ≡ after
+polls_next before after board poll rest is = elim is [
+  | inl at ↦ ap polled at ∙ poll
+  | inr at ↦ ap polled at ∙ unpolled after rest.no_poll
+]
+
+polling : (before after : Fdc) (old : Board) → polled before ≡ after → IsResting after → Steady (RunsPolled before after old)
+polling before after old poll rest = record {
+  step = λ now new step was. (let to = step_to now new after step (polls_next before after now poll rest was.controller) rest in record {
+    keeps = keeps_then old now new was.keeps to.keeps;
+    first = speed_then old.first now.first new.first was.first to.first.speed;
+    second = speed_then old.second now.second new.second was.second to.second.speed;
+    controller = inr to.controller_is;
+  });
+  idle = λ now gaps fresh was. (let same = (regapped_idles now gaps fresh).stays in record {
+    keeps = keeps_then old now (regapped gaps fresh now) was.keeps same.keeps;
+    first = was.first;
+    second = was.second;
+    controller = was.controller;
+  });
+}
+
+pub gap_polled : (before after : Fdc) (old new : Board) → RunsGap old new → controller_of old ≡ before → polled before ≡ after → IsResting after → RunsPolled before after old new
+gap_polled before after old new ran at poll rest = gap (RunsPolled before after old) (polling before after old poll rest) old new ran
+    (record { keeps = (idles_none old).stays.keeps; first = speed_none old.first; second = speed_none old.second; controller = inl at })

@@ -1,7 +1,7 @@
 -- A data command begins on an idle machine, once all is set up and its bytes are sent.
-use Rattle.std.proofs.Common.{◌≡◌, inl, inr, ℕ, suc, ◌+◌, ◌*◌, ◌/◌, ◌%◌, ◌<◌, ◌≤◌, ◌==◌, not, Bool, true, false, List, [], ◌∷◌, ◌++◌, length, Result as result, refl, sym, ◌∙◌, ap, subst, arith}
+use Rattle.std.proofs.Common.{◌≡◌, inl, inr, ℕ, suc, ◌+◌, ◌*◌, ◌/◌, ◌%◌, ◌<◌, ◌≤◌, ◌==◌, not, Bool, true, false, List, [], ◌∷◌, ◌++◌, length, Result as result, refl, sym, ◌∙◌, ap, subst, arith, Result, Ok, Err}
 use Rattle.std.specs.Prelude.{bit_and}
-use Rattle.machine_commands.proofs.Common.{Channel, set_up, kept, More, seek_bits, TakesAs, Sent, takes_in, is_taking, asks, data_commands_of, dor_of, is_held, Fdc, Code, Rate, R500, R250, Holds, shown, Low, Order, scene_of, Scene, data_rate, Steady, gap, Board, controller_of, drive_in, holds_of, lines_of, memory_of, Outputs, shown_again, in_bay, Disk, Finishes, Prepares, rate_byte, IsIdle, IsReady, Sends, rig_of, Motors, Done, All, has_bit, reads_memory, answer, AreShort, IsShort, StandsReady, CanBegin, IsLast, IsSetFor, most_steps_of, IsScene, Lasts, Uses, goes_begins, AreCounts}
+use Rattle.machine_commands.proofs.Common.{Channel, set_up, kept, More, seek_bits, TakesAs, Sent, takes_in, is_taking, asks, data_commands_of, dor_of, is_held, Fdc, Code, Rate, R500, R250, Holds, shown, Low, Order, scene_of, Scene, data_rate, Steady, gap, Board, controller_of, drive_in, holds_of, lines_of, memory_of, Outputs, shown_again, in_bay, Disk, Finishes, Prepares, rate_byte, IsIdle, IsReady, Sends, rig_of, Motors, Done, All, has_bit, reads_memory, answer, AreShort, IsShort, StandsReady, CanBegin, IsLast, IsSetFor, most_steps_of, IsScene, Lasts, Uses, goes_begins, AreCounts, Chrn, Results, Ending, has_set, refusal_of, bit_or, results_of, st1_of, Finished}
 use Rattle.dma_8237.specs.Channel.{after_write}
 use Rattle.dma_8237.proofs.SettingUp.{is_set_up}
 use Rattle.fdc_commands.specs.declared.bytes.Accepted.{Accepted}
@@ -12,11 +12,9 @@ use Rattle.laws_machine.specs.OnWrites.Underway.{IsReadSet}
 use Rattle.laws_machine.proofs.OnReads.Beginnings.{is_set}
 use Rattle.machine_commands.proofs.Idling.{IsResting, StaysIdle, Idles}
 use Rattle.machine_commands.proofs.Bytes.{AreMore, IsListening, byte_more, first_bytes, listens_with, sends_parts, with_bytes}
-use Rattle.machine_commands.proofs.Endings.{HasFinished, IsSending, has_finished}
-use Rattle.machine_commands.proofs.Lasting.{Costs, before, costs_within, finishes_cost, prepares_cost, sends_cost}
+use Rattle.machine_commands.proofs.Lasting.{Costs, before, costs_within, finishes_cost, prepares_cost, sends_cost, HasFinished, IsSending, has_finished, outcome_in}
 use Rattle.machine_commands.proofs.Preparing.{HasDisk, IsSetTo, disk_stays, is_prepared, prepared, ready_prepared}
-use Rattle.machine_commands.proofs.Questions.{not_held, ready_listens}
-use Rattle.machine_commands.proofs.Selecting.{is_dor}
+use Rattle.machine_commands.proofs.Selecting.{is_dor, not_held, ready_listens}
 use Rattle.machine_commands.proofs.Statuses.{no_bits}
 use Rattle.machine_commands.proofs.Steps.{calm_asks, idles_then, stays_then, step_to, unpolled}
 
@@ -269,3 +267,24 @@ head_of_sent _ _ low small = refl
 
 pub small_drive : (head bay : ℕ) → head ≤ 1 → bay ≤ 1 → head * 4 + bay ≤ 7
 small_drive head bay low small = omega arith
+
+-- ---- what the driver is answered for each ending of a data command
+
+abbrev pub told_as : Ending → Chrn → Result Done Code
+told_as (Finished deleted) key = Ok (record { deleted = deleted; key = key })
+told_as over key = Err (refusal_of (st1_of over).0)
+
+-- the head and the drive leave the interrupt code as it is
+low_bits : (head_drive : ℕ) → head_drive ≤ 7 → (has_set (bit_and head_drive 7) 0xC0 ≡ false) × (has_set (bit_or (bit_and head_drive 7) 0x40) 0xC0 ≡ true)
+low_bits (suc (suc (suc (suc (suc (suc (suc (suc more)))))))) small = absurd (omega arith)
+low_bits _ small = (refl, refl)
+
+outcome_as : (over : Ending) (head_drive : ℕ) (key : Chrn) → head_drive ≤ 7 → outcome_in (results_of over head_drive key) ≡ told_as over key
+outcome_as (Finished true) head_drive key small = rw (low_bits head_drive small).0 refl
+outcome_as (Finished false) head_drive key small = rw (low_bits head_drive small).0 refl
+outcome_as _ head_drive key small = rw (low_bits head_drive small).1 refl
+
+-- the outcome of an ending's results
+pub outcome_is : (outcome : Result Done Code) (over : Ending) (results : Results) (head_drive : ℕ) (key : Chrn) → head_drive ≤ 7 → outcome ≡ outcome_in results → results ≡ results_of over head_drive key
+    → outcome ≡ told_as over key
+outcome_is outcome over results head_drive key small is same = is ∙ (ap outcome_in same ∙ outcome_as over head_drive key small)

@@ -2,10 +2,10 @@
 use Rattle.std.proofs.Common.{◌≡◌, ℕ, not, true, false, List, [], ◌∷◌, ◌++◌, refl, sym, ◌∙◌, ap, subst, append_assoc}
 use Rattle.machine_commands.proofs.Common.{DriveState, kept, More, Ready, TakesAs, Obeys, Writes, takes_in, is_taking, is_held, dor_of, Fdc, Lines, Board, controller_of, lines_of, lines_of_drive, Outputs, Sends, append-nil, answer}
 use Rattle.fdc_commands.specs.declared.command.Command.{Command}
-use Rattle.fdc_phases.specs.declared.phases.Phase.TheVariants as phase
 use Rattle.machine_commands.proofs.Idling.{IsResting, KeepsDrive, KeepsAll, Idles}
 use Rattle.machine_commands.proofs.Steps.{idles_then, idles_none, idles_as}
 use Rattle.machine_commands.proofs.Accesses.{Quiets, output_idles}
+use Rattle.fdc_phases.specs.declared.phases.Phase.TheVariants as phase
 
 -- the controller rests, and takes bytes
 pub record IsListening (fdc : Fdc) : Type 0 where

@@ -23,7 +23,7 @@ pub use Rattle.fdc_commands.specs.declared.command.Command.TheVariants.{Configur
 pub use Rattle.fdc_commands.specs.declared.motion.Motion.{Motion}
 pub use Rattle.fdc_commands.specs.declared.motion.Motion.TheVariants.{Ended, Outward, Toward}
 pub use Rattle.fdc_commands.specs.declared.results.Results.{Results}
-pub use Rattle.fdc_core.proofs.drives.FollowedWrites.{drive_stays}
+pub use Rattle.fdc_core.proofs.drives.Passing.{drive_stays}
 pub use Rattle.fdc_core.specs.Commands.{Obeys, TakesAs, answered, bits_if, configured, sensing_by, specified, status_of_lines}
 pub use Rattle.fdc_core.specs.Drives.Following.{sets_lines}
 pub use Rattle.fdc_core.specs.Drives.Hearing.{IsCalm}

@@ -7,8 +7,8 @@ use Rattle.laws_machine.proofs.OnAwaits.Accesses.{few}
 use Rattle.laws_machine.proofs.OnSteps.Moves.{step_ends}
 use Rattle.pc_bus.specs.Steps.{RunsUnset}
 use Rattle.machine_commands.proofs.Idling.{Idles, IsResting}
-use Rattle.machine_commands.proofs.Settling.{runs_one}
 use Rattle.machine_commands.proofs.Steps.{idles_none, idling}
+use Rattle.machine_commands.proofs.Accesses.{runs_one}
 
 -- ---- MSR
 

@@ -2,14 +2,13 @@
 use Rattle.std.proofs.Common.{◌≡◌, ◌⊎◌, inl, inr, ℕ, ◌<◌, ◌≤◌, true, false, List, Option, Some, None, Result, Ok, Err, refl, sym, ◌∙◌, ap, arith}
 use Rattle.std.specs.Prelude.{IsOk, IfErr, MatchOption}
 use Rattle.machine_commands.proofs.Common.{RoseBy, standard_code, Code, Chrn, in_bay, IsFaultless, IsUndisturbed, Disk, Format, Laying, format_keys, rate_fits, Ending, Numbers, Track, Write, Stalled, Scene, head_sent, IsUnchanged, Board, drive_in, memory_of, FormatsTrack, HasTrackUnder, IsFormatMiss, LaysMedium, counters_of, rig_of, told_of, Motors, Done, false≢true, cases_lt, IsLaying, same_rates, FormatEndsAs, FitsOn, HasLaying, LaysTo, LaysTurn}
-use Rattle.flop_base.specs.declared.answers.Code.TheVariants as code
 use Rattle.track_model.specs.Layouts.{Fits}
-use Rattle.fdc_stages.specs.declared.ending.Ending.TheVariants as ending
 use Rattle.laws_machine.specs.OnWrites.Drives.{IsThere}
-use Rattle.machine_commands.proofs.Beginning.{HasRun}
-use Rattle.machine_commands.proofs.Outcomes.{told_as}
+use Rattle.machine_commands.proofs.Beginning.{HasRun, told_as}
 use Rattle.machine_commands.proofs.Seeing.{calm_drive, cylinder_before, faultless, medium_after, medium_before, stall_counts, unstalled, write_sends}
 use Rattle.machine_commands.proofs.WriteRigs.{fits_same, rate_is, two_bays}
+use Rattle.flop_base.specs.declared.answers.Code.TheVariants as code
+use Rattle.fdc_stages.specs.declared.ending.Ending.TheVariants as ending
 
 -- a FORMAT of these numbers and keys, on a medium that isn't protected
 pub record IsFormatOn (scene : Scene) (numbers : Numbers) (keys : List Chrn) (format : Format) : Type 0 where

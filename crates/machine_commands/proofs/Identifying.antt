@@ -3,9 +3,8 @@ use Rattle.std.proofs.Common.{◌≡◌, ℕ, ◌*◌, ◌+◌, ◌≤◌, true,
 use Rattle.machine_commands.proofs.Common.{Chrn, Code, Rate, in_bay, IsFaultless, IsAddressAt, HasClearAddress, InRange, Ready, Ending, NoMark, NoSector, scene_of, Scene, track_met, IsCalm, Board, channel_of, drive_in, memory_of, track_under, IsIdle, rig_of, Motors, Done, ReadId, spells_id, Finished, Identify, id_ended, id_memory, ReadsId, CostsFor, turn_same, SendsReadId, key_told, user_part, page_part}
 use Rattle.fdc_phases.specs.Heard.{key_met}
 use Rattle.laws_machine.specs.OnReads.Ids.{IdEndedIn, IdEndsAs, sent_id}
-use Rattle.machine_commands.proofs.Beginning.{IsRun, head_of_sent, is_run, small_drive}
+use Rattle.machine_commands.proofs.Beginning.{IsRun, head_of_sent, is_run, small_drive, outcome_is, told_as}
 use Rattle.machine_commands.proofs.Lasting.{costs_none}
-use Rattle.machine_commands.proofs.Outcomes.{outcome_is, told_as}
 use Rattle.machine_commands.proofs.Preparing.{none_set}
 use Rattle.machine_commands.proofs.Seeing.{calm_drive, idle_after, memory_after, memory_before, read_sends, run_costs, track_before}
 

@@ -1,15 +1,12 @@
 -- Calls past the driver, as a driver sees them.
 use Rattle.std.proofs.Common.{◌≡◌, ◌↔◌, ℕ, zero, suc, ◌+◌, ◌-◌, ◌<◌, ◌≤◌, Bool, true, false, Option, Some, None, is_some, IsSome, IsErr, OnOk, IfErr, if◌then◌else◌, nat_lt, Result, Ok, Err, IsTrue, refl, sym, ◌∙◌, ap, subst, arith}
 use Rattle.machine_commands.proofs.Common.{last_count, Disk, DriveGoesOn, GoesOn, user_bytes, DriveState, InRange, data_commands_of, dor_of, Holds, counted, Board, controller_of, drive_in, holds_of, memory_of, byte_set, Bus, IsIdle, is_up, counts_of, counters_of, is_spun, rig_of, stalls_left, Motors, IsBitSet, false≢true, drop-set-lt, take-set-lt, IsPastDriver, drive_same, at_speed, loaded, unloaded, with_motor, becomes_at, clock_of, stays, IsEmpty, Exchanged, ExchangesDrive, PutsIn, PutsMemory, TakesDrive, TakesOut, Untouched}
-use Rattle.std.specs.Prelude.{slice_set}
-use Rattle.std.specs.Prelude.{List}
+use Rattle.std.specs.Prelude.{slice_set, List}
 use Rattle.pc_bus.specs.Handling.{Touches, touched}
 use Rattle.fdc_core.specs.Drives.Following.{FollowsMotor}
 use Rattle.machine_commands.specs.Shown.{page_part, user_part}
-use Rattle.machine_commands.proofs.Idling.{idle_by}
+use Rattle.machine_commands.proofs.Idling.{idle_by, counts_go, both_in, cylinder_in, medium_in, parts_same, parts_with, shown_in, spun_in}
 use Rattle.machine_commands.proofs.Selecting.{is_dor, switched}
-use Rattle.machine_commands.proofs.Bays.{both_in, cylinder_in, medium_in, parts_same, parts_with, shown_in, spun_in}
-use Rattle.machine_commands.proofs.Showing.{counts_go}
 
 -- ---- counts
 

@@ -1,19 +1,18 @@
 -- READ DATA.
 use Rattle.std.proofs.Common.{◌≡◌, ◌⊎◌, inl, inr, ℕ, zero, suc, ◌+◌, ◌-◌, ◌*◌, ◌/◌, ◌%◌, ◌<◌, ◌≤◌, Bool, true, false, List, [], ◌∷◌, length, get_or, Result as result, Ok, Err, IfOk, IfErr, refl, sym, ◌∙◌, ap, subst, arith}
 use Rattle.machine_commands.proofs.Common.{read_gap_at, Chrn, Code, Rate, in_bay, IsFaultless, with_items, user_bytes, set_up, IsAddressAt, IsSizeCode, content_size, HasTrack, track_of, InRange, Ready, Ending, NoMark, NoSector, NoField, BadCheck, Overrun, Late, key_after, Sent, is_overrun, Long, Result, scene_of, Scene, track_met, IsCalm, HasBytes, Stalled, Board, channel_of, drive_in, memory_of, track_under, IsIdle, rig_of, Motors, Done, false≢true, length-map-range_with_len, after_write, IsDataMark, IsWhole, ReadData, spells_read, Finished, Read, ends_late, is_late, IsRecorded, read_ended, read_outside, FindsField, IsReadReason, IsReadCode, IsReadMiss, ReadsData, ReadsBack, CostsFor, turn_same, mark_told, user_part, page_part}
-use Rattle.flop_base.specs.declared.answers.Code.TheVariants as code
 use Rattle.track_model.specs.Bytes.{byte_at}
 use Rattle.track_model.specs.Sectors.{IsSector, IsLone}
 use Rattle.fdc_commands.specs.Reads.{SpellsRead}
-use Rattle.laws_machine.specs.OnReads.Results as heard
 use Rattle.laws_machine.proofs.OnReads.TrackMet.{rate_is, recorded}
 use Rattle.machine_commands.specs.Awaited.{SendsRead}
-use Rattle.machine_commands.proofs.Beginning.{IsRun, head_of_sent, is_run, set_to_memory, small_drive}
+use Rattle.machine_commands.proofs.Beginning.{IsRun, head_of_sent, is_run, set_to_memory, small_drive, outcome_is, told_as}
 use Rattle.machine_commands.proofs.Landing.{SameBut, user_same, page_same, user_outside, user_with, page_with}
 use Rattle.machine_commands.proofs.Lasting.{channel_costs}
-use Rattle.machine_commands.proofs.Outcomes.{outcome_is, told_as}
 use Rattle.machine_commands.proofs.Preparing.{channel_sets}
 use Rattle.machine_commands.proofs.Seeing.{calm_drive, cylinder_before, faultless, idle_after, medium_before, memory_after, memory_before, read_sends, run_costs, stall_counts, track_before, unstalled}
+use Rattle.flop_base.specs.declared.answers.Code.TheVariants as code
+use Rattle.laws_machine.specs.OnReads.Results as heard
 
 -- ---- what the driver is answered
 

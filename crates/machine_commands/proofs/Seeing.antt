@@ -4,11 +4,8 @@ use Rattle.machine_commands.proofs.Common.{last_count, RoseBy, Spends, Code, Rat
 use Rattle.laws_machine.specs.OnQuiet.Quiet.{HaveTurned}
 use Rattle.sector_model.specs.Lasting.{turn_of}
 use Rattle.machine_commands.proofs.Beginning.{HasRun}
-use Rattle.machine_commands.proofs.Endings.{finished_idle}
-use Rattle.machine_commands.proofs.Idling.{KeepsDrive, KeepsSpeed}
-use Rattle.machine_commands.proofs.Bays.{cylinder_in, drive_kept, faults_in, kept_in, medium_in}
-use Rattle.machine_commands.proofs.Lasting.{rig_costs}
-use Rattle.machine_commands.proofs.Showing.{at_speed_on, two_same}
+use Rattle.machine_commands.proofs.Idling.{KeepsDrive, KeepsSpeed, at_speed_on, two_same, cylinder_in, drive_kept, faults_in, kept_in, medium_in}
+use Rattle.machine_commands.proofs.Lasting.{rig_costs, finished_idle}
 
 -- ---- the drives
 

@@ -6,16 +6,13 @@ use Rattle.machine_commands.proofs.Common.{DriveGoesOn, DriveState, InRange, Rea
 use Rattle.std.proofs.lemmas.Grind.{get_or-set_at}
 use Rattle.fdc_commands.specs.Table.{answer}
 use Rattle.floppy_driver.specs.Heads.{MovesHeads, Recalibrates, Seeks}
-use Rattle.machine_commands.proofs.Idling.{KeepsSpeed, idle_by}
+use Rattle.machine_commands.proofs.Idling.{KeepsSpeed, idle_by, counts_go, drive_goes, drives_on, speed_stays, both_in, cylinder_in, medium_in, number_in, parts_same, parts_with}
 use Rattle.machine_commands.proofs.Bytes.{AreMore}
 use Rattle.machine_commands.proofs.Moving.{MovesDrive, OutwardWay, OutwardOver, TowardWay, TowardOver, turns_move, outward_rule, toward_rule}
 use Rattle.machine_commands.proofs.Seeking.{Leaves, on_way, at_end}
-use Rattle.machine_commands.proofs.SeekEnds.{SeekCommand, SeekDone, after_sense_of, seek_done}
-use Rattle.machine_commands.proofs.Selecting.{with_dor}
-use Rattle.machine_commands.proofs.Senses.{sensed_to}
-use Rattle.machine_commands.proofs.Showing.{counts_go, drive_goes, drives_on, speed_stays}
-use Rattle.machine_commands.proofs.Bays.{both_in, cylinder_in, medium_in, number_in, parts_same, parts_with}
+use Rattle.machine_commands.proofs.Selecting.{with_dor, sensed_to}
 use Rattle.machine_commands.proofs.Statuses.{no_bits}
+use Rattle.machine_commands.proofs.Preparing.{SeekCommand, SeekDone, after_sense_of, seek_done}
 
 same_drive_number : (bay : ℕ) → bay ≤ 1 → bay % 4 ≡ bay
 same_drive_number bay small = omega arith

@@ -2,8 +2,7 @@
 use Rattle.std.proofs.Common.{◌≡◌, ◌⊎◌, inl, inr, ℕ, zero, suc, ◌+◌, ◌-◌, ◌%◌, ◌≤◌, ◌==◌, ◌&&◌, ◌||◌, not, List, Bool, true, false, Some, None, refl, sym, ◌∙◌, ap, subst, arith}
 use Rattle.machine_commands.proofs.Common.{DriveState, Seeking, with_motion, ended, stepped_seek, is_seeking, has_ended, pulse_due, pulse_of, Motion, is_executing, is_held, dor_of, polled, seek_stepped, RestsIn, MovesIn, Moves, Fdc, Low, Board, controller_of, memory_of, holds_of, drive_in, regapped, Marching, march_wait, next_entry, RunsGap, Step, stirred, Chips, or_right, selected_of, march_gap, Runs}
 use Rattle.fdc_core.specs.Drives.WordTimes.{PassesWordTime}
-use Rattle.machine_commands.proofs.Idling.{Idles, KeepsAll, KeepsDrive, KeepsSpeed}
-use Rattle.machine_commands.proofs.Bays.{drive_kept, kept_in}
+use Rattle.machine_commands.proofs.Idling.{Idles, KeepsAll, KeepsDrive, KeepsSpeed, drive_kept, kept_in}
 use Rattle.machine_commands.proofs.Steps.{OnlyTurns, calm_asks, calm_dma, unpolled, rests_in, moves_in, or_false, still_seeks, gate_turns, drive_then, idles_none, regapped_idles, speed_then}
 
 -- ---- what a seek leaves, but for its drive

@@ -1,11 +1,15 @@
 -- Writes of DOR: a bay is selected, and motors go on.
-use Rattle.std.proofs.Common.{◌≡◌, ◌≢◌, ◌↔◌, ℕ, zero, suc, ◌%◌, ◌^◌, ◌<◌, ◌≤◌, ◌==◌, Bool, true, false, if◌then◌else◌, IsTrue, refl, sym, ◌∙◌, ap, subst, arith}
-use Rattle.machine_commands.proofs.Common.{DriveState, Becomes, track_words, dor_written, dor_of, Fdc, Board, controller_of, Outputs, Bus, dor_with, Motors, IsBitSet, false≢true, with_gate, with_motor, becomes_at, resets, HasMotors}
-use Rattle.std.specs.Prelude.{bit_and}
+use Rattle.std.proofs.Common.{◌≡◌, ◌≢◌, ◌↔◌, ℕ, zero, suc, ◌%◌, ◌^◌, ◌<◌, ◌≤◌, ◌==◌, Bool, true, false, if◌then◌else◌, IsTrue, refl, sym, ◌∙◌, ap, subst, arith, ◌&&◌, not, [], ◌∷◌, ◌++◌, Some}
+use Rattle.machine_commands.proofs.Common.{DriveState, Becomes, track_words, dor_written, dor_of, Fdc, Board, controller_of, Outputs, Bus, dor_with, Motors, IsBitSet, false≢true, with_gate, with_motor, becomes_at, resets, HasMotors, in_bay, InRange, has_ended, is_executing, is_held, data_commands_of, drive_in, lines_of, lines_of_drive, OnlyAsks, IsReady, IsIdle, rig_of, option_map_or, line_bits, ReadsLine, Ready, is_seeking, sensed, after_sense, answered, given, result_byte, Command, SenseInterrupt, sensing_by, Senses, TakesNumber, Rate, Disk, Two, with_bay, Bay, flags_of, flags_of_both, with_rate}
+use Rattle.std.specs.Prelude.{bit_and, is_some, Option}
 use Rattle.fdc_core.specs.Times.{Closes}
-use Rattle.machine_commands.proofs.Idling.{IsResting, KeepsDrive, KeepsSpeed, Idles}
-use Rattle.machine_commands.proofs.Accesses.{accessed, accessed_keeps, gap_idles}
+use Rattle.machine_commands.proofs.Idling.{IsResting, KeepsDrive, KeepsSpeed, Idles, idle_by, keeps_asking, speed_stays, change_in, drive_kept}
+use Rattle.machine_commands.proofs.Accesses.{accessed, accessed_keeps, gap_idles, input_idles}
 use Rattle.machine_commands.proofs.Steps.{drive_then, idles_then}
+use Rattle.fdc_core.specs.Drives.Lines.{absent_lines}
+use Rattle.machine_commands.proofs.Bytes.{IsListening, with_bytes, whole_at}
+use Rattle.fdc_commands.specs.Table.{answer}
+use Rattle.machine_commands.specs.declared.flags.BayFlags.{BayFlags}
 
 abbrev pub motors_of : Bool → Bool → Motors
 motors_of first second = record { first = first; second = second }
@@ -148,3 +152,190 @@ selects_idle motors bay old new small has rest after access =
     } in
     let two = gap_idles between new access.gap (subst IsResting (sym one.controller_is) after) in
     idles_then one (subst (λ c. Idles c between new) one.controller_is two)
+
+-- ---- questions to a machine that is idle
+
+-- ---- a controller that is ready
+
+pub ready_rests : (fdc : Fdc) → IsReady fdc → IsResting fdc
+ready_rests fdc ready = record {
+  no_command = ap is_executing ready.phase;
+  no_seek = ap (λ seek. option_map_or (λ s. not (has_ended s.motion)) seek false) ready.seeks.no_seek;
+  not_asking = ready.not_asking;
+  no_poll = ap (λ due. due && not (is_held fdc)) ready.polled;
+}
+
+-- a controller stays ready, whatever DOR and the rate are
+pub ready_set : (fdc other : Fdc) → IsReady fdc → IsReady (record fdc { dor = other.dor; rate = other.rate })
+ready_set fdc other ready = record {
+  phase = ready.phase;
+  no_bytes = ready.no_bytes;
+  seeks = ready.seeks;
+  by_dma = ready.by_dma;
+  polled = ready.polled;
+  no_interrupt = ready.no_interrupt;
+  not_asking = ready.not_asking;
+  fifo_on = ready.fifo_on;
+  threshold = ready.threshold;
+}
+
+pub ready_with : (byte : ℕ) (fdc : Fdc) → IsReady fdc → IsReady (with_dor byte fdc)
+ready_with byte fdc ready = ready_set fdc (with_dor byte fdc) ready
+
+pub not_held : (motors : Motors) (bay : ℕ) (fdc : Fdc) → bay ≤ 1 → dor_of fdc ≡ dor_with motors bay → is_held fdc ≡ false
+not_held motors bay fdc small dor =
+    ap (λ byte. not (bit_and byte 4 == 4)) dor ∙ ap not (is_dor motors bay small).released
+
+pub ready_listens : (motors : Motors) (bay : ℕ) (fdc : Fdc) → bay ≤ 1 → dor_of fdc ≡ dor_with motors bay → IsReady fdc → IsListening fdc
+ready_listens motors bay fdc small dor ready = record { rests = ready_rests fdc ready; phase_is = ready.phase; not_held = not_held motors bay fdc small dor }
+
+-- ---- after a command the machine is idle again
+
+pub idle_again : (motors : Motors) (bay : ℕ) (old new : Board) (fdc : Fdc) → IsIdle motors old → bay ≤ 1 → dor_of fdc ≡ dor_with motors bay → IsReady fdc → Idles fdc old new
+    → InRange new.first → InRange new.second → IsIdle motors new
+idle_again motors bay old new fdc was small dor ready idles first second =
+    let stays = idles.stays in
+    idle_by motors bay fdc new small idles.controller_is ready dor (stays.first.motor ∙ was.motors_are.first) (stays.second.motor ∙ was.motors_are.second)
+    (stays.low was.ready.no_interrupt was.low) first second
+
+pub idle_asks : (old new : Board) (fdc : Fdc) → Idles fdc old new → fdc.seeks.cylinders ≡ (controller_of old).seeks.cylinders
+    → data_commands_of fdc ≡ data_commands_of (controller_of old) → OnlyAsks (rig_of old) (rig_of new)
+idle_asks old new fdc idles numbers sent =
+    keeps_asking old new idles.stays.keeps (ap (λ f. f.seeks.cylinders) idles.controller_is ∙ numbers) (ap data_commands_of idles.controller_is ∙ sent)
+    (speed_stays old.first new.first idles.stays.keeps.first.medium idles.stays.first) (speed_stays old.second new.second idles.stays.keeps.second.medium idles.stays.second)
+
+-- ---- the selected drive
+
+lines_at : (board : Board) (bay : ℕ) → bay ≤ 1 → (if bay == 0 then lines_of_drive board.first else (if bay == 1 then lines_of_drive board.second else absent_lines)) ≡ lines_of_drive (drive_in board bay)
+lines_at board (suc (suc bay)) small = absurd (omega arith)
+lines_at board _ small = refl
+
+pub selected_lines : (motors : Motors) (bay : ℕ) (board : Board) → bay ≤ 1 → dor_of (controller_of board) ≡ dor_with motors bay → lines_of board ≡ lines_of_drive (drive_in board bay)
+selected_lines motors bay board small dor =
+    let selects : dor_of (controller_of board) % 4 ≡ bay = ap (λ n. n % 4) dor ∙ (is_dor motors bay small).selects in
+    ap (λ n. if n == 0 then lines_of_drive board.first else (if n == 1 then lines_of_drive board.second else absent_lines)) selects ∙ lines_at board bay small
+
+-- ---- the change line
+
+line_told : (b : Bool) → ((if b then 0x80 else 0) == 0x80) ≡ b
+line_told true = refl
+line_told false = refl
+
+pub record ReadsLineIdle (motors : Motors) (bay : ℕ) (changed : Bool) (old new : Board) : Type 0 where
+  pub idles : Idles (with_dor (dor_with motors bay) (controller_of old)) old new
+  pub line : changed ≡ in_bay (rig_of old).changes bay
+
+pub reads_line : (motors : Motors) (bay : ℕ) (changed : Bool) (old new : Board) → IsIdle motors old → bay ≤ 1 → ReadsLine motors bay old changed new
+    → ReadsLineIdle motors bay changed old new
+reads_line motors bay changed old new idle small reads =
+    let byte = dor_with motors bay in
+    let fdc = with_dor byte (controller_of old) in
+    let rests = ready_rests fdc (ready_with byte (controller_of old) idle.ready) in
+    let one = selects_idle motors bay old reads.selected small idle.motors_are (ready_rests (controller_of old) idle.ready) rests reads.selects in
+    let two = input_idles 0x3F7 reads.value reads.selected new reads.reads refl (subst IsResting (sym one.controller_is) rests) in
+    let lines = selected_lines motors bay reads.selected small (ap dor_of one.controller_is) in
+    let kept = drive_kept old reads.selected bay one.stays.keeps in record {
+      idles = idles_then one (subst (λ c. Idles c reads.selected new) one.controller_is two);
+      line = reads.answer ∙ (ap (λ v. v == 0x80) (reads.reads.value_is ∙ ap line_bits lines) ∙ (line_told (drive_in reads.selected bay).change ∙ (kept.change ∙ change_in bay old)));
+    }
+
+pub line_idle : (motors : Motors) (bay : ℕ) (changed : Bool) (old new : Board) → IsIdle motors old → bay ≤ 1 → ReadsLine motors bay old changed new
+    → InRange new.first → InRange new.second → IsIdle motors new
+line_idle motors bay changed old new idle small reads first second =
+    let is = reads_line motors bay changed old new idle small reads in
+    idle_again motors bay old new (with_dor (dor_with motors bay) (controller_of old)) idle small refl (ready_with (dor_with motors bay) (controller_of old) idle.ready) is.idles first second
+
+pub line_asks : (motors : Motors) (bay : ℕ) (changed : Bool) (old new : Board) → IsIdle motors old → bay ≤ 1 → ReadsLine motors bay old changed new
+    → OnlyAsks (rig_of old) (rig_of new)
+line_asks motors bay changed old new idle small reads =
+    idle_asks old new (with_dor (dor_with motors bay) (controller_of old)) (reads_line motors bay changed old new idle small reads).idles refl refl
+
+-- ---- SENSE INTERRUPT where a result is pending
+
+whole : answer ([] ++ 0x08 ∷ []) ≡ Ready SenseInterrupt
+unfolding answer
+whole = refl
+
+-- the controller whose pending result was taken
+abbrev pub sensed_to : Fdc → Fdc
+sensed_to fdc = record fdc { phase = Command; command = []; seeks = after_sense fdc.seeks; interrupt = false }
+
+pub senses_pending : (status : ℕ) (old new : Board) (fdc : Fdc) (code number : ℕ) → controller_of old ≡ fdc → IsListening fdc → fdc.command ≡ []
+    → sensed fdc.seeks ≡ Some (code, number) → (code == 0x80) ≡ false → is_seeking (after_sense fdc.seeks) ≡ false
+    → Senses old status new → (status ≡ code) × Idles (sensed_to fdc) old new
+senses_pending status old new fdc code number at listens none pending told over senses =
+    let target : Fdc = answered code (Some number) (record (with_bytes [] fdc) { seeks = after_sense fdc.seeks; interrupt = false }) in
+    let rests = listens.rests in
+    let one = whole_at [] 0x08 SenseInterrupt old senses.sent fdc at listens none tt whole target
+    (λ lines controller does. does ∙ ap (λ o. sensing_by o (with_bytes [] fdc)) pending) (λ _. refl)
+    (record { no_command = refl; no_seek = over; not_asking = rests.not_asking; no_poll = rests.no_poll }) senses.sends in
+    let given_is : given (controller_of senses.sent) ≡ given target = ap given one.controller_is in
+    let given_rests : IsResting (given target) = record { no_command = refl; no_seek = over; not_asking = rests.not_asking; no_poll = rests.no_poll } in
+    let two = input_idles 0x3F5 status senses.sent senses.between senses.takes refl (subst IsResting (sym given_is) given_rests) in
+    let status_is : status ≡ code = senses.takes.value_is ∙ ap (λ c. result_byte c.phase) one.controller_is in
+    let (n, access) = subst (λ b. TakesNumber b senses.between new) (ap (λ s. s == 0x80) status_is ∙ told) senses.number in
+    let last_is : given (controller_of senses.between) ≡ given (given target) = ap given (two.controller_is ∙ given_is) in
+    let last_rests : IsResting (given (given target)) = record { no_command = refl; no_seek = over; not_asking = rests.not_asking; no_poll = rests.no_poll } in
+    let three = input_idles 0x3F5 n senses.between new access refl (subst IsResting (sym last_is) last_rests) in (
+      status_is,
+      idles_then one
+          (idles_then (subst (λ c. Idles c senses.sent senses.between) given_is two)
+          (subst (λ c. Idles c senses.between new) last_is three)),
+    )
+
+-- ---- two of a kind, and the flags of bays
+
+-- flags of two bays, of which one was replaced
+pub flags_put : (bays : Two Bay) (n : ℕ) (value : Bay) → flags_of_both (with_bay bays n value) ≡ with_bay (flags_of_both bays) n (flags_of value)
+flags_put bays n value =
+    let flags = flags_of_both bays in
+    elim (n == 0) as (λ b. flags_of_both (if b then record bays { first = value } else record bays { second = value })
+    ≡ (if b then record flags { first = flags_of value } else record flags { second = flags_of value })) [ true ↦ refl | false ↦ refl ]
+
+-- the flags of one bay
+pub flags_in : (bays : Two Bay) (n : ℕ) → in_bay (flags_of_both bays) n ≡ flags_of (in_bay bays n)
+flags_in bays n =
+    let flags = flags_of_both bays in
+    elim (n == 0) as (λ b. (if b then flags.first else flags.second) ≡ flags_of (if b then bays.first else bays.second)) [ true ↦ refl | false ↦ refl ]
+
+put_same_at : {T : Type 0} (b : Bool) (two : Two T) (value : T) → value ≡ (if b then two.first else two.second) → (if b then record two { first = value } else record two { second = value }) ≡ two
+put_same_at true two value same = ap (λ v. record two { first = v }) same
+put_same_at false two value same = ap (λ v. record two { second = v }) same
+
+-- putting in what is there already changes nothing
+pub put_same : {T : Type 0} (two : Two T) (n : ℕ) (value : T) → value ≡ in_bay two n → with_bay two n value ≡ two
+put_same two n value same = put_same_at (n == 0) two value same
+
+-- what was put in is what is there
+pub in_put : {T : Type 0} (two : Two T) (n : ℕ) (value : T) → in_bay (with_bay two n value) n ≡ value
+in_put two n value =
+    elim (n == 0) as (λ b. let put : Two _ = (if b then record two { first = value } else record two { second = value }) in (if b then put.first else put.second) ≡ value) [ true ↦ refl | false ↦ refl ]
+
+abbrev flagged : Bool → Rate → BayFlags
+flagged loaded rate = record { loaded = loaded; rate = rate }
+
+-- another medium in place of one leaves the flags as they are
+pub flags_medium : (bays : Two Bay) (n : ℕ) (medium : Option Disk) → is_some medium ≡ is_some (in_bay bays n).medium → flags_of_both (with_bay bays n (record (in_bay bays n) { medium = medium })) ≡ flags_of_both bays
+flags_medium bays n medium same =
+    flags_put bays n (record (in_bay bays n) { medium = medium })
+    ∙ put_same (flags_of_both bays) n (flags_of (record (in_bay bays n) { medium = medium }))
+    (ap (λ b. flagged b (in_bay bays n).rate) same ∙ sym (flags_in bays n))
+
+-- the flags where a bay gets another rate, with the same medium in or another
+pub flags_rate : (bays : Two Bay) (n : ℕ) (value : Bay) (rate : Rate) → is_some value.medium ≡ is_some (in_bay bays n).medium → value.rate ≡ rate → flags_of_both (with_bay bays n value) ≡ with_rate (flags_of_both bays) n rate
+flags_rate bays n value rate same is =
+    flags_put bays n value
+    ∙ ap (λ f. with_bay (flags_of_both bays) n f)
+    (ap (λ b. flagged b value.rate) (same ∙ ap (λ (f : BayFlags). f.loaded) (sym (flags_in bays n)))
+    ∙ ap (λ r. flagged (in_bay (flags_of_both bays) n).loaded r) is)
+
+-- ---- the flags that a call sets
+
+module _ (flags then_flags : Two BayFlags) (bay : ℕ) where
+  -- of one bay
+  pub flags_set : (shown then_shown : Two BayFlags) (put : BayFlags) → then_flags ≡ with_bay flags bay put → flags ≡ shown → then_shown ≡ with_bay shown bay put → then_flags ≡ then_shown
+  flags_set shown then_shown put set was shows = set ∙ ap (λ f. with_bay f bay put) was ∙ sym shows
+
+  -- the rate of one bay
+  pub rate_set : (shown then_shown : Two BayFlags) (rate : Rate) → then_flags ≡ with_rate flags bay rate → flags ≡ shown → then_shown ≡ with_rate shown bay rate → then_flags ≡ then_shown
+  rate_set shown then_shown rate set was shows = set ∙ ap (λ f. with_rate f bay rate) was ∙ sym shows

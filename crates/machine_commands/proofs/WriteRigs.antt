@@ -2,20 +2,19 @@
 use Rattle.std.proofs.Common.{◌≡◌, ◌⊎◌, inl, inr, ℕ, zero, suc, ◌+◌, ◌-◌, ◌≤◌, Bool, true, false, List, length, take, drop, Option, Some, None, Result, Err, refl, sym, ◌∙◌, ap, subst, arith}
 use Rattle.std.specs.Prelude.{IsOk, IfErr, MatchOption}
 use Rattle.machine_commands.proofs.Common.{RoseBy, Rate, R500, R250, Code, Two, in_bay, IsFaultless, IsUndisturbed, user_bytes, bytes_from, HasTrack, track_of, Change, HasClearAddress, IsAddressAt, content_size, is_overrun, rate_fits, Long, Ending, Window, Write, Stalled, met_is, Scene, data_rate, head_sent, track_met, IsUnchanged, Board, drive_in, memory_of, track_under, WritesData, counters_of, rig_of, told_of, Motors, Done, Chrn, false≢true, take-take, drop-take, Written, window_of, length-met_track, met_track, nothing_from, rates_same, Laid, WriteEndsAs, HasChanged, IsInsideTrack, IsWholeWindow, written_in, ChangesMedium, HasWindowOut, IsWriteMiss}
-use Rattle.flop_base.specs.declared.answers.Code.TheVariants as code
 use Rattle.sector_map.specs.Met.{HasNoClearMark, same_rate}
 use Rattle.sector_map.specs.MetTracks.{MeetsTrack}
 use Rattle.track_model.specs.Looks.{HasAddressMark}
-use Rattle.fdc_phases.specs.declared.phases.Phase.TheVariants as phase
 use Rattle.fdc_stages.specs.Searches.{HasNoClear}
-use Rattle.fdc_stages.specs.declared.ending.Ending.TheVariants as ending
-use Rattle.laws_machine.specs.OnWrites.Results as write
 use Rattle.laws_machine.proofs.OnWrites.Results.{changes_disk}
 use Rattle.machine_commands.specs.Shown.{user_part}
-use Rattle.machine_commands.proofs.Showing.{two_same}
-use Rattle.machine_commands.proofs.Beginning.{HasRun}
-use Rattle.machine_commands.proofs.Outcomes.{told_as}
+use Rattle.machine_commands.proofs.Beginning.{HasRun, told_as}
 use Rattle.machine_commands.proofs.Seeing.{calm_drive, cylinder_after, cylinder_before, faultless, medium_after, medium_before, memory_before, page_stays, stall_counts, unstalled, write_sends}
+use Rattle.machine_commands.proofs.Idling.{two_same}
+use Rattle.flop_base.specs.declared.answers.Code.TheVariants as code
+use Rattle.fdc_phases.specs.declared.phases.Phase.TheVariants as phase
+use Rattle.fdc_stages.specs.declared.ending.Ending.TheVariants as ending
+use Rattle.laws_machine.specs.OnWrites.Results as write
 
 -- ---- the bytes
 

@@ -4,7 +4,7 @@ use Rattle.raw_image.specs.Disk.{Disk}
 use Rattle.text_commands.proofs.Common.{Steady, inputs, outputs, wait, step_guards, Board, WritesPort, Inputs, Outputs, stirred, Names, AreNamed, SameMedia}
 use Rattle.laws_machine.specs.OnWrites.Guards.{IsGuarded}
 use Rattle.pc_bus.specs.Steps.{Runs}
-use Rattle.fdc_core.proofs.drives.FollowedWrites.{write_leaves}
+use Rattle.fdc_core.proofs.drives.Passing.{write_leaves}
 
 -- a write of a port leaves the media
 pub write_same : (port value : ℕ) (old between : Board) → WritesPort port value old between → SameMedia old between

@@ -1,9 +1,8 @@
 -- The drive of a command that writes, from one word time to the next: where it is, and what stands on its medium.
 use Rattle.std.proofs.Common.{◌≡◌, ◌⊎◌, inl, inr, ℕ, zero, suc, ◌+◌, ◌*◌, ◌<◌, ◌≤◌, ◌==◌, ◌&&◌, not, nat_lt, Bool, true, false, List, ◌∷◌, [], ◌++◌, Option, Some, length, if◌then◌else◌, refl, sym, ◌∙◌, ap, subst, arith}
 use Rattle.fdc_core.proofs.Common.{false_from_ne_true, false≢true, nat_tests, Disk, IsDisk, HasTrack, with_word_on, with_word, DriveState, Writes, at_index, can_write, is_protected, rewritten, Past, heard, wrote, turns_after, words_heard, stepped, rate_fits, let_pass, IsHeardTime, IsWroteTime, Opens, IsHearing, Outset, track_heard, IsOver, ArePutOpen, HasMedium, HearsTrack, IsAtDrive, IsAtWork, IsThere, start_in}
-use Rattle.fdc_core.proofs.drives.Facts.{different, length_more, number_is}
+use Rattle.fdc_core.proofs.drives.Facts.{different, length_more, number_is, gate_opens, put_stays, word_written}
 use Rattle.fdc_core.proofs.drives.Passing.{hearing_on, length_heard, lt_of}
-use Rattle.fdc_core.proofs.drives.Written.{gate_opens, put_stays, word_written}
 use Rattle.fdc_core.proofs.drives.WritingWords.{by_index, close_put, closes_same, falls_closed, falls_opened, falls_written, few_words, hears_on, index_is, none_long, none_or_some, opens_same, over_closed, over_opened, over_written, still_open, words_more}
 
 -- ---- the track

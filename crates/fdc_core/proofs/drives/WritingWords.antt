@@ -1,10 +1,9 @@
 -- The word time of a command that writes: the place of its drive, and what was heard.
 use Rattle.std.proofs.Common.{◌≡◌, ◌⊎◌, inl, inr, ℕ, ◌+◌, ◌*◌, ◌≤◌, ◌==◌, ◌&&◌, nat_lt, Bool, true, false, List, ◌∷◌, [], Some, length, if◌then◌else◌, refl, sym, ◌∙◌, ap, subst, arith}
 use Rattle.fdc_core.proofs.Common.{false≢true, Chrn, Disk, IsAddressAt, with_word, turn_after, DriveState, Writes, passed, at_index, turns, Past, place_after, turns_after, words_in, Opens, Closes, AreHeard, start_of, IsRecorded, Outset, track_heard, IsOver, ArePut, ArePutOpen, HearsTrack, start_in}
-use Rattle.fdc_core.proofs.drives.Facts.{if_both, le_true, length_more}
+use Rattle.fdc_core.proofs.drives.Facts.{if_both, le_true, length_more, gate_closes}
 use Rattle.fdc_core.proofs.drives.Fields.{address_heard}
 use Rattle.fdc_core.proofs.drives.Passing.{recorded}
-use Rattle.fdc_core.proofs.drives.Written.{gate_closes}
 
 -- ---- tests
 

@@ -6,7 +6,7 @@ use Rattle.laws_machine.proofs.OnOrders.Behind.{IsOfWords, Listening}
 use Rattle.laws_machine.proofs.OnReads.Beginnings.{Listens}
 use Rattle.laws_machine.proofs.OnReads.IdWords.{IsBrief}
 use Rattle.laws_machine.proofs.OnReads.Words.{hearing_on, hearing_over, length-met, words_few}
-use Rattle.fdc_core.proofs.drives.Spinning as spinning
+use Rattle.fdc_core.proofs.drives.Shifted as spinning
 use Rattle.laws_machine.proofs.OnReads.Steps as reads
 use Rattle.laws_machine.proofs.OnReads.Beginnings as ids
 

@@ -1,7 +1,7 @@
 -- From the words that were heard to the track.
 use Rattle.std.proofs.Common.{◌≡◌, inl, inr, ℕ, ◌+◌, ◌*◌, ◌<◌, ◌≤◌, Bool, true, false, List, Some, length, refl, sym, ◌∙◌, subst, arith, ◌==◌, ◌||◌, not, [], slice_index, if◌then◌else◌, ap, ◌/◌, ◌%◌, Option, None}
 use Rattle.laws_machine.proofs.Common.{NoData, BadCrc, IsSizeCode, content_size, content_at, HasAddressMark, IsIntact, HasDataField, Past, HasNoClear, IsFoundAt, FindsNoSector, Ending, Done, NoMark, NoSector, NoField, BadCheck, NoCount, Protected, ReadMeansIn, Long, Phase, Result, IsHeardFrom, IsWholeFrom, intact_of, Scene, track_met, HasBytes, IsMoved, Channel, ReadEndedIn, StaysOutside, false≢true, HasLook, ReadMeans, FindsUncounted, mark_heard, address_heard, data_mark_heard, field_heard, found_on, lone_found, IsCalm, between_is, turn_heard, FindsBadCheck, FindsNoField, FindsNoMark, FindsField, ReadEndsAs, DriveState, answer, is_executing, phase_after, Command, Execute, rest_of, Board, IsHearing, IsSet, is_late, at_index, Fifo, phase_asks, Sent, MayReadIn, MayReadTask, StepHears, SeesUnder, is_listening, is_reading, polled, RestsIn, Moves, MovesTask, MovesIn, FlowsIn, Fdc, Task, Works, Chips, place_in, IsScene, head_sent, IsDoneBy, Order, May, Shows, past_after, SeesTask, Moved, ReadTask as Read}
-use Rattle.fdc_core.proofs.drives.Looks.{bad_met, no_field_met}
+use Rattle.fdc_core.proofs.drives.Turns.{bad_met, no_field_met}
 use Rattle.laws_machine.proofs.Facts.{given_down, idle_after, polled_asking, polled_phase}
 use Rattle.dma_8237.specs.Channel.{grants, after_read}
 use Rattle.laws_machine.proofs.OnReads.Words.{hearing_on, hearing_over}

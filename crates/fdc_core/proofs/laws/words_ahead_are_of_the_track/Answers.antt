@@ -1,4 +1,4 @@
-use Rattle.fdc_core.proofs.drives.Certain.{plain_certain, single_certain}
+use Rattle.fdc_core.proofs.drives.PassedTimes.{plain_certain, single_certain}
 use Rattle.fdc_core.proofs.laws.words_ahead_are_of_the_track.Goals as goal
 
 pub returns : goal.returns

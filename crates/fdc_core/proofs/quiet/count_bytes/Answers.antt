@@ -1,7 +1,7 @@
 use Rattle.std.proofs.Common.{◌≡◌, arith, length, refl, subst}
 use Rattle.fdc_core.proofs.Common.{HasBytesLeft}
 use Rattle.fdc_core.proofs.Quieting.{bytes_left, gives_next, gives_nothing}
-use Rattle.fdc_core.proofs.Stopped.{most_left}
+use Rattle.fdc_core.proofs.Foreseeing.{most_left}
 use Rattle.fdc_core.proofs.quiet.count_bytes.Goals as goal
 
 pub loop-i-init : goal.loop-i-init

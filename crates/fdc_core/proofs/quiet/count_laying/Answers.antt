@@ -1,4 +1,4 @@
-use Rattle.std.proofs.Common.{◌≡◌, ℕ, true, Option, None, Some, arith, subst, refl}
+use Rattle.std.proofs.Common.{◌≡◌, ℕ, Option, None, Some, arith, subst, refl}
 use Rattle.fdc_core.proofs.Common.{Takes}
 use Rattle.fdc_core.proofs.Laying.{LaysAhead, LaysNext, copied_lays, copied_most, copies_more, copies_none, copies_on}
 use Rattle.fdc_core.proofs.quiet.count_laying.Goals as goal

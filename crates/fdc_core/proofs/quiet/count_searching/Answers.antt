@@ -1,7 +1,7 @@
 use Rattle.std.proofs.Common.{◌≡◌, arith, length, refl, subst, take}
 use Rattle.fdc_core.proofs.Common.{MeetsNothing}
 use Rattle.fdc_core.proofs.Quieting.{heard_none, hears_next, hears_nothing}
-use Rattle.fdc_core.proofs.Stopped.{meets_by}
+use Rattle.fdc_core.proofs.Foreseeing.{meets_by}
 use Rattle.fdc_core.proofs.quiet.count_searching.Goals as goal
 
 pub loop-i-init : goal.loop-i-init

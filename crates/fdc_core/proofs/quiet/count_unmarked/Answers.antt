@@ -1,7 +1,7 @@
 use Rattle.std.proofs.Common.{◌≡◌, arith, length, refl, subst, take}
 use Rattle.fdc_core.proofs.Common.{MarksNothing}
 use Rattle.fdc_core.proofs.Quieting.{reads_next, reads_nothing}
-use Rattle.fdc_core.proofs.Stopped.{marks_by}
+use Rattle.fdc_core.proofs.Foreseeing.{marks_by}
 use Rattle.fdc_core.proofs.quiet.count_unmarked.Goals as goal
 
 pub loop-i-init : goal.loop-i-init

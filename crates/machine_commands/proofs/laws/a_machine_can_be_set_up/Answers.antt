@@ -1,4 +1,4 @@
-use Rattle.machine_commands.proofs.Starting.{can_set_up, used_can_set_up}
+use Rattle.machine_commands.proofs.Landing.{can_set_up, used_can_set_up}
 use Rattle.machine_commands.proofs.laws.a_machine_can_be_set_up.Goals as goal
 
 pub returns-clause-shown : goal.returns-clause-shown

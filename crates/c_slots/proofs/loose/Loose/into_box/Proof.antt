@@ -2,7 +2,7 @@
 use Rattle.c_slots.proofs.Common.{ap, a_type, dcons, dnil, Val, vptr, inst_fn, SProp, ent, ftrue, flft, WpFn, raw, some, later, qed, by, move, keep, drop, split, split3, join, fsplit, fjoin, pick, suffices, use1, await, rewrite, feq_i, stop, fld, of_opd, no_more, and_then, returns, enter, alloc_all, pass_all, free_all, look_at, get, get_in, sets, sub, whole, fact, tables, no, RattleType, owns, types_at, plain, block_ptr, nothing, only, param, layout, bounded, param_laws, triple_of, Stays, stay_dropped, walk_of, Goes-blank, Good, box_out, box_in, proved_at, leaves, framed}
 use Rattle.std.proofs.Common.{◌≡◌, List, [], ◌∷◌, ◌++◌, refl, sym, subst}
 use base.Logic.{id⊢}
-use types.Kit.{‵, ◌⊛◌, at_ret, ◌$◌, ◌∵◌, !}
+use types.Kit.{‵, ◌⊛◌, at_ret, ◌$◌, ◌∵◌, ! }
 use types.Run.{first, blocks, exec}
 use types.ByLocal.{lands_last, env}
 use contract.BorrowLft.{◌⊑◌}

@@ -1,13 +1,9 @@
 use Rattle.fdc_core.proofs.Common.{at_index}
 use Rattle.std.proofs.Common.{◌==◌}
-use Rattle.fdc_core.proofs.Ending.{executes_left}
-use Rattle.fdc_core.proofs.Hearing.{executes_hears, rests_hears}
-use Rattle.fdc_core.proofs.Staying.{executes_stays, executes_flows, executes_moves}
+use Rattle.fdc_core.proofs.Staying.{executes_left, executes_stays, executes_flows, executes_moves, executes_feeds}
+use Rattle.fdc_core.proofs.Feeding.{executes_hears, rests_hears, executes_writes, rests_writes, rest_feeds}
 use Rattle.fdc_core.proofs.Waiting.{executes_lasts}
 use Rattle.fdc_core.proofs.Words.{steps_are}
-use Rattle.fdc_core.proofs.Writes.{executes_writes, rests_writes}
-use Rattle.fdc_core.proofs.Feeding.{rest_feeds}
-use Rattle.fdc_core.proofs.Staying.{executes_feeds}
 use Rattle.fdc_core.proofs.controller.Fdc.advance.Goals as goal
 
 pub returns-in-Execute-clause-reads : goal.returns-in-Execute-clause-reads

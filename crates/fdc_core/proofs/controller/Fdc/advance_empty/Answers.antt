@@ -1,8 +1,7 @@
 use Rattle.std.proofs.Common.{false, sym, subst}
 use Rattle.fdc_core.proofs.Common.{StepsNowhere}
-use Rattle.fdc_core.proofs.Ending.{executes_left_none}
-use Rattle.fdc_core.proofs.Hearing.{executes_hears_none, rests_follows}
-use Rattle.fdc_core.proofs.Staying.{executes_stays_none, executes_flows_none}
+use Rattle.fdc_core.proofs.Staying.{executes_left_none, executes_stays_none, executes_flows_none}
+use Rattle.fdc_core.proofs.Feeding.{executes_hears_none, rests_follows}
 use Rattle.fdc_core.proofs.controller.Fdc.advance_empty.Goals as goal
 
 pub returns-in-Execute-clause-reads : goal.returns-in-Execute-clause-reads

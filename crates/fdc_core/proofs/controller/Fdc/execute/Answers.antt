@@ -1,9 +1,8 @@
 use Rattle.std.proofs.Common.{◌≡◌, ◌+◌, sym, ap, subst, ◌∙◌}
 use Rattle.fdc_stages.specs.declared.reading.ReadHeard.TheVariants.{On}
 use Rattle.fdc_core.proofs.Common.{Execute, Read, SeesUnder, StepsOn, ExecutionSteps}
-use Rattle.fdc_core.proofs.Following.{followed_is}
-use Rattle.fdc_core.proofs.Words.{sees, sees_fitting}
-use Rattle.fdc_core.proofs.Passing.{passed_by, heard_after, steps_same}
+use Rattle.fdc_core.proofs.Words.{followed_is, sees, sees_fitting}
+use Rattle.fdc_core.proofs.Coursing.{passed_by, heard_after, steps_same}
 use Rattle.fdc_core.proofs.controller.Fdc.execute.Goals as goal
 
 pub returns-then-pass_by : goal.returns-then-pass_by

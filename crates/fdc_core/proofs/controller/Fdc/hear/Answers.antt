@@ -1,6 +1,6 @@
 use Rattle.std.proofs.Common.{◌+◌, sym, subst, ◌∙◌}
 use Rattle.fdc_core.proofs.Common.{read_outcome, HearsIn, Hears}
-use Rattle.fdc_core.proofs.Following.{followed_is}
+use Rattle.fdc_core.proofs.Words.{followed_is}
 use Rattle.fdc_core.proofs.controller.Fdc.hear.Goals as goal
 
 pub returns-in-Read : goal.returns-in-Read

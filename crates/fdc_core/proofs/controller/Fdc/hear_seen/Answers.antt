@@ -1,6 +1,6 @@
 use Rattle.std.proofs.Common.{◌+◌, sym, subst, ◌∙◌}
 use Rattle.fdc_core.proofs.Common.{read_outcome, HearsIn, Hears}
-use Rattle.fdc_core.proofs.Following.{followed_is}
+use Rattle.fdc_core.proofs.Words.{followed_is}
 use Rattle.fdc_core.proofs.controller.Fdc.hear_seen.Goals as goal
 
 pub returns-then-is_in_content : goal.returns-then-is_in_content

@@ -1,7 +1,7 @@
 use Rattle.std.proofs.Common.{◌≡◌, sym, ap, subst, ◌∙◌}
 use Rattle.fdc_core.proofs.Common.{Writes, Execute, Write, ExecutionSteps}
 use Rattle.fdc_core.proofs.Put.{put_on}
-use Rattle.fdc_core.proofs.Passing.{steps_same}
+use Rattle.fdc_core.proofs.Coursing.{steps_same}
 use Rattle.fdc_core.proofs.controller.Fdc.put_on.Goals as goal
 
 pub returns-in-Some : goal.returns-in-Some

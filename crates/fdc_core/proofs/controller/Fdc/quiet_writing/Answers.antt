@@ -2,7 +2,7 @@ use Rattle.std.proofs.Common.{◌≡◌, ◌≤◌, ◌∙◌, arith, length, su
 use Rattle.fdc_core.proofs.Common.{AreAhead, words_left, Write}
 use Rattle.fdc_core.proofs.Filling.{found_stage}
 use Rattle.fdc_core.proofs.Foreseeing.{nothing_foreseen}
-use Rattle.fdc_core.proofs.ForeseenWrites.{write_foreseen}
+use Rattle.fdc_core.proofs.Tellings.{write_foreseen}
 use Rattle.fdc_core.proofs.Longest.{asking_longest, first_longest, search_longest}
 use Rattle.fdc_core.proofs.controller.Fdc.quiet_writing.Goals as goal
 

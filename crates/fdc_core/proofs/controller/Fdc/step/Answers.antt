@@ -1,9 +1,7 @@
 use Rattle.fdc_core.proofs.Common.{at_index}
-use Rattle.fdc_core.proofs.Hearing.{polled_hears}
+use Rattle.fdc_core.proofs.Feeding.{polled_hears, polled_writes, polled_feeds}
 use Rattle.fdc_core.proofs.Staying.{polled_stays}
 use Rattle.fdc_core.proofs.Waiting.{polled_lasts}
-use Rattle.fdc_core.proofs.Writes.{polled_writes}
-use Rattle.fdc_core.proofs.Feeding.{polled_feeds}
 use Rattle.fdc_core.proofs.controller.Fdc.step.Goals as goal
 
 pub returns-clause-reads : goal.returns-clause-reads

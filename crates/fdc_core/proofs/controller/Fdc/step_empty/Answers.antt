@@ -1,6 +1,6 @@
 use Rattle.std.proofs.Common.{false, subst}
 use Rattle.fdc_core.proofs.Common.{ListensToNone, StepsNowhere}
-use Rattle.fdc_core.proofs.Hearing.{polled_follows}
+use Rattle.fdc_core.proofs.Feeding.{polled_follows}
 use Rattle.fdc_core.proofs.Staying.{polled_stays}
 use Rattle.fdc_core.proofs.controller.Fdc.step_empty.Goals as goal
 

@@ -1,9 +1,8 @@
 use Rattle.std.proofs.Common.{sym, ◌∙◌, ap, arith}
 use Rattle.std.specs.Prelude.{if◌then◌else◌}
 use Rattle.machine_commands.proofs.Common.{R500, rig_shown, notes_of}
-use Rattle.machine_commands.proofs.StationBays.{rate_set}
-use Rattle.machine_commands.proofs.StationHandling.{goes_on}
-use Rattle.machine_commands.proofs.Rating.{flags_acked, flags_no_bay}
+use Rattle.machine_commands.proofs.Selecting.{rate_set}
+use Rattle.machine_commands.proofs.StationHandling.{goes_on, flags_acked, flags_no_bay}
 use Rattle.machine_commands.proofs.calls.MachineStationStation.ack.Goals as goal
 
 pub returns-then-bay-gt1-clause-step : goal.returns-then-bay-gt1-clause-step

@@ -1,9 +1,8 @@
 use Rattle.std.proofs.Common.{sym, ◌∙◌}
 use Rattle.std.specs.Prelude.{None}
 use Rattle.machine_commands.proofs.Common.{fresh_bay, flags_of}
-use Rattle.machine_commands.proofs.StationBays.{flags_set}
-use Rattle.machine_commands.proofs.StationHandling.{is_nothing, is_something, goes_on, ejects, flags_ejected, flags_none_ejected}
-use Rattle.machine_commands.proofs.Attaching.{attached_ejected, ejected_goes_on}
+use Rattle.machine_commands.proofs.Selecting.{flags_set}
+use Rattle.machine_commands.proofs.StationHandling.{is_nothing, is_something, goes_on, ejects, flags_ejected, flags_none_ejected, attached_ejected, ejected_goes_on}
 use Rattle.machine_commands.proofs.calls.MachineStationStation.eject.Goals as goal
 
 pub returns-then-is_none-clause-step : goal.returns-then-is_none-clause-step

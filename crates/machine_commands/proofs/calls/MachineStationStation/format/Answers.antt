@@ -1,6 +1,5 @@
 use Rattle.std.proofs.Common.{sym, ◌∙◌}
-use Rattle.machine_commands.proofs.StationHandling.{goes_on}
-use Rattle.machine_commands.proofs.Keeping.{flags_format}
+use Rattle.machine_commands.proofs.StationHandling.{goes_on, flags_format}
 use Rattle.machine_commands.proofs.calls.MachineStationStation.format.Goals as goal
 
 pub returns-clause-step : goal.returns-clause-step

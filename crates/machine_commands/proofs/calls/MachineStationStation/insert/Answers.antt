@@ -1,9 +1,8 @@
 use Rattle.std.proofs.Common.{length, sym, ◌∙◌}
 use Rattle.std.specs.Prelude.{Some}
 use Rattle.machine_commands.proofs.Common.{fresh_bay, rig_shown, flags_of, all_counts}
-use Rattle.machine_commands.proofs.StationBays.{flags_set}
-use Rattle.machine_commands.proofs.StationHandling.{goes_on, inserts, flags_inserted, flags_given_back}
-use Rattle.machine_commands.proofs.Attaching.{attached_inserted, inserted_goes_on}
+use Rattle.machine_commands.proofs.Selecting.{flags_set}
+use Rattle.machine_commands.proofs.StationHandling.{goes_on, inserts, flags_inserted, flags_given_back, attached_inserted, inserted_goes_on}
 use Rattle.machine_commands.proofs.calls.MachineStationStation.insert.Goals as goal
 
 pub returns-then-is_err-clause-step : goal.returns-then-is_err-clause-step

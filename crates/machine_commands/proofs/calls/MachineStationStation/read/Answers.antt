@@ -1,6 +1,5 @@
 use Rattle.std.proofs.Common.{sym, ◌∙◌}
-use Rattle.machine_commands.proofs.StationHandling.{goes_on}
-use Rattle.machine_commands.proofs.Keeping.{flags_read}
+use Rattle.machine_commands.proofs.StationHandling.{goes_on, flags_read}
 use Rattle.machine_commands.proofs.calls.MachineStationStation.read.Goals as goal
 
 pub returns-clause-step : goal.returns-clause-step

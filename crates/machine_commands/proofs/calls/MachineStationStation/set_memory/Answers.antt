@@ -1,7 +1,6 @@
 use Rattle.std.proofs.Common.{length}
 use Rattle.machine_commands.proofs.Common.{all_counts}
-use Rattle.machine_commands.proofs.StationHandling.{goes_on, sets_memory, flags_memory}
-use Rattle.machine_commands.proofs.Attaching.{attached_memory}
+use Rattle.machine_commands.proofs.StationHandling.{goes_on, sets_memory, flags_memory, attached_memory}
 use Rattle.machine_commands.proofs.calls.MachineStationStation.set_memory.Goals as goal
 
 pub returns-clause-step : goal.returns-clause-step

@@ -1,7 +1,6 @@
 use Rattle.std.proofs.Common.{sym, ◌∙◌}
-use Rattle.machine_commands.proofs.StationBays.{rate_set}
-use Rattle.machine_commands.proofs.StationHandling.{goes_on}
-use Rattle.machine_commands.proofs.Rating.{flags_rate_set, flags_rate_refused}
+use Rattle.machine_commands.proofs.Selecting.{rate_set}
+use Rattle.machine_commands.proofs.StationHandling.{goes_on, flags_rate_set, flags_rate_refused}
 use Rattle.machine_commands.proofs.calls.MachineStationStation.set_rate.Goals as goal
 
 pub returns-then-is_err-clause-step : goal.returns-then-is_err-clause-step

@@ -2,9 +2,9 @@ use Rattle.std.proofs.Common.{length, sym}
 use Rattle.std.specs.Prelude.{◌∷◌, None}
 use Rattle.machine_commands.proofs.Common.{All-head, All-rest, All-same, IsEmpty, fresh_bay, counts_of, rig_shown, flags_of, flags_shown, all_counts, station_shown}
 use Rattle.floppy_driver.specs.Shown.{shown}
-use Rattle.machine_commands.proofs.StationBays.{flags_set}
-use Rattle.machine_commands.proofs.Attaching.{attached_unit}
-use Rattle.machine_commands.proofs.Replacing.{unit_taken, flags_unit}
+use Rattle.machine_commands.proofs.Selecting.{flags_set}
+use Rattle.machine_commands.proofs.StationHandling.{attached_unit}
+use Rattle.machine_commands.proofs.Landing.{unit_taken, flags_unit}
 use Rattle.machine_commands.proofs.calls.MachineStationStation.take_unit.Goals as goal
 
 pub exchange-requires-clause-empty : goal.exchange-requires-clause-empty

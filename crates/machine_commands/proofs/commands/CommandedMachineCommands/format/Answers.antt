@@ -1,6 +1,6 @@
 use Rattle.std.proofs.Common.{◌∙◌}
 use Rattle.machine_commands.proofs.Common.{board_of}
-use Rattle.machine_commands.proofs.FormatKeys.{format_whole, track_as}
+use Rattle.machine_commands.proofs.Awaiting.{format_whole, track_as}
 use Rattle.machine_commands.proofs.commands.CommandedMachineCommands.format.Goals as goal
 
 pub returns : goal.returns

@@ -1,5 +1,5 @@
 use Rattle.machine_commands.proofs.Common.{board_of, rig_of, turn_same}
-use Rattle.machine_commands.proofs.Questions.{reads_line, line_idle, line_asks}
+use Rattle.machine_commands.proofs.Selecting.{reads_line, line_idle, line_asks}
 use Rattle.std.proofs.Common.{arith}
 use Rattle.machine_commands.proofs.Lasting.{rig_costs, line_costs}
 use Rattle.machine_commands.proofs.commands.CommandedMachineCommands.is_changed.Goals as goal

@@ -1,5 +1,5 @@
 use Rattle.machine_commands.proofs.Common.{board_of, rig_of, turn_same}
-use Rattle.machine_commands.proofs.Resets.{resets_all, resets_idle}
+use Rattle.machine_commands.proofs.Statuses.{resets_all, resets_idle}
 use Rattle.std.proofs.Common.{arith}
 use Rattle.machine_commands.proofs.Lasting.{rig_costs, resets_cost}
 use Rattle.machine_commands.proofs.commands.CommandedMachineCommands.reset.Goals as goal

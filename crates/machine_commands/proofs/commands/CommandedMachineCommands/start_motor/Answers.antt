@@ -1,5 +1,5 @@
 use Rattle.machine_commands.proofs.Common.{board_of, rig_of, turn_same}
-use Rattle.machine_commands.proofs.Spinning.{starts_asking, starts_spinning, start_idle}
+use Rattle.machine_commands.proofs.Landing.{starts_asking, starts_spinning, start_idle}
 use Rattle.std.proofs.Common.{arith}
 use Rattle.machine_commands.proofs.Lasting.{rig_costs, motor_costs}
 use Rattle.machine_commands.proofs.commands.CommandedMachineCommands.start_motor.Goals as goal

@@ -1,6 +1,5 @@
 use Rattle.std.proofs.Common.{ap, ◌∙◌, ◌-◌, ◌*◌}
-use Rattle.machine_commands.proofs.Awaiting.{channel_as}
-use Rattle.machine_commands.proofs.FormatKeys.{format_as}
+use Rattle.machine_commands.proofs.Awaiting.{channel_as, format_as}
 use Rattle.machine_commands.proofs.machine.CommandedMachine.format_track.Goals as goal
 
 pub returns-clause-sends : goal.returns-clause-sends

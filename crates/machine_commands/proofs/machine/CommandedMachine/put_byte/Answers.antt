@@ -1,5 +1,5 @@
 use Rattle.machine_commands.proofs.Common.{board_of}
-use Rattle.machine_commands.proofs.FormatKeys.{puts_byte}
+use Rattle.machine_commands.proofs.Awaiting.{puts_byte}
 use Rattle.machine_commands.proofs.machine.CommandedMachine.put_byte.Goals as goal
 
 pub returns-clause-byte : goal.returns-clause-byte

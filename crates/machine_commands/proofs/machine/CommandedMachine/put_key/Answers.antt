@@ -1,6 +1,6 @@
 use Rattle.std.proofs.Common.{arith}
 use Rattle.machine_commands.proofs.Common.{board_of}
-use Rattle.machine_commands.proofs.FormatKeys.{puts_key}
+use Rattle.machine_commands.proofs.Awaiting.{puts_key}
 use Rattle.machine_commands.proofs.machine.CommandedMachine.put_key.Goals as goal
 
 pub returns-clause-key : goal.returns-clause-key

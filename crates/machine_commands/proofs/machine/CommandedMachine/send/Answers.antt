@@ -1,6 +1,6 @@
 use Rattle.std.proofs.Common.{◌≡◌, take, refl, subst}
 use Rattle.machine_commands.proofs.Common.{board_of, Sends, take_all}
-use Rattle.machine_commands.proofs.Runs.{sends_next}
+use Rattle.machine_commands.proofs.Awaiting.{sends_next}
 use Rattle.machine_commands.proofs.machine.CommandedMachine.send.Goals as goal
 
 pub loop-byte-preserved : goal.loop-byte-preserved

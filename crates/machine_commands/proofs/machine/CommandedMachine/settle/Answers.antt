@@ -1,6 +1,6 @@
 use Rattle.std.proofs.Common.{arith}
 use Rattle.machine_commands.proofs.Common.{board_of}
-use Rattle.machine_commands.proofs.Runs.{settles_by}
+use Rattle.machine_commands.proofs.Awaiting.{settles_by}
 use Rattle.machine_commands.proofs.machine.CommandedMachine.settle.Goals as goal
 
 pub returns-clause-settles : goal.returns-clause-settles

@@ -1,6 +1,6 @@
 use Rattle.std.proofs.Common.{length, sym, ap, ◌∙◌}
 use Rattle.machine_commands.proofs.Common.{Board, memory_of, board_of}
-use Rattle.machine_commands.proofs.Starting.{user_size}
+use Rattle.machine_commands.proofs.Landing.{user_size}
 use Rattle.machine_commands.proofs.station.MachineStation.hold_size.Goals as goal
 
 pub returns : goal.returns

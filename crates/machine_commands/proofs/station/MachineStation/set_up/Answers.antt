@@ -1,6 +1,6 @@
 use Rattle.std.proofs.Common.{length, sym, subst, ap, ◌∙◌}
 use Rattle.machine_commands.proofs.Common.{length-map, All-map, All-same, DriveTells, Board, board, IsEmpty, CostsFor, IsReset, CanSetUp, counts_of, rig_of, rig_shown, all_counts}
-use Rattle.machine_commands.proofs.Starting.{fresh_can_set_up, flags_free, starts_fresh, starts_so}
+use Rattle.machine_commands.proofs.Landing.{fresh_can_set_up, flags_free, starts_fresh, starts_so}
 use Rattle.machine_commands.proofs.station.MachineStation.set_up.Goals as goal
 
 pub set_up-driver-requires : goal.set_up-driver-requires

@@ -6,7 +6,7 @@ use Rattle.c_slots.specs.contracts.machine.held.Held as held
 use mathlib.Core.Path.{refl, sym, subst}
 use mathlib.Core.List.{List, [], ◌∷◌, ◌++◌}
 use base.Logic.{id⊢}
-use types.Kit.{‵, ◌⊛◌, ◌$◌, ◌∵◌, !}
+use types.Kit.{‵, ◌⊛◌, ◌$◌, ◌∵◌, ! }
 use Rattle.c_slots.proofs.Rows.{machine_box as E}
 use Rattle.c_slots.specs.contracts.machine.held.Held.into_loose as F
 use Rattle.c_slots.specs.contracts.machine.held.Held.into_loose.Key.{name as #self}

@@ -4,7 +4,7 @@ use Rattle.c_slots.proofs.Common.{None, Ura, w64, Val, vint, vstruct, vcons, vni
 use mathlib.Core.Path.{refl, sym, subst}
 use mathlib.Core.List.{List, [], ◌∷◌, ◌++◌}
 use lib.Dec.{lit<}
-use types.Kit.{‵, ◌⊛◌, ◌$◌, ◌∵◌, !}
+use types.Kit.{‵, ◌⊛◌, ◌$◌, ◌∵◌, ! }
 use Rattle.std.specs.contracts.alloc.Global as Heap
 use Rattle.c_slots.proofs.Rows.{tray_box as E}
 use Rattle.c_slots.specs.contracts.tray.held.Held as held

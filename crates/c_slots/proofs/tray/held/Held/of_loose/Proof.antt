@@ -4,7 +4,7 @@ use Rattle.c_slots.proofs.Common.{Some, Ura, Val, SProp, ent, emp, ftrue, fsep, 
 use mathlib.Core.Path.{refl, sym, subst}
 use mathlib.Core.List.{List, [], ◌∷◌, ◌++◌}
 use base.Logic.{id⊢}
-use types.Kit.{‵, ◌⊛◌, ◌$◌, ◌∵◌, !}
+use types.Kit.{‵, ◌⊛◌, ◌$◌, ◌∵◌, ! }
 use Rattle.c_slots.proofs.Rows.{tray_box as E}
 use Rattle.c_slots.specs.contracts.loose.Loose as loose
 use Rattle.std.specs.contracts.alloc.Global as Heap
