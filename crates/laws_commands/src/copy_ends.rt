@@ -7,6 +7,7 @@ ghost use Rattle.laws_commands.specs.EndsComplete.{BeginsSound, EndsWellOrOutsid
 /// The first name has the image of a regular disk that has each of its standard keys. Then the copy ends well, unless
 /// the shelf, the sink or memory fails. This holds whatever the marks and the contents are. A disk with the same
 /// standard sectors is then stored under the second name, and no other file changed.
+#[tactic(auto, using(crate::proofs::CommandEnds::copy_complete))]
 pub fn copy_ends_well(_from: &str, _to: &str)
     ensures { (old new : World) (ended : Status) (files : Files) (disk : Disk)
         → BeginsSound old → old.files ≡ Some files → IsImageOf (Some files) _from.now disk → IsReadable disk

@@ -9,6 +9,7 @@ use flop_base::Status;
 /// during the copy. A copy of the disk is stored under the second name, and no other file changed. The copy has each
 /// standard key with the mark and the content that the read of the key gave. These are the mark and the content of an
 /// intact field of the key on that disk.
+#[tactic(auto, using(crate::proofs::CopyRun::copy_stores))]
 pub fn copy_stores_a_copy(_from: &str, _to: &str)
     ensures { (old new : World) (course : List Taken) (files : Files) (disk : Disk)
         → RunsScript (copy_script _from.now _to.now) old course new Status.AllOk

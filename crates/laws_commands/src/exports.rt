@@ -9,6 +9,7 @@ use flop_base::Status;
 /// changed. The file has at the place of each sector what the read of its key gave, whatever faults there were. These
 /// are the bytes of an intact field of the key. They are the bytes of the key's sector if the disk is regular, and if
 /// the drive of bay 0 had no fault or no field of the disk has two data marks.
+#[tactic(auto, using(crate::proofs::ExportRun::export_stores))]
 pub fn export_stores_what_was_read(_name: &str, _flat: &str)
     ensures { (old new : World) (course : List Taken)
         → RunsScript (export_script _name.now _flat.now) old course new Status.AllOk

@@ -10,6 +10,7 @@ use flop_base::Rate;
 /// A law on a run in which each request of the command that formats was done, while the drive of bay 0 had no fault.
 /// The disk in bay 0 is then a formatted one, whatever else the run met: DMA requests that waited, spurious interrupts,
 /// or anything in the other bay. This disk is what the command's last request stores.
+#[tactic(auto, using(crate::proofs::Prepared::formats_disk, crate::proofs::Prepared::stores_disk))]
 pub fn formats_disk(_rate: Rate, _name: &str, _cylinders: u8)
     ensures leaves { (old new : State) (told after : Option Files) (course : List Taken)
         → DoesAll (formatting _rate _name.now _cylinders) old told course new after

@@ -7,6 +7,7 @@ ghost use Rattle.laws_commands.specs.Verified.{ReadsDisk, IsUnmistaken, refused_
 /// nor a late DMA request (stall) disturbed them. The reads that are refused are exactly those of the disk's standard
 /// keys that aren't found, in their order. Each is refused with the code of its look. The code is 02 if the track has
 /// no address mark or the key has no data, 04 if no address field has the key, and 10 if its data are damaged.
+#[tactic(auto, using(crate::proofs::Verified::disk_tells))]
 pub fn reads_tell_of_disk(_name: &str)
     ensures { (old new : State) (files : Files) (disk : Disk) (course : List Taken)
         (after : Option Files) (failed : List (Chrn × Look))

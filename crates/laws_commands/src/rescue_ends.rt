@@ -7,6 +7,7 @@ ghost use Rattle.laws_commands.specs.EndsComplete.{BeginsSound, EndsWellOrOutsid
 /// can wait too long. The first name has the image of a regular disk that has each of its standard keys. Then the
 /// rescue ends well, unless the shelf, the sink or memory fails. A disk with the same standard sectors, on Laid tracks,
 /// is then stored under the second name, and an empty log under the third, which is another name.
+#[tactic(auto, using(crate::proofs::Storing::new_rescue_complete))]
 pub fn new_rescue_ends_well(_from: &str, _to: &str, _log: &str)
     ensures { (old new : World) (ended : Status) (files : Files) (disk : Disk)
         → BeginsSound old → old.files ≡ Some files → IsImageOf (Some files) _from.now disk → IsReadable disk
@@ -19,6 +20,7 @@ pub fn new_rescue_ends_well(_from: &str, _to: &str, _log: &str)
 /// records of the log. The second name has the image of a disk that takes these records at the first disk's rate. Then
 /// the rescue ends well, unless the shelf, the sink or memory fails. That disk is stored again, with these sectors as
 /// the first disk has them and all others as they were, and then an empty log.
+#[tactic(auto, using(crate::proofs::RescueTargets::further_rescue_complete))]
 pub fn further_rescue_ends_well(_from: &str, _to: &str, _log: &str)
     ensures { (old new : World) (ended : Status) (files : Files) (disk target : Disk) (lines : List LogLine)
         → BeginsSound old → old.files ≡ Some files → IsImageOf (Some files) _from.now disk → IsImageOf (Some files) _to.now target

@@ -15,6 +15,7 @@ ghost use Rattle.laws_commands.specs.Rescued.{IsNotStopped, HasTarget, IsRescue}
 /// The disk is stored first, and then the log. The next run finds both as it needs them: a regular disk and a log. If
 /// the disk is new, it is unprotected, has the first disk's cylinders and rate, and has Laid fields. Otherwise it is in
 /// these respects as the other disk was.
+#[tactic(auto, using(crate::proofs::Whole::rescue_stores))]
 pub fn rescue_settles_each_record(_from: &str, _to: &str, _log: &str)
     ensures { (old new : World) (course : List Taken) (ended : Status) (files : Files) (disk target : Disk)
         → Rescues _from.now _to.now _log.now old course new ended → IsEndStatus ended

@@ -8,6 +8,7 @@ ghost use Rattle.laws_commands.specs.Times.{ArePutShort, SetsAtMost};
 /// files have to be told, the first station has to be so, and no request may set more attempts.
 ///
 /// With other numbers the same holds if each request of the course puts in short tracks alone, whatever files are told.
+#[tactic(auto, using(crate::proofs::Turns::course_short, crate::proofs::Turns::told_short))]
 pub fn media_have_short_tracks()
     ensures told { (old new : State) (files : Files) (after : Option Files) (course : List Taken) → Run old (Some files) course new after
         → All (SetsAtMost 10) (requests_of course) → IsWithin 16384 10 old.station → AreWithin 16384 10 old.station course }

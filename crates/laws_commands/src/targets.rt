@@ -34,6 +34,7 @@ pub fn imported_disk_is_a_target(_name: &str)
 
 /// A law: sectors of these keys can be written to such a disk. A rescue by a log of some of these keys therefore goes
 /// to its end when nothing can go wrong.
+#[tactic(auto, using(crate::proofs::RescueTargets::target_takes))]
 pub fn target_takes_keys(_name: &str)
     ensures { (keyed disk : Disk) (after : Option Files) (keys : List Chrn) → HoldsTarget _name.now keyed disk after
         → All (IsStandardKey keyed) keys → TakesKeys keyed.rate keys disk }

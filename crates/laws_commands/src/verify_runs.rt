@@ -8,6 +8,7 @@ ghost use Rattle.laws_commands.specs.VerifyRuns.{TellsFailing, IsEndStatus};
 /// and neither a fault of its drive nor a late DMA request (stall) disturbed the verify. Then it prints a line for each
 /// standard key that isn't found, in their order, with the code of its look. After these comes only the last line,
 /// which counts the other keys. The status is 1 if there is a key that isn't found, and otherwise 0.
+#[tactic(auto, using(crate::proofs::VerifyRun::verify_tells))]
 pub fn verify_tells_failing_keys(_name: &str)
     ensures { (old new : World) (course : List Taken) (ended : Status) (files : Files) (disk : Disk)
         (failed : List (Chrn × Look))
