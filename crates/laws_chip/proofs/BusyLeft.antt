@@ -7,12 +7,12 @@ use Rattle.laws_chip.proofs.Lasted.{Lasts, call_lasts, calls_last}
 use Rattle.fdc_chip.specs.declared.stage.ChipTask.TheVariants as task
 use Rattle.laws_chip.specs.Calls as made
 use Rattle.laws_chip.proofs.FormatsEnd.{FormatsOn, formats, formats_step}
-use Rattle.laws_chip.proofs.NextStages.{KeepsTask, call_keeps, works_quiet, is_change}
-use Rattle.laws_chip.proofs.PassedOn.{all_passed, call_serving, none_wait}
+use Rattle.laws_chip.proofs.NextStages.{KeepsTask, call_keeps, call_serving, works_quiet, is_change}
+use Rattle.laws_chip.proofs.PassedOn.{all_passed, none_wait}
 use Rattle.laws_chip.proofs.ServedSteps.{serves_step, tells_shown}
 use Rattle.laws_chip.proofs.Singles.{WaitsBehind, executes_none, executes_step, waits_shown}
 use Rattle.laws_chip.proofs.SinglesLast.{StaysSingle, kind_of, left_most, left_some, single_call, stage_kind, left_on}
-use Rattle.laws_chip.proofs.SoundParts.{busy_at, is_busy}
+use Rattle.laws_chip.proofs.SoundParts.{busy_at, is_busy, serves_of}
 use Rattle.laws_chip.proofs.TracksLast.{Leaves, LeavesAt, call_leaves, leaves_some, some_here, none_of}
 use Rattle.laws_chip.proofs.UnderWay.{clash, either_way, not_through}
 use Rattle.laws_chip.proofs.VerifiesLast.{IsWithin, call_within}
@@ -56,12 +56,6 @@ pub record BusyLeft (n : ℕ) (chip : ChipState) : Type 0 where
 -- results that are told end the command
 told_none : {A : Type 0} (new : ChipState) → has_command new.stage ≡ true → has_command new.stage ≡ false → A
 told_none new works over = clash (has_command new.stage) over works
-
-serves_of : (chip : ChipState) → IsSound chip → chip.stage ≡ Busy task.Sent → is_under_way chip.front.stage ≡ true → ServesBehind chip.front
-serves_of chip sound at under = elim (busy_at chip task.Sent at sound) [
-  | inl serves ↦ serves
-  | inr executes ↦ absurd (not_through chip.front under executes.through)
-]
 
 served_on : (here steps n : ℕ) → 1 ≤ here → steps ≤ 1 → here + 65536 ≤ n → here - steps + 65536 ≤ n - steps
 served_on here steps n some one few = omega arith
@@ -218,48 +212,15 @@ verify_step n left old new step sound still at was works =
 
 -- ---- ---- READ TRACK
 
-tracks_as : (track : Track) (new : ChipState) → new.stage ≡ Busy (task.Track track) → IsTracking new
-tracks_as track new at = record { track = track; reads = at }
-
-index_tracks : (b : Bool) (track : Track) (old new : ChipState) → has_command new.stage ≡ true → EndsIndex b track old new → IsTracking new
-index_tracks true track old new works is = told_none new works (ap (λ (chip : ChipState). has_command chip.stage) is)
-index_tracks false track old new works (gives, rest) = tracks_as _ new (ap (λ (chip : ChipState). chip.stage) rest)
-
-sector_tracks : (b : Bool) (results : Results) (track : Track) (old new : ChipState) → has_command new.stage ≡ true → EndsAddressIf b results track old new → IsTracking new
-sector_tracks true results track old new works (gives, rest) = tracks_as _ new (ap (λ (chip : ChipState). chip.stage) rest)
-sector_tracks false results track old new works is = told_none new works (ap (λ (chip : ChipState). has_command chip.stage) is)
-
-address_tracks : (b : Bool) (results : Results) (track : Track) (old new : ChipState) → has_command new.stage ≡ true → EndsAddress b results track old new → IsTracking new
-address_tracks true results track old new works is = told_none new works (ap (λ (chip : ChipState). has_command chip.stage) is)
-address_tracks false results track old new works ends = sector_tracks ((results.st1.0 == 0) && is_size track.key.n) results track old new works ends
-
-data_tracks : (b : Bool) (track : Track) (old new : ChipState) → has_command new.stage ≡ true → EndsData b track old new → IsTracking new
-data_tracks true track old new works is = told_none new works (ap (λ (chip : ChipState). has_command chip.stage) is)
-data_tracks false track old new works (gives, rest) = tracks_as _ new (ap (λ (chip : ChipState). chip.stage) rest)
-
-place_tracks : (place : Place) (track : Track) (results : Results) (old new : ChipState) → has_command new.stage ≡ true → EndsAt place track results old new → IsTracking new
-place_tracks Index track results old new works ends = index_tracks (not (bit_and results.st1.0 missing_mark == 0)) track old new works ends
-place_tracks Address track results old new works ends = address_tracks track.counted results track old new works ends
-place_tracks Data track results old new works ends = let over = without_one results track in data_tracks (is_over results over) over old new works ends
-
-track_ends : (waiting : Option Results) (track : Track) (set new : ChipState) → set.stage ≡ Busy (task.Track track) → has_command new.stage ≡ true → EndsAs waiting (task.Track track) set new → IsTracking new
-track_ends (Some results) track set new at works ends = place_tracks track.place track results (with_front (results_taken set.front) set) new works ends
-track_ends None track set new at works is = tracks_as track new (ap (λ (chip : ChipState). chip.stage) is ∙ at)
-
 pub leaves_left : (n : ℕ) (new : ChipState) → Leaves n new → BusyLeft n new
 leaves_left n new leaves = record { task = task.Track leaves.track; at = leaves.at; left = leaves }
-
-track_step : (n : ℕ) (track : Track) (old new : ChipState) (step : StepsChip old new) → IsSound old → IsSound new → old.stage ≡ Busy (task.Track track) → Leaves n old → has_command new.stage ≡ true → BusyLeft (n - 1) new
-track_step n track old new step sound still at was works =
-    let tracks = track_ends (results_judged (with_front step.between old)) track (with_front step.between old) new at works (subst (λ stage. Follows stage (with_front step.between old) new) at step.follows) in
-    leaves_left (n - 1) new (call_leaves made.Steps n old new sound still was step tracks)
 
 step_left : (what : ChipTask) (n : ℕ) (old new : ChipState) (step : StepsChip old new) → IsSound old → IsSound new → old.stage ≡ Busy what → TaskLeft what n old → has_command new.stage ≡ true → BusyLeft (n - 1) new
 step_left task.Sent n old new step sound still at left works = sent_step n old new step sound at left works
 step_left (task.Sought first) n old new step sound still at left works = sought_step n first old new step sound at left works
 step_left (task.Refused unit key mfm) n old new step sound still at left works = refused_step n unit key mfm old new step sound at left works
 step_left (task.Verify rest) n old new step sound still at left works = verify_step n rest old new step sound still at left works
-step_left (task.Track track) n old new step sound still at left works = track_step n track old new step sound still at left works
+step_left (task.Track track) n old new step sound still at left works = leaves_left (n - 1) new (call_leaves made.Steps n old new sound still left step works)
 
 -- ---- another call
 
@@ -293,8 +254,7 @@ other_left call (task.Refused unit key mfm) n old new sound still at was does ot
 other_left call (task.Verify left) n old new sound still at was does other quiet keeps =
     verify_on call n left left old new sound still at was does (none_one (steps_of call) (none_of call other)) keeps.stage
 other_left call (task.Track track) n old new sound still at was does other quiet keeps =
-    let (counted, stage) = keeps.stage in
-    leaves_left (n - steps_of call) new (call_leaves call n old new sound still was does (tracks_as (record track { counted = counted }) new stage))
+    leaves_left (n - steps_of call) new (call_leaves call n old new sound still was does (ap has_command keeps.stage.1))
 
 -- ---- any call after which a command is under way
 

@@ -4,7 +4,7 @@ use Rattle.laws_chip.proofs.Common.{false≢true, Chrn, DriveState, Fifo, emptie
 use Rattle.fdc_stages.specs.declared.formatting.FormatNext.TheVariants as laid
 use Rattle.fdc_phases.specs.Answers.{no_key}
 use Rattle.fdc_phases.specs.declared.phases.Task.TheVariants as task
-use Rattle.laws_chip.proofs.Known.{which_drive}
+use Rattle.laws_chip.proofs.Known.{at_drive}
 use Rattle.laws_chip.proofs.Rests.{through_step}
 
 -- the controller executes a FORMAT TRACK
@@ -97,11 +97,8 @@ module _ (polls new : Fdc) where
 adapter_on : (old new : AdapterState) → StepsAdapter old new → formats old.controller.phase ≡ true → FormatsOn new.controller.phase
 adapter_on old new steps is =
     let fdc = old.controller in
-    elim (which_drive (selected_at old)) [
-      | inl at ↦ phase_on (polled fdc) new.controller fdc.phase fdc.asking fdc.fifo old.first new.first is (steps.at_first at).0.writes
-      | inr (inl at) ↦ phase_on (polled fdc) new.controller fdc.phase fdc.asking fdc.fifo old.second new.second is (steps.at_second at).0.writes
-      | inr (inr at) ↦ phase_alone (polled fdc) new.controller fdc.phase is (steps.at_none at).0.nowhere
-    ]
+    at_drive old new steps (λ before after works. phase_on (polled fdc) new.controller fdc.phase fdc.asking fdc.fifo before after is works.writes)
+    (λ alone. phase_alone (polled fdc) new.controller fdc.phase is alone.nowhere)
 
 pub formats_step : (old new : Front) → StepsFront old new → old.stage ≡ Through → formats old.adapter.controller.phase ≡ true → FormatsOn new.adapter.controller.phase
 formats_step old new step through is =

@@ -7,7 +7,7 @@ use Rattle.fdc_commands.specs.declared.bytes.Accepted.TheVariants.{Ready}
 use Rattle.fdc_stages.specs.Readings as heard
 use Rattle.fdc_stages.specs.declared.writing.WriteNext.TheVariants.{Ended}
 use Rattle.fdc_core.specs.Commands.{Obeys}
-use Rattle.laws_chip.proofs.Known.{port_same, which_drive}
+use Rattle.laws_chip.proofs.Known.{adapter_stays, at_drive, polled_by, port_same}
 use Rattle.laws_chip.proofs.Started.{without_bytes}
 
 -- ---- a device step leaves the seeks, while a command for a sector is executed
@@ -90,42 +90,27 @@ step_seeks : (operation : Operation) (past : Past) (sent : Sent) (old new : Adap
     → new.controller.seeks ≡ (polled old.controller).seeks
 step_seeks (Read wanted skip) past sent old new steps busy was =
     let fdc = old.controller in
-    elim (which_drive (selected_at old)) [
-      | inl at ↦ let works = (steps.at_first at).0 in
-          read_seeks past sent fdc.phase fdc.asking fdc.fifo.bytes (at_index old.first) works.reads.word (polled fdc) new.controller busy works.reads.follows.executes was
-      | inr (inl at) ↦ let works = (steps.at_second at).0 in
-          read_seeks past sent fdc.phase fdc.asking fdc.fifo.bytes (at_index old.second) works.reads.word (polled fdc) new.controller busy works.reads.follows.executes was
-      | inr (inr at) ↦ read_seeks past sent fdc.phase fdc.asking fdc.fifo.bytes false 0 (polled fdc) new.controller busy (steps.at_none at).0.reads.executes was
-    ]
+    let seeks = read_seeks past sent fdc.phase fdc.asking fdc.fifo.bytes in
+    at_drive old new steps (λ before after works. seeks (at_index before) works.reads.word (polled fdc) new.controller busy works.reads.follows.executes was)
+    (λ alone. seeks false 0 (polled fdc) new.controller busy alone.reads.executes was)
 step_seeks (Write deleted) past sent old new steps busy was =
     let fdc = old.controller in
-    elim (which_drive (selected_at old)) [
-      | inl at ↦ write_seeks deleted past sent fdc.phase fdc.asking fdc.fifo (polled fdc) old.first new.first new.controller busy (steps.at_first at).0.writes was
-      | inr (inl at) ↦ write_seeks deleted past sent fdc.phase fdc.asking fdc.fifo (polled fdc) old.second new.second new.controller busy (steps.at_second at).0.writes was
-      | inr (inr at) ↦ nowhere_seeks deleted past sent fdc.phase fdc.asking fdc.fifo (polled fdc) new.controller busy (steps.at_none at).0.nowhere was
-    ]
-
--- the poll changes no seek
-polled_seek : (b : Bool) (old : Fdc) → (if b then record old { poll_due = false; interrupt = true; seeks = with_polls old.seeks } else old).seeks.seek ≡ old.seeks.seek
-polled_seek true old = refl
-polled_seek false old = refl
+    at_drive old new steps
+    (λ before after works. write_seeks deleted past sent fdc.phase fdc.asking fdc.fifo (polled fdc) before after new.controller busy works.writes was)
+    (λ alone. nowhere_seeks deleted past sent fdc.phase fdc.asking fdc.fifo (polled fdc) new.controller busy alone.nowhere was)
 
 same_bits : (old new : Seeking) → new.seek ≡ old.seek → seek_bits new ≡ seek_bits old
 same_bits old new same = ap (λ seek. seek_bits (record old { seek = seek })) same
 
 -- SPECIFY's ND stays
 pub step_dma : (old new : AdapterState) → StepsAdapter old new → new.controller.non_dma ≡ old.controller.non_dma
-step_dma old new steps = elim (which_drive (selected_at old)) [
-  | inl at ↦ (steps.at_first at).0.stays.non_dma
-  | inr (inl at) ↦ (steps.at_second at).0.stays.non_dma
-  | inr (inr at) ↦ (steps.at_none at).0.stays.non_dma
-]
+step_dma old new steps = (adapter_stays old new steps).non_dma
 
 pub step_free : (operation : Operation) (past : Past) (sent : Sent) (old new : AdapterState) → StepsAdapter old new → is_executing old.controller.phase ≡ true → MayMove operation past sent old.controller
     → IsFree old.controller → IsFree new.controller
 step_free operation past sent old new steps busy was free =
     let fdc = old.controller in
-    let same = ap (λ seeks. seeks.seek) (step_seeks operation past sent old new steps busy was) ∙ polled_seek (fdc.poll_due && not (is_held fdc)) fdc in
+    let same = ap (λ seeks. seeks.seek) (step_seeks operation past sent old new steps busy was) ∙ polled_by (λ (polls : Fdc). polls.seeks.seek ≡ fdc.seeks.seek) fdc refl refl in
     record { rests = same_bits fdc.seeks new.controller.seeks same ∙ free.rests; by_dma = step_dma old new steps ∙ free.by_dma }
 
 -- ---- the results are given up, and ports

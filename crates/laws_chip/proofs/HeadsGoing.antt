@@ -6,9 +6,9 @@ use Rattle.fdc_registers.specs.St0.{seek_end}
 use Rattle.fdc_commands.specs.Seeking.{Seeking, stepped}
 use Rattle.fdc_core.specs.Drives.Lines.{absent_lines, lines_of_drive, lines_of_selected}
 use Rattle.fdc_chip.specs.Doing.{drained_by}
-use Rattle.laws_chip.proofs.Known.{which_drive}
+use Rattle.laws_chip.proofs.Known.{adapter_stays, which_drive}
 use Rattle.laws_chip.proofs.Polled.{and_true, build, built, ready_interrupts, ready_step}
-use Rattle.laws_chip.proofs.Rests.{adapter_stays, taking_stays, through_step}
+use Rattle.laws_chip.proofs.Rests.{taking_stays, through_step}
 
 -- ---- the motion in a device step
 

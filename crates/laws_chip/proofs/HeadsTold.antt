@@ -5,6 +5,7 @@ use Rattle.laws_chip.proofs.Common.{option_map_or, and_right, eqb-false, false�
 use Rattle.fdc_commands.specs.Seeking.{Seeking, status_of, stepped, without_result as without_one}
 use Rattle.fdc_chip.specs.Doing.{drained_by}
 use Rattle.laws_chip.proofs.HeadsGoing.{neighbour_left, none_pending, rests_by_line}
+use Rattle.laws_chip.proofs.Known.{polled_by}
 use Rattle.laws_chip.proofs.Rests.{taking_stays, through_step}
 use Rattle.laws_chip.proofs.SeeksBegun.{IsIdleAt, all_taken, idle_takes, one_taken}
 use Rattle.laws_chip.proofs.WholeTransfers.{kept_front}
@@ -241,11 +242,8 @@ polls_tell old few = by_seek old.seek few
     by_seek (Some seek) few = λ over. by_drive seek.drive few
 
 polled_tells : (old : Fdc) → length old.seeks.pending ≡ 4 → IsOfFour old.seeks.seek → TellsEnd old.seeks → IsPolled old.seeks (polled old).seeks
-polled_tells old four few tells = by_poll (old.poll_due && not (is_held old))
-  where
-    by_poll : (b : Bool) → IsPolled old.seeks (if b then record old { poll_due = false; interrupt = true; seeks = with_polls old.seeks } else old).seeks
-    by_poll true = record { four = refl; seek = refl; tells = polls_tell old.seeks few }
-    by_poll false = record { four = four; seek = refl; tells = tells }
+polled_tells old four few tells =
+    polled_by (λ (fdc : Fdc). IsPolled old.seeks fdc.seeks) old (record { four = four; seek = refl; tells = tells }) (record { four = refl; seek = refl; tells = polls_tell old.seeks few })
 
 fdc_nearer : (track0 : Bool) (old : Fdc) → length old.seeks.pending ≡ 4 → IsOfFour old.seeks.seek → TellsEnd old.seeks → IsNearer old.seeks (seek_stepped track0 (polled old)).seeks
 fdc_nearer track0 old four few tells =

@@ -6,7 +6,7 @@ use Rattle.fdc_phases.specs.declared.phases.Task.TheVariants as phase_task
 use Rattle.laws_chip.specs.Media.{Place, track_at}
 use Rattle.laws_chip.proofs.LateHearing.{hearing_led}
 use Rattle.laws_chip.proofs.Medium.{IsHearingAt, adapter_turns, fresh_hearing, kept_hearing, outset_at}
-use Rattle.laws_chip.proofs.Resting.{polled_phase}
+use Rattle.laws_chip.proofs.Known.{polled_phase}
 use Rattle.fdc_chip.specs.declared.answer.ChipAnswer.TheVariants as answer
 use Rattle.fdc_chip.specs.declared.code.ChipOpcode.TheVariants as code
 use Rattle.fdc_chip.specs.declared.stage.ChipStage.TheVariants.{Telling}

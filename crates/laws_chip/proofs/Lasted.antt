@@ -10,20 +10,13 @@ use Rattle.laws_chip.specs.SectorCalls.{Begins, Call, Does}
 use Rattle.laws_chip.specs.SectorLasting.{steps_in, steps_of}
 use Rattle.laws_chip.proofs.Called.{call_serves, calls_serve}
 use Rattle.laws_chip.proofs.Given.{given_starts, ignored, served_on}
-use Rattle.laws_chip.proofs.Known.{SameCommand, clash, either_way, port_same, which_drive}
+use Rattle.laws_chip.proofs.Known.{SameCommand, adapter_ends, clash, either_way, port_same}
 use Rattle.laws_chip.proofs.Started.{begun_busy}
 use Rattle.laws_chip.proofs.Whole.{begins_served}
 use Rattle.laws_chip.proofs.Sectors.{next_bytes, sectors_next, sectors_some}
 use Rattle.laws_chip.proofs.Sought.{NearsEnd, adapter_seeks, seek_few, seek_left, seek_some}
 
 -- ---- a sector
-
-adapter_ends : (old new : AdapterState) → StepsAdapter old new → EndsIn old.controller.phase new.controller.phase
-adapter_ends old new steps = elim (which_drive (selected_at old)) [
-  | inl at ↦ (steps.at_first at).0.ends
-  | inr (inl at) ↦ (steps.at_second at).0.ends
-  | inr (inr at) ↦ (steps.at_none at).0.ends
-]
 
 step_fewer : (old new : Phase) → is_executing old ≡ true → EndsIn old new → (steps_left new < steps_left old) × IsCounted new
 step_fewer (Execute execution) new busy ends = ends
@@ -365,7 +358,7 @@ first_under : (first : Transfer) (start begun : Front) → Begins first start be
 first_under first start begun begins = starts_under first start begun begins.stays (given_starts first start begun begins.ready begins.gives)
 
 -- what is then under way is of the command's first sector
-begun_records : (stage : FrontStage) (first : Transfer) (fdc : Fdc) → ServesAt stage first (nothing_moved false) fdc → is_under_way stage ≡ true → HasByteNumbers stage → HasByteRecords first
+pub begun_records : (stage : FrontStage) (first : Transfer) (fdc : Fdc) → ServesAt stage first (nothing_moved false) fdc → is_under_way stage ≡ true → HasByteNumbers stage → HasByteRecords first
 begun_records Through first fdc now under bytes = absurd now
 begun_records (Telling results) first fdc now under bytes = absurd (false≢true under)
 begun_records (Seeking at counted) first fdc (here, nothing) under bytes = subst HasByteRecords here bytes

@@ -12,8 +12,7 @@ use Rattle.fdc_phases.specs.declared.phases.Task.TheVariants.{ReadId, Read, Writ
 use Rattle.fdc_core.specs.Commands.{Begins, Obeys}
 use Rattle.fdc_sequencer.specs.Adapters.{Gives, Takes}
 use Rattle.fdc_sequencer.specs.Fronts.{TransfersIf}
-use Rattle.laws_chip.proofs.Known.{which_drive}
-use Rattle.laws_chip.proofs.Resting.{polled_phase}
+use Rattle.laws_chip.proofs.Known.{at_drive, polled_phase}
 use Rattle.laws_chip.proofs.Channels.{port_left}
 use Rattle.laws_chip.proofs.UnderWay.{either_way}
 
@@ -167,19 +166,11 @@ adapter_poll : (old new : AdapterState) → StepsAdapter old new → due new.con
 adapter_poll old new steps =
     let fdc = old.controller in
     let polls = polled fdc in
-    elim (which_drive (selected_at old)) [
-      | inl at ↦
-          let works = (steps.at_first at).0 in
-          works_poll fdc.phase (old.first.cylinder == 0) fdc.asking fdc.fifo (at_index old.first) works.reads.word polls old.first new.first new.controller
-          (subst (λ phase. RestsIn phase (old.first.cylinder == 0) polls new.controller) (polled_phase fdc) works.rests) works.reads.follows.executes works.writes
-      | inr (inl at) ↦
-          let works = (steps.at_second at).0 in
-          works_poll fdc.phase (old.second.cylinder == 0) fdc.asking fdc.fifo (at_index old.second) works.reads.word polls old.second new.second new.controller
-          (subst (λ phase. RestsIn phase (old.second.cylinder == 0) polls new.controller) (polled_phase fdc) works.rests) works.reads.follows.executes works.writes
-      | inr (inr at) ↦
-          let works = (steps.at_none at).0 in
-          alone_poll fdc.phase polls new.controller (subst (λ phase. RestsIn phase false polls new.controller) (polled_phase fdc) works.rests) works.nowhere
-    ]
+    at_drive old new steps
+    (λ before after works.
+    works_poll fdc.phase (before.cylinder == 0) fdc.asking fdc.fifo (at_index before) works.reads.word polls before after new.controller
+    (subst (λ phase. RestsIn phase (before.cylinder == 0) polls new.controller) (polled_phase fdc) works.rests) works.reads.follows.executes works.writes)
+    (λ alone. alone_poll fdc.phase polls new.controller (subst (λ phase. RestsIn phase false polls new.controller) (polled_phase fdc) alone.rests) alone.nowhere)
 
 -- ---- ---- the front
 

@@ -7,9 +7,9 @@ use Rattle.fdc_chip.specs.Doing.{drained_by}
 use Rattle.fdc_chip.specs.Interrupts.{at_rest}
 use Rattle.fdc_chip.specs.Quiet.{rests_at}
 use Rattle.fdc_chip.specs.declared.stage.ChipStage.TheVariants.{Telling}
-use Rattle.laws_chip.proofs.Known.{which_drive}
+use Rattle.laws_chip.proofs.Known.{adapter_stays, by_rests}
 use Rattle.laws_chip.specs.Calls as made
-use Rattle.laws_chip.proofs.Rests.{adapter_stays, taking_stays, through_step}
+use Rattle.laws_chip.proofs.Rests.{taking_stays, through_step}
 use Rattle.laws_chip.proofs.SoundCalls.{front_anew}
 use Rattle.laws_chip.proofs.UnderWay.{either_way}
 use Rattle.laws_chip.proofs.HeadsKept.{KeepsHeads, call_heads}
@@ -58,14 +58,6 @@ polls_now track0 old new was free rests =
       up = ap (λ (fdc : Fdc). fdc.interrupt) is;
     }
 
--- whatever drive is selected, this holds of the controller
-by_drive : (P : Fdc → Type 0) (old new : AdapterState) → StepsAdapter old new → ((track0 : Bool) → Rests track0 (polled old.controller) new.controller → P new.controller) → P new.controller
-by_drive P old new steps of = elim (which_drive (selected_at old)) [
-  | inl at ↦ of (old.first.cylinder == 0) (steps.at_first at).0.rests
-  | inr (inl at) ↦ of (old.second.cylinder == 0) (steps.at_second at).0.rests
-  | inr (inr at) ↦ of false (steps.at_none at).0.rests
-]
-
 fresh_of : (due : Bool) (front : Front) → IsFreshBehind due front → IsFresh due front.adapter.controller
 fresh_of due front is = record { takes = is.takes; whole = is.whole; seeks = is.seeks; poll = is.poll; down = is.down }
 
@@ -79,7 +71,7 @@ front_fresh due old new step was quiet =
     let is = through_step old new step was.through in
     let fdc = old.adapter.controller in
     let waits = ap (λ b. b && not (is_held fdc)) was.poll ∙ quiet in
-    let now : IsFresh due step.between.controller = by_drive (IsFresh due) old.adapter step.between step.steps
+    let now : IsFresh due step.between.controller = by_rests old.adapter step.between step.steps
     (λ track0 rests. stays_fresh due track0 fdc step.between.controller (fresh_of due old was) waits rests) in
     let stays = adapter_stays old.adapter step.between step.steps in
     subst (StaysFresh due old) (sym is) (record {
@@ -170,7 +162,7 @@ poll_step old new sound was free step =
     let fdc = old.front.adapter.controller in
     let front = step.between in
     let through = through_step old.front front step.steps was.behind.through in
-    let now : IsPolled step.steps.between.controller = by_drive IsPolled old.front.adapter step.steps.between step.steps.steps
+    let now : IsPolled step.steps.between.controller = by_rests old.front.adapter step.steps.between step.steps.steps
     (λ track0 rests. polls_now track0 fdc step.steps.between.controller (fresh_of true old.front was.behind) free rests) in
     let stays = adapter_stays old.front.adapter step.steps.between step.steps.steps in
     let at : front.stage ≡ Through = ap (λ (f : Front). f.stage) through ∙ was.behind.through in

@@ -18,7 +18,7 @@ use Rattle.laws_chip.specs.InTime.{AreInTime, IsPrompt, PromptAt}
 use Rattle.laws_chip.proofs.PassedOn.{step_same}
 use Rattle.laws_chip.proofs.SoundCalls.{call_sound}
 use Rattle.laws_chip.proofs.SoundParts as parts
-use Rattle.laws_chip.proofs.SoundParts.{busy_at, sound_basis}
+use Rattle.laws_chip.proofs.SoundParts.{serves_of, sound_basis}
 use Rattle.laws_chip.proofs.UnderWay.{clash, either_way, not_through, port_stage}
 use Rattle.laws_chip.proofs.NextStages as makes
 use Rattle.laws_chip.proofs.NextStages.{Makes, call_stays, is_change}
@@ -463,16 +463,10 @@ record InTimeSoFar (chip : ChipState) : Type 0 where
   serving : IsServing chip
   fed : IsFedFront chip.front
 
-served_of : (chip : ChipState) → IsSound chip → IsServing chip → ServesBehind chip.front
-served_of chip sound serving = elim (busy_at chip SentTask serving.sent sound) [
-  | inl serves ↦ serves
-  | inr executes ↦ absurd (not_through chip.front serving.under_way executes.through)
-]
-
 chip_stepped : (old new : ChipState) (step : StepsChip old new) → InTimeSoFar old → IsPrompt old → IsStepped step.between
 chip_stepped old new step was prompt =
     let basis = sound_basis old (ap parts.is_ready was.serving.sent) was.sound in
-    front_stepped old.front.stage old.front step.between step.steps refl was.serving.under_way (served_of old was.sound was.serving) was.fed basis.gated prompt.served prompt.drive
+    front_stepped old.front.stage old.front step.between step.steps refl was.serving.under_way (serves_of old was.sound was.serving.sent was.serving.under_way) was.fed basis.gated prompt.served prompt.drive
 
 makes_fed : (b : Bool) (old new : Front) → Makes b old new → is_under_way old.stage ≡ true → IsFedFront old → IsFedFront new
 makes_fed b old new (makes.Same is) under fed = same_fed old new is fed

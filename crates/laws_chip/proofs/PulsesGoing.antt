@@ -4,7 +4,8 @@ use Rattle.laws_chip.proofs.Common.{option_map_or, mul-le-mul_right, suc-mul, an
 use Rattle.fdc_commands.specs.Seeking.{Seeking}
 use Rattle.fdc_chip.specs.Paces.{EndsAt, GoesOn, is_over, stepped}
 use Rattle.laws_chip.proofs.HeadsGoing.{HasEnded, bare, ended_untold, front_steps, neighbour_left, none_drained, none_pending, rests_by_line, status_in, told_at}
-use Rattle.laws_chip.proofs.Rests.{adapter_stays, taking_stays, through_step}
+use Rattle.laws_chip.proofs.Known.{adapter_stays}
+use Rattle.laws_chip.proofs.Rests.{taking_stays, through_step}
 use Rattle.laws_chip.proofs.SeeksBegun.{given_seek, given_within, motion_to, of_four, seek_sent}
 use Rattle.laws_chip.proofs.Standing.{Stands, stands_idle, stands_ready, status_free}
 

@@ -5,20 +5,12 @@ use Rattle.fdc_commands.specs.Seeking.{Seeking, stepped}
 use Rattle.fdc_commands.specs.Seeking as seek_words
 use Rattle.fdc_commands.specs.declared.motion.Motion.TheVariants as motion
 use Rattle.fdc_commands.specs.declared.motion.Seek.{Seek}
-use Rattle.laws_chip.proofs.Known.{which_drive}
-use Rattle.laws_chip.proofs.Resting.{polled_phase}
+use Rattle.laws_chip.proofs.Known.{adapter_stays, by_rests, polled_by, polled_phase}
 use Rattle.fdc_chip.specs.Doing.{drained_by}
 use Rattle.laws_chip.proofs.FirstSectors.{IsBase}
 use Rattle.laws_chip.proofs.Standing.{Stands}
 
 -- ---- what each device step leaves
-
-pub adapter_stays : (old new : AdapterState) → StepsAdapter old new → Stays old.controller new.controller
-adapter_stays old new steps = elim (which_drive (selected_at old)) [
-  | inl at ↦ (steps.at_first at).0.stays
-  | inr (inl at) ↦ (steps.at_second at).0.stays
-  | inr (inr at) ↦ (steps.at_none at).0.stays
-]
 
 pub adapter_base : (old new : AdapterState) → StepsAdapter old new → old.controller.command ≡ [] → IsBase old.controller new.controller
 adapter_base old new steps none =
@@ -52,13 +44,6 @@ stepped_four old track0 few = by_seek old.seek few
     by_seek : (seek : Option Seek) → IsOfFour seek → IsOfFour (stepped (record old { seek = seek }) track0).seek
     by_seek None few = tt
     by_seek (Some seek) few = motion_four (record old { seek = Some seek }) seek.drive seek.motion track0 few few
-
-polled_four : (old : Fdc) → IsOfFour old.seeks.seek → IsOfFour (polled old).seeks.seek
-polled_four old few = by_poll (old.poll_due && not (is_held old))
-  where
-    by_poll : (b : Bool) → IsOfFour (if b then record old { poll_due = false; interrupt = true; seeks = with_polls old.seeks } else old).seeks.seek
-    by_poll true = few
-    by_poll false = few
 
 released_four : (drive : ℕ) (seek : Option Seek) → IsOfFour seek → IsOfFour (released drive seek)
 released_four drive None few = tt
@@ -101,25 +86,16 @@ rests_on track0 old new takes few rests =
     let is = taking_stays track0 old new takes rests in
     record {
       takes = ap (λ (fdc : Fdc). fdc.phase) is ∙ (polled_phase old ∙ takes);
-      seek = subst (λ (fdc : Fdc). IsOfFour fdc.seeks.seek) (sym is) (stepped_four (polled old).seeks track0 (polled_four old few));
+      seek = subst (λ (fdc : Fdc). IsOfFour fdc.seeks.seek) (sym is) (stepped_four (polled old).seeks track0 (polled_by (λ (fdc : Fdc). IsOfFour fdc.seeks.seek) old few few));
     }
 
 adapter_rests : (old new : AdapterState) → StepsAdapter old new → old.controller.phase ≡ Taking → IsOfFour old.controller.seeks.seek → GoesResting new.controller
-adapter_rests old new steps takes few = elim (which_drive (selected_at old)) [
-  | inl at ↦ rests_on (old.first.cylinder == 0) old.controller new.controller takes few (steps.at_first at).0.rests
-  | inr (inl at) ↦ rests_on (old.second.cylinder == 0) old.controller new.controller takes few (steps.at_second at).0.rests
-  | inr (inr at) ↦ rests_on false old.controller new.controller takes few (steps.at_none at).0.rests
-]
+adapter_rests old new steps takes few = by_rests old new steps (λ track0 rests. rests_on track0 old.controller new.controller takes few rests)
 
 -- whatever seek runs
 pub adapter_takes : (old new : AdapterState) → StepsAdapter old new → old.controller.phase ≡ Taking → new.controller.phase ≡ Taking
 adapter_takes old new steps takes =
-    let phase = polled_phase old.controller ∙ takes in
-    elim (which_drive (selected_at old)) [
-      | inl at ↦ ap (λ (fdc : Fdc). fdc.phase) (taking_stays (old.first.cylinder == 0) old.controller new.controller takes (steps.at_first at).0.rests) ∙ phase
-      | inr (inl at) ↦ ap (λ (fdc : Fdc). fdc.phase) (taking_stays (old.second.cylinder == 0) old.controller new.controller takes (steps.at_second at).0.rests) ∙ phase
-      | inr (inr at) ↦ ap (λ (fdc : Fdc). fdc.phase) (taking_stays false old.controller new.controller takes (steps.at_none at).0.rests) ∙ phase
-    ]
+    by_rests old new steps (λ track0 rests. ap (λ (fdc : Fdc). fdc.phase) (taking_stays track0 old.controller new.controller takes rests) ∙ (polled_phase old.controller ∙ takes))
 
 -- where each access is the controller's a step is the adapter's
 pub through_step : (old new : Front) (step : StepsFront old new) → old.stage ≡ Through → new ≡ record old { adapter = step.between }

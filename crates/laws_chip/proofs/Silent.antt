@@ -12,7 +12,7 @@ use Rattle.laws_chip.specs.SectorCalls.{Call, Does, Writes, passed_by}
 use Rattle.laws_chip.proofs.Called.{call_serves}
 use Rattle.laws_chip.proofs.Given.{ignored, served_on}
 use Rattle.laws_chip.proofs.Served.{counts_serve}
-use Rattle.laws_chip.proofs.Known.{clash, port_same, which_drive}
+use Rattle.laws_chip.proofs.Known.{at_drive, clash, polled_by, port_same}
 
 -- ---- the controller
 
@@ -147,12 +147,8 @@ writes_muted (Wrote opened closed index word) head_drive steps writing old befor
 writes_muted Stopped head_drive steps writing old before new does counted = subst Muted (sym does.after_is) tt
 writes_muted _ head_drive steps writing old before new (due, does) counted = subst Muted (sym does.after_is) (next_muted head_drive (steps + 1) writing does.next old counted)
 
-polled_fifo : (b : Bool) (old : Fdc) → (if b then record old { poll_due = false; interrupt = true; seeks = with_polls old.seeks } else old).fifo ≡ old.fifo
-polled_fifo true old = refl
-polled_fifo false old = refl
-
 polled_bytes : (old : Fdc) → (polled old).fifo.bytes ≡ old.fifo.bytes
-polled_bytes old = ap (λ fifo. fifo.bytes) (polled_fifo (old.poll_due && not (is_held old)) old)
+polled_bytes old = polled_by (λ (fdc : Fdc). fdc.fifo.bytes ≡ old.fifo.bytes) old refl refl
 
 -- the same, by what the controller executes
 listens_task : (task : Task) (h s : ℕ) (asking : Bool) (bytes : List ℕ) (polls new : Fdc) (index : Bool) (word : ℕ) → MutedTask task asking bytes → polls.fifo.bytes ≡ bytes
@@ -192,16 +188,11 @@ nowhere_in _ polls new does = tt
 step_muted : (old new : AdapterState) → StepsAdapter old new → is_executing old.controller.phase ≡ true → Muted old.controller → Muted new.controller
 step_muted old new steps busy was =
     let fdc = old.controller in
-    elim (which_drive (selected_at old)) [
-      | inl at ↦ let works = (steps.at_first at).0 in
-          listens_muted fdc.phase fdc (polled fdc) new.controller (at_index old.first) works.reads.word busy was (polled_bytes fdc) works.reads.follows
-          (writes_in fdc.phase fdc.asking fdc.fifo (polled fdc) old.first new.first new.controller works.writes)
-      | inr (inl at) ↦ let works = (steps.at_second at).0 in
-          listens_muted fdc.phase fdc (polled fdc) new.controller (at_index old.second) works.reads.word busy was (polled_bytes fdc) works.reads.follows
-          (writes_in fdc.phase fdc.asking fdc.fifo (polled fdc) old.second new.second new.controller works.writes)
-      | inr (inr at) ↦ let works = (steps.at_none at).0 in
-          listens_muted fdc.phase fdc (polled fdc) new.controller false 0 busy was (polled_bytes fdc) works.reads (nowhere_in fdc.phase (polled fdc) new.controller works.nowhere)
-    ]
+    let listens = listens_muted fdc.phase fdc (polled fdc) new.controller in
+    at_drive old new steps
+    (λ before after works. listens (at_index before) works.reads.word busy was (polled_bytes fdc) works.reads.follows
+    (writes_in fdc.phase fdc.asking fdc.fifo (polled fdc) before after new.controller works.writes))
+    (λ alone. listens false 0 busy was (polled_bytes fdc) alone.reads (nowhere_in fdc.phase (polled fdc) new.controller alone.nowhere))
 
 -- ---- the front
 

@@ -8,7 +8,7 @@ use Rattle.fdc_stages.specs.Searches as searched
 use Rattle.fdc_phases.specs.Answers.{no_key}
 use Rattle.fdc_phases.specs.declared.phases.Task.TheVariants as task
 use Rattle.fdc_core.specs.Steps.{steps_left}
-use Rattle.laws_chip.proofs.Known.{which_drive}
+use Rattle.laws_chip.proofs.Known.{adapter_ends, at_drive, polled_by}
 use Rattle.laws_chip.proofs.FirstSectors.{IsBase}
 use Rattle.laws_chip.proofs.Rests.{adapter_base, through_step}
 use Rattle.laws_chip.proofs.Standing.{IsObeyed, Stands}
@@ -123,28 +123,10 @@ module _ (polls new : Fdc) where
 adapter_singly : (old new : AdapterState) → StepsAdapter old new → executes_single old.controller.phase ≡ true → GoesSingly (polled old.controller) new.controller
 adapter_singly old new steps single =
     let fdc = old.controller in
-    elim (which_drive (selected_at old)) [
-      | inl at ↦ let works = (steps.at_first at).0 in
-          phase_singly (polled fdc) new.controller fdc.phase (at_index old.first) works.reads.word fdc.asking fdc.fifo old.first new.first single works.reads.follows.executes works.writes
-      | inr (inl at) ↦ let works = (steps.at_second at).0 in
-          phase_singly (polled fdc) new.controller fdc.phase (at_index old.second) works.reads.word fdc.asking fdc.fifo old.second new.second single works.reads.follows.executes works.writes
-      | inr (inr at) ↦ phase_alone (polled fdc) new.controller fdc.phase single (steps.at_none at).0.nowhere
-    ]
-
-polled_bits : (old : Fdc) → seek_bits (polled old).seeks ≡ seek_bits old.seeks
-polled_bits old = by_poll (old.poll_due && not (is_held old))
-  where
-    by_poll : (b : Bool) → seek_bits (if b then record old { poll_due = false; interrupt = true; seeks = with_polls old.seeks } else old).seeks ≡ seek_bits old.seeks
-    by_poll true = refl
-    by_poll false = refl
-
--- each device step leaves fewer device steps
-pub adapter_ends : (old new : AdapterState) → StepsAdapter old new → EndsIn old.controller.phase new.controller.phase
-adapter_ends old new steps = elim (which_drive (selected_at old)) [
-  | inl at ↦ (steps.at_first at).0.ends
-  | inr (inl at) ↦ (steps.at_second at).0.ends
-  | inr (inr at) ↦ (steps.at_none at).0.ends
-]
+    at_drive old new steps
+    (λ before after works.
+    phase_singly (polled fdc) new.controller fdc.phase (at_index before) works.reads.word fdc.asking fdc.fifo before after single works.reads.follows.executes works.writes)
+    (λ alone. phase_alone (polled fdc) new.controller fdc.phase single alone.nowhere)
 
 pub single_fewer : (old new : Phase) → executes_single old ≡ true → EndsIn old new → (steps_left new < steps_left old) × IsCounted new
 single_fewer (Execute execution) new single ends = ends
@@ -164,7 +146,7 @@ executes_step old new step none was =
     let fdc = old.adapter.controller in
     let goes = adapter_singly old.adapter step.between step.steps was.executes in
     let ends = single_fewer fdc.phase step.between.controller.phase was.executes (adapter_ends old.adapter step.between step.steps) in
-    let rests = ap seek_bits goes.seeks ∙ (polled_bits fdc ∙ was.rests) in
+    let rests = ap seek_bits goes.seeks ∙ (polled_by (λ (polls : Fdc). seek_bits polls.seeks ≡ seek_bits fdc.seeks) fdc refl refl ∙ was.rests) in
     let is = through_step old new step was.through in
     subst (λ (front : Front). (ExecutesBehind front ⊎ WaitsBehind front) × IsBase fdc front.adapter.controller) (sym is) (
       elim goes.now [

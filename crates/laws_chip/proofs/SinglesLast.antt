@@ -7,7 +7,8 @@ use Rattle.laws_chip.specs.Calls as made
 use Rattle.laws_chip.proofs.Channels.{counts_executes, front_gives, front_takes, gives_executes, keeps_executes, port_executes, front_left, takes_executes}
 use Rattle.laws_chip.proofs.FormatsEnd.{FormatsOn, formats, formats_step, told_formats}
 use Rattle.laws_chip.proofs.Rests.{through_step}
-use Rattle.laws_chip.proofs.Singles.{adapter_ends, executes_none, executes_step, single_fewer, waits_shown}
+use Rattle.laws_chip.proofs.Known.{adapter_ends}
+use Rattle.laws_chip.proofs.Singles.{executes_none, executes_step, single_fewer, waits_shown}
 use Rattle.laws_chip.proofs.SoundCalls.{call_sound}
 use Rattle.laws_chip.proofs.SoundParts.{busy_at, is_busy}
 use Rattle.laws_chip.proofs.UnderWay.{not_through}

@@ -4,7 +4,7 @@ use Rattle.laws_chip.proofs.Common.{ForSome, false≢true, not-true, or_parts, n
 use Rattle.fdc_commands.specs.Seeking.{stepped}
 use Rattle.fdc_commands.specs.declared.motion.Motion.TheVariants as motion
 use Rattle.fdc_commands.specs.declared.motion.Seek.{Seek}
-use Rattle.laws_chip.proofs.Known.{which_drive}
+use Rattle.laws_chip.proofs.Known.{by_rests, polled_by}
 
 -- the device steps that a seek still takes
 abbrev pub motion_left : Motion → ℕ
@@ -85,11 +85,7 @@ record Polls (old polls : Fdc) : Type 0 where
   runs : is_seeking polls.seeks ≡ is_seeking old.seeks
 
 polls_of : (old : Fdc) → Polls old (polled old)
-polls_of old = by_poll _
-  where
-    by_poll : (b : Bool) → Polls old (if b then record old { poll_due = false; interrupt = true; seeks = with_polls old.seeks } else old)
-    by_poll true = record { phase_is = refl; seek = refl; runs = refl }
-    by_poll false = record { phase_is = refl; seek = refl; runs = refl }
+polls_of old = polled_by (Polls old) old (record { phase_is = refl; seek = refl; runs = refl }) (record { phase_is = refl; seek = refl; runs = refl })
 
 idle_rests : (phase : Phase) (track0 : Bool) (polls new : Fdc) → is_executing phase ≡ false → RestsIn phase track0 polls new → new ≡ seek_stepped track0 polls
 idle_rests (Execute execution) track0 polls new idle rests = absurd (false≢true (sym idle))
@@ -111,8 +107,4 @@ rests_on old new track0 idle runs rests =
     }
 
 pub adapter_seeks : (old new : AdapterState) → StepsAdapter old new → is_executing old.controller.phase ≡ false → is_seeking old.controller.seeks ≡ true → NearsEnd old.controller new.controller
-adapter_seeks old new steps idle runs = elim (which_drive (selected_at old)) [
-  | inl at ↦ rests_on old.controller new.controller (old.first.cylinder == 0) idle runs (steps.at_first at).0.rests
-  | inr (inl at) ↦ rests_on old.controller new.controller (old.second.cylinder == 0) idle runs (steps.at_second at).0.rests
-  | inr (inr at) ↦ rests_on old.controller new.controller false idle runs (steps.at_none at).0.rests
-]
+adapter_seeks old new steps idle runs = by_rests old new steps (λ track0 rests. rests_on old.controller new.controller track0 idle runs rests)

@@ -11,6 +11,7 @@ use Rattle.laws_chip.specs.Calls as made
 use Rattle.laws_chip.proofs.Attended.{attended_sound}
 use Rattle.laws_chip.proofs.Channels.{counts_busy, counts_front_base, front_left, gives_busy, gives_front_base, keeps_busy, port_busy, takes_busy, takes_front_base}
 use Rattle.laws_chip.proofs.FirstSectors.{IsBase}
+use Rattle.laws_chip.proofs.Known.{port_sets}
 use Rattle.laws_chip.proofs.Rests.{base_same}
 use Rattle.laws_chip.proofs.SoundParts as parts
 use Rattle.laws_chip.proofs.SoundParts.{IsBasis, basis_busy, basis_rests, basis_same, basis_set, busy_at, is_busy, keep_sound, passing_of, same_sound, sound_basis, sound_set, stays_sound}
@@ -183,27 +184,11 @@ pub record IsAnew (old new : Fdc) : Type 0 where
   pub poll : new.poll_due ≡ true
   pub down : new.interrupt ≡ false
 
-anew_as : (old set new : Fdc) → IsAnew old set → new ≡ set → IsAnew old new
-anew_as old set new anew is = subst (IsAnew old) (sym is) anew
-
-reset_anew : (b : Bool) (old set : Fdc) → b ≡ true → set.non_dma ≡ old.non_dma → IsAnew old (if b then reset set else set)
-reset_anew true old set is same = record { takes = refl; command = refl; seeks = refl; non_dma = same; poll = refl; down = refl }
-reset_anew false old set is same = absurd (false≢true is)
-
 port_anew : (port value : ℕ) (lines : Lines) (old new : Fdc) → Writes port value lines old new → (port == 0x3F5) ≡ false → resets port value ≡ true → IsAnew old new
-port_anew port value lines old new writes no_byte anew = either_way (port == 0x3F2)
-    (λ output.
-    let is : dor_resets value ≡ true = sym (ap (λ b. if b then dor_resets value else (if port == 0x3F4 then dsr_resets value else false)) output) ∙ anew in
-    anew_as old _ new (reset_anew (dor_resets value) old (record old { dor = record { 0 = value } }) is refl) (writes.output (eqb-true port 0x3F2 output)))
-    (λ no_output. either_way (port == 0x3F4)
-    (λ select.
-    let is : dsr_resets value ≡ true =
-    sym (ap (λ b. if b then dsr_resets value else false) select)
-    ∙ (sym (ap (λ b. if b then dor_resets value else (if port == 0x3F4 then dsr_resets value else false)) no_output) ∙ anew) in
-    anew_as old _ new (reset_anew (dsr_resets value) old (record old { rate = rate_chosen value }) is refl) (writes.select (eqb-true port 0x3F4 select)))
-    (λ no_select. absurd (false≢true
-    (sym (ap (λ b. if b then dsr_resets value else false) no_select)
-    ∙ (sym (ap (λ b. if b then dor_resets value else (if port == 0x3F4 then dsr_resets value else false)) no_output) ∙ anew)))))
+port_anew port value lines old new writes no_byte anew =
+    let sets = port_sets port value lines old new writes no_byte in
+    subst (IsAnew old) (sym (sets.is ∙ ap (λ b. if b then reset sets.set else sets.set) anew))
+    (record { takes = refl; command = refl; seeks = refl; non_dma = sets.same.non_dma; poll = refl; down = refl })
 
 pub front_anew : (port value : ℕ) (old new : Front) → WritesFront port value old new → (port == 0x3F5) ≡ false → resets port value ≡ true → IsAnew old.adapter.controller new.adapter.controller × (new.stage ≡ Through)
 front_anew port value old new writes no_byte anew =

@@ -139,21 +139,21 @@ reads_leave n track key old new some spent (reads, rest) = record {
   leaves = (65792, field_sector_lasts track.unit (sector_met key track) old.front new.front reads, spent);
 }
 
--- a command that gives its results isn't under way
-told_none : {A : Type 0} (new : ChipState) → IsTracking new → is_busy new.stage ≡ false → A
-told_none new tracks told = absurd (false≢true (sym told ∙ ap is_busy tracks.reads))
+-- a command that gives its results is no longer under way
+told_none : {A : Type 0} (new : ChipState) → has_command new.stage ≡ true → has_command new.stage ≡ false → A
+told_none new works told = clash (has_command new.stage) told works
 
-index_leaves : (b : Bool) (n : ℕ) (track : Track) (old new : ChipState) → 1 ≤ track.left → SpentAt Index n track.left → IsTracking new → EndsIndex b track old new → Leaves (n - 1) new
-index_leaves true n track old new some spent tracks is = told_none new tracks (ap (λ (chip : ChipState). is_busy chip.stage) is)
-index_leaves false n track old new some spent tracks looks = looks_leave n track old new some spent looks
+index_leaves : (b : Bool) (n : ℕ) (track : Track) (old new : ChipState) → 1 ≤ track.left → SpentAt Index n track.left → has_command new.stage ≡ true → EndsIndex b track old new → Leaves (n - 1) new
+index_leaves true n track old new some spent works is = told_none new works (ap (λ (chip : ChipState). has_command chip.stage) is)
+index_leaves false n track old new some spent works looks = looks_leave n track old new some spent looks
 
-met_leaves : (b : Bool) (n : ℕ) (results : Results) (track : Track) (old new : ChipState) → 1 ≤ track.left → SpentAt Address n track.left → IsTracking new → EndsAddressIf b results track old new → Leaves (n - 1) new
-met_leaves true n results track old new some spent tracks reads = reads_leave n track results.key old new some spent reads
-met_leaves false n results track old new some spent tracks is = told_none new tracks (ap (λ (chip : ChipState). is_busy chip.stage) is)
+met_leaves : (b : Bool) (n : ℕ) (results : Results) (track : Track) (old new : ChipState) → 1 ≤ track.left → SpentAt Address n track.left → has_command new.stage ≡ true → EndsAddressIf b results track old new → Leaves (n - 1) new
+met_leaves true n results track old new some spent works reads = reads_leave n track results.key old new some spent reads
+met_leaves false n results track old new some spent works is = told_none new works (ap (λ (chip : ChipState). has_command chip.stage) is)
 
-address_leaves : (b : Bool) (n : ℕ) (results : Results) (track : Track) (old new : ChipState) → 1 ≤ track.left → SpentAt Address n track.left → IsTracking new → EndsAddress b results track old new → Leaves (n - 1) new
-address_leaves true n results track old new some spent tracks is = told_none new tracks (ap (λ (chip : ChipState). is_busy chip.stage) is)
-address_leaves false n results track old new some spent tracks ends = met_leaves ((results.st1.0 == 0) && is_size track.key.n) n results track old new some spent tracks ends
+address_leaves : (b : Bool) (n : ℕ) (results : Results) (track : Track) (old new : ChipState) → 1 ≤ track.left → SpentAt Address n track.left → has_command new.stage ≡ true → EndsAddress b results track old new → Leaves (n - 1) new
+address_leaves true n results track old new some spent works is = told_none new works (ap (λ (chip : ChipState). has_command chip.stage) is)
+address_leaves false n results track old new some spent works ends = met_leaves ((results.st1.0 == 0) && is_size track.key.n) n results track old new some spent works ends
 
 -- the sector was one of those that were left, and it isn't the last
 one_fewer : (n left : ℕ) → 1 ≤ left → 131328 * left ≤ n - 1 + 131328 → 131328 * (left - 1) ≤ n - 1
@@ -167,22 +167,22 @@ not_last : (counted last overran : Bool) → ((counted || last) || overran) ≡ 
 not_last false false overran on = refl
 not_last _ _ overran on = absurd (false≢true (sym on))
 
-data_leaves : (b : Bool) (n : ℕ) (results : Results) (track : Track) (old new : ChipState) → 1 ≤ track.left → SpentAt Data n track.left → IsTracking new → is_over results (without_one results track) ≡ b
+data_leaves : (b : Bool) (n : ℕ) (results : Results) (track : Track) (old new : ChipState) → 1 ≤ track.left → SpentAt Data n track.left → has_command new.stage ≡ true → is_over results (without_one results track) ≡ b
     → EndsData b (without_one results track) old new → Leaves (n - 1) new
-data_leaves true n results track old new some spent tracks over is = told_none new tracks (ap (λ (chip : ChipState). is_busy chip.stage) is)
-data_leaves false n results track old new some spent tracks over looks =
+data_leaves true n results track old new some spent works over is = told_none new works (ap (λ (chip : ChipState). has_command chip.stage) is)
+data_leaves false n results track old new some spent works over looks =
     let more = not_last track.counted (track.left - 1 == 0) (not (bit_and results.st1.0 overrun == 0)) over in
     looks_leave n (without_one results track) old new (positive (track.left - 1) (eqb-false (track.left - 1) 0 more)) (one_fewer n track.left some spent) looks
 
 -- ---- a device step
 
-place_leaves : (place : Place) (n : ℕ) (track : Track) (results : Results) (old new : ChipState) → 1 ≤ track.left → SpentAt place n track.left → IsTracking new → EndsAt place track results old new → Leaves (n - 1) new
-place_leaves Index n track results old new some spent tracks ends = index_leaves (not (bit_and results.st1.0 missing_mark == 0)) n track old new some spent tracks ends
-place_leaves Address n track results old new some spent tracks ends = address_leaves track.counted n results track old new some spent tracks ends
-place_leaves Data n track results old new some spent tracks ends = data_leaves (is_over results (without_one results track)) n results track old new some spent tracks refl ends
+place_leaves : (place : Place) (n : ℕ) (track : Track) (results : Results) (old new : ChipState) → 1 ≤ track.left → SpentAt place n track.left → has_command new.stage ≡ true → EndsAt place track results old new → Leaves (n - 1) new
+place_leaves Index n track results old new some spent works ends = index_leaves (not (bit_and results.st1.0 missing_mark == 0)) n track old new some spent works ends
+place_leaves Address n track results old new some spent works ends = address_leaves track.counted n results track old new some spent works ends
+place_leaves Data n track results old new some spent works ends = data_leaves (is_over results (without_one results track)) n results track old new some spent works refl ends
 
-step_leaves : (n : ℕ) (old new : ChipState) → IsSound old → Leaves n old → StepsChip old new → IsTracking new → Leaves (n - 1) new
-step_leaves n old new sound was step tracks =
+step_leaves : (n : ℕ) (old new : ChipState) → IsSound old → Leaves n old → StepsChip old new → has_command new.stage ≡ true → Leaves (n - 1) new
+step_leaves n old new sound was step works =
     by_end (results_outside step.between) refl (subst (λ stage. Follows stage set new) was.at step.follows)
   where
     set : ChipState
@@ -194,7 +194,7 @@ step_leaves n old new sound was step tracks =
     by_end : (waiting : Option Results) → results_outside step.between ≡ waiting → EndsAs (option_map (judged set) waiting) (task.Track was.track) set new → Leaves (n - 1) new
     by_end (Some results) waits ends =
         place_leaves was.track.place n was.track (judged set results) (with_front (results_taken step.between) set) new was.some
-        (spent_at was.track.place n was.track.left old.front busy was.some was.leaves) tracks ends
+        (spent_at was.track.place n was.track.left old.front busy was.some was.leaves) works ends
     by_end None silent is = subst (Leaves (n - 1)) (sym is) (record {
       track = was.track;
       at = was.at;
@@ -224,10 +224,10 @@ pub none_of : (call : Call) → is_step call ≡ false → steps_of call ≡ 0
 none_of made.Steps other = absurd (false≢true (sym other))
 none_of _ other = refl
 
-other_leaves : (call : Call) (n : ℕ) (old new : ChipState) → IsSound old → IsSound new → Leaves n old → Does call old new → is_step call ≡ false → IsTracking new → Leaves n new
-other_leaves call n old new sound still was does other tracks =
+other_leaves : (call : Call) (n : ℕ) (old new : ChipState) → IsSound old → IsSound new → Leaves n old → Does call old new → is_step call ≡ false → has_command new.stage ≡ true → Leaves n new
+other_leaves call n old new sound still was does other works =
     let track = was.track in
-    let keeps = call_stays call (task.Track track) old new does was.at other (ap has_command tracks.reads) in
+    let keeps = call_stays call (task.Track track) old new does was.at other works in
     let (counted, at) = keeps.stage in
     let now : Track = record track { counted = counted } in
     record {
@@ -242,13 +242,13 @@ other_leaves call n old new sound still was does other tracks =
 off_none : (n : ℕ) → n ≡ n - 0
 off_none n = omega arith
 
-pub call_leaves : (call : Call) (n : ℕ) (old new : ChipState) → IsSound old → IsSound new → Leaves n old → Does call old new → IsTracking new → Leaves (n - steps_of call) new
-call_leaves call n old new sound still was does tracks = either_way (is_step call)
+pub call_leaves : (call : Call) (n : ℕ) (old new : ChipState) → IsSound old → IsSound new → Leaves n old → Does call old new → has_command new.stage ≡ true → Leaves (n - steps_of call) new
+call_leaves call n old new sound still was does works = either_way (is_step call)
     (λ steps. by_step call steps does)
-    (λ other. subst (λ m. Leaves m new) (off_none n ∙ ap (λ m. n - m) (sym (none_of call other))) (other_leaves call n old new sound still was does other tracks))
+    (λ other. subst (λ m. Leaves m new) (off_none n ∙ ap (λ m. n - m) (sym (none_of call other))) (other_leaves call n old new sound still was does other works))
   where
     by_step : (call : Call) → is_step call ≡ true → Does call old new → Leaves (n - steps_of call) new
-    by_step made.Steps is step = step_leaves n old new sound was step tracks
+    by_step made.Steps is step = step_leaves n old new sound was step works
     by_step _ is does = absurd (false≢true is)
 
 index_some : (here left n : ℕ) → 1 ≤ left → here + 131328 * left ≤ n → 0 < n
@@ -270,7 +270,7 @@ tracks_last [] n old new sound was same = leaves_some was.track.place n was.trac
 tracks_last (call ∷ calls) n old new sound was (between, does, writes, tracks, rest) =
     let still = call_sound call old between does writes sound in
     steps_less (steps_of call) (steps_in calls) n
-    (tracks_last calls (n - steps_of call) between new still (call_leaves call n old between sound still was does tracks) rest)
+    (tracks_last calls (n - steps_of call) between new still (call_leaves call n old between sound still was does (ap has_command tracks.reads)) rest)
 
 -- ---- ---- how the command begins
 

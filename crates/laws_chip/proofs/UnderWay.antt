@@ -2,13 +2,7 @@
 use Rattle.std.proofs.Common.{◌≡◌, ℕ, Bool, true, false, ◌==◌, Option, Some, None, refl, sym, ◌∙◌, ap, subst}
 use Rattle.laws_chip.proofs.Common.{false≢true, eqb-true, resets, Front, GivesAt, TakesAt, WritesFront, count_told, told_front, FrontStage, Through, Seeking, Moving, is_under_way}
 use Rattle.fdc_sequencer.specs.Fronts.{reset_if}
-
-pub clash : {A : Type 0} (b : Bool) → b ≡ false → b ≡ true → A
-clash b is other = absurd (false≢true (sym is ∙ other))
-
-pub either_way : {P : Type 0} (b : Bool) → (b ≡ true → P) → (b ≡ false → P) → P
-either_way true set clear = set refl
-either_way false set clear = clear refl
+pub use Rattle.laws_chip.proofs.Known.{clash, either_way}
 
 pub not_through : (front : Front) → is_under_way front.stage ≡ true → front.stage ≡ Through → ⊥
 not_through front under is = false≢true (sym (ap is_under_way is) ∙ under)

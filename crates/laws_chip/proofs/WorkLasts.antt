@@ -5,6 +5,7 @@ use Rattle.laws_chip.specs.Bounds as bounds
 use Rattle.laws_chip.specs.Calls as made
 use Rattle.laws_chip.proofs.BusyLeft.{BusyLeft, call_left, left_positive, more_left}
 use Rattle.laws_chip.proofs.HeadsGoing.{heads_some}
+use Rattle.laws_chip.proofs.HeadsKept.{data_same}
 use Rattle.laws_chip.proofs.HeadsWait.{move_call, move_step}
 use Rattle.laws_chip.proofs.NextStages.{works_quiet}
 use Rattle.laws_chip.proofs.PulsesGoing.{paced_some}
@@ -29,21 +30,6 @@ abbrev pub WorkLeft : ℕ → Order → ℕ → ChipState → Type 0
 WorkLeft most order n chip = BusyLeft n chip ⊎ HeldLeft most n order chip
 
 -- ---- a call that is no device step
-
--- a held command passes no bytes
-none_pass : (chip : ChipState) → chip.stage ≡ Held → passes_by_port chip ≡ false
-none_pass chip at =
-    and_right (is_by_port chip.settings) (passes chip) (and_left (passes_at chip.stage) (not (is_format chip.order && (chip.keys == 0))) (ap passes_at at))
-
--- an access of the data port leaves all as it is
-data_same : (call : Call) (old new : ChipState) → old.stage ≡ Held → Does call old new → is_of_data_port call ≡ true → new ≡ old
-data_same (made.Reads port value) old new at does here =
-    let reads : ReadsIf (passes_by_port old) old value new = subst (λ stage. ReadsAt stage old value new) at (does.byte (eqb-true port 0x3F5 here)) in
-    (subst (λ b. ReadsIf b old value new) (none_pass old at) reads).1
-data_same (made.Writes port value) old new at does here =
-    let gives : GivesIf (passes_by_port old) value old new = subst (λ stage. TakesByte stage value old new) at (does.bytes (eqb-true port 0x3F5 here)) in
-    subst (λ b. GivesIf b value old new) (none_pass old at) gives
-data_same _ old new at does here = absurd (false≢true here)
 
 other_waits : (wait : ℕ) (call : Call) (old new : ChipState) → old.stage ≡ Held → WaitsFor wait old → Does call old new → is_step call ≡ false → is_reset call ≡ false → is_of_data_port call ≡ false → WaitsFor wait new
 other_waits wait call old new at (bounds.move was) does no_step quiet other = bounds.move (move_call wait call old new at does no_step quiet other was)

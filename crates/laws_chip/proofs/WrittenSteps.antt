@@ -241,7 +241,7 @@ module _ (place : Place) (deleted : Bool) (first : Transfer) (writes : first.opc
       let works = bay_works place.bay old.adapter between placed.bay placed.selects step.steps in
       let may : MayWrite history.past (sent_of moving.transfer) deleted fdc = subst (λ o. MayMove o history.past (sent_of moving.transfer) fdc) writes carries.moves in
       let timed = timed_in place moving.transfer deleted underway.disk history.past (drive_at old.adapter place.bay) (drive_at between place.bay) (polled fdc) between.controller fdc.asking fdc.fifo underway.like.valid
-      (polled_rate (fdc.poll_due && not (is_held fdc)) fdc ∙ placed.rate)
+      (polled_rate fdc ∙ placed.rate)
       (subst (λ a. IsAtSector place a underway.disk history.past true (drive_at old.adapter place.bay)) (sym there) underway.sector) fdc.phase carries.busy may works.writes in
       let now = after_time timed.time history.past in
       let known : KnownOn operation history.past (sent_of moving.transfer) (mark_of fdc) (λ _. Unit {0}) between.controller = record {
