@@ -1,7 +1,6 @@
 -- How many device steps are left of a command that is executed: each call leaves fewer, by the device step that it is.
 use Rattle.std.proofs.Common.{◌≡◌, ◌⊎◌, inl, inr, ℕ, ◌+◌, ◌-◌, ◌*◌, ◌<◌, ◌≤◌, Bool, true, false, not, ◌&&◌, ◌==◌, Option, Some, None, option_map, [], ◌∷◌, bit_and, if◌then◌else◌, refl, sym, ◌∙◌, ap, subst, arith}
-use Rattle.laws_chip.proofs.Common.{and_right, false≢true, Chrn, missing_mark, Results, Front, results_taken, StepsFront, is_under_way, ChipState, with_front, is_size, EndsAddress, EndsAddressIf, EndsAs, EndsAt, EndsData, EndsIndex, EndsSent, MayEnd, as_done, done_if, has_key, has_room, is_not_found, is_over, judged, looks_for_cylinder, results_judged, says_cut, verified, without_one, Follows, StepsChip, Place, Index, Address, Data, Busy, ChipTask, Track, has_command, Call, Does, IsServing, is_reset, is_step, steps_of, is_read_id, IsTracking, IsVerifying, ExecutesBehind, IsSound, ServesBehind}
-use Rattle.fdc_core.specs.Steps.{steps_left}
+use Rattle.laws_chip.proofs.Common.{and_right, false≢true, Chrn, missing_mark, Results, Front, results_taken, StepsFront, is_under_way, ChipState, with_front, is_size, EndsAddress, EndsAddressIf, EndsAs, EndsAt, EndsData, EndsIndex, EndsSent, MayEnd, as_done, done_if, has_key, has_room, is_not_found, is_over, judged, looks_for_cylinder, results_judged, says_cut, verified, without_one, Follows, StepsChip, Place, Index, Address, Data, Busy, ChipTask, Track, has_command, Call, Does, IsServing, is_reset, is_step, steps_of, is_read_id, IsTracking, IsVerifying, ExecutesBehind, IsSound, ServesBehind, core_steps_left as steps_left}
 use Rattle.laws_chip.specs.SectorCalls as behind
 use Rattle.laws_chip.proofs.Lasted.{Lasts, call_lasts, calls_last}
 use Rattle.fdc_chip.specs.declared.stage.ChipTask.TheVariants as task

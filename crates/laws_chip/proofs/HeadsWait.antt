@@ -1,8 +1,6 @@
 -- A held command waits for heads, whatever seek they make: each device step leaves fewer, and other calls leave as many.
 use Rattle.std.proofs.Common.{◌≡◌, ◌⊎◌, inl, inr, ℕ, ◌+◌, ◌-◌, ◌*◌, ◌≤◌, max, Bool, true, false, ◌||◌, Option, Some, None, is_some, [], length, refl, sym, ◌∙◌, ap, subst, arith}
-use Rattle.laws_chip.proofs.Common.{and_from, has_ended_seek, DriveSeek, IsInRange, Fdc, ChipState, with_front, code_of, AttendsIf, drained, implies, is_moving, moves_heads, needs_heads, GoesOnIf, Paces, PulsesIf, is_due, step_words, StepsChip, ChipOpcode, Order, PacedSeek, Settings, Held, IsDoneFree, IsHeldFor, HeadsMove, heads_of, heads_steps, seek_steps, Call, Does, is_reset, is_step, pulses_left, is_of_data_port, IsSound, RestsBehind, waits_for_heads}
-use Rattle.fdc_commands.specs.Seeking.{Seeking}
-use Rattle.fdc_chip.specs.Paces.{EndsAt, is_over}
+use Rattle.laws_chip.proofs.Common.{and_from, has_ended_seek, DriveSeek, IsInRange, Fdc, ChipState, with_front, code_of, AttendsIf, drained, implies, is_moving, moves_heads, needs_heads, GoesOnIf, Paces, PulsesIf, is_due, step_words, StepsChip, ChipOpcode, Order, PacedSeek, Settings, Held, IsDoneFree, IsHeldFor, HeadsMove, heads_of, heads_steps, seek_steps, Call, Does, is_reset, is_step, pulses_left, is_of_data_port, IsSound, RestsBehind, waits_for_heads, EndsPace as EndsAt, is_over_pace as is_over, Seeks as Seeking}
 use Rattle.laws_chip.proofs.HeadsLeft.{IsFewLater, IsPaced, drained_settings, moves_some, paces_on}
 use Rattle.laws_chip.proofs.HeadsTold.{drained_left, drained_runs, drained_same, runs_tells}
 use Rattle.laws_chip.proofs.Rests.{drained_rests}

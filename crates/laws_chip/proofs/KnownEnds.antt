@@ -1,13 +1,10 @@
 -- In a chip that isn't busy, a seek that has ended has its result in the inner controller: through all calls.
 use Rattle.std.proofs.Common.{◌≡◌, inl, inr, ℕ, zero, suc, ◌%◌, ◌<◌, Bool, true, false, not, ◌&&◌, ◌==◌, if◌then◌else◌, nat_le, Option, Some, None, option_map, [], bit_and, refl, sym, ◌∙◌, ap, subst}
-use Rattle.laws_chip.proofs.Common.{and_from, and_left, and_parts, and_right, eqb-true, false≢true, not-true, has_ended_seek, pulses_within, seek_bits, sensed, with_motion, Outward, DriveSeek, Results, recalibrating, given, resets, IsInRange, is_held, is_idle, Fdc, after_result, without_result, Front, GivesCommand, WritesFront, interrupts_outside, is_ready, results_outside, results_taken, with_controller, StepsFront, pending_outside, recalibrated_at, recalibrated_outside, sensed_at, sensed_outside, ChipState, passes, passes_at, passes_by_channel, passes_by_port, with_front, code_of, AttendsIf, AttendsTo, MovesIf, GivesOn, Obeys, chip_configured, configuring, drained, drained_one, is_moving, moves_heads, moving, needs_heads, relative_target, Ends, EndsAt, EndsAs, MayEnd, is_over, judged, cylinder_of, is_format, GoesOnIf, Paces, PulsesIf, is_due, CollectsIf, ComesIf, GivesChipIf, GivesIf, ReadsAt, ReadsIf, TakesByte, TakesIf, WritesChip, latched_by, is_whole, may_come, reset_if, value_behind, with_next, is_by_port, step_words, Follows, FollowsTask, ChipOpcode, PacedSeek, ChipStage, Ready, Held, Busy, ChipTask, Track, Call, Does, WritesByte, is_of_data_port, is_reset, is_step, IsSound, RestsBehind}
+use Rattle.laws_chip.proofs.Common.{and_from, and_left, and_parts, and_right, eqb-true, false≢true, not-true, has_ended_seek, pulses_within, seek_bits, sensed, with_motion, Outward, DriveSeek, Results, recalibrating, given, resets, IsInRange, is_held, is_idle, Fdc, after_result, without_result, Front, GivesCommand, WritesFront, interrupts_outside, is_ready, results_outside, results_taken, with_controller, StepsFront, pending_outside, recalibrated_at, recalibrated_outside, sensed_at, sensed_outside, ChipState, passes, passes_at, passes_by_channel, passes_by_port, with_front, code_of, AttendsIf, AttendsTo, MovesIf, GivesOn, Obeys, chip_configured, configuring, drained, drained_one, is_moving, moves_heads, moving, needs_heads, relative_target, Ends, EndsAt, EndsAs, MayEnd, is_over, judged, cylinder_of, is_format, GoesOnIf, Paces, PulsesIf, is_due, CollectsIf, ComesIf, GivesChipIf, GivesIf, ReadsAt, ReadsIf, TakesByte, TakesIf, WritesChip, latched_by, is_whole, may_come, reset_if, value_behind, with_next, is_by_port, step_words, Follows, FollowsTask, ChipOpcode, PacedSeek, ChipStage, Ready, Held, Busy, ChipTask, Track, Call, Does, WritesByte, is_of_data_port, is_reset, is_step, IsSound, RestsBehind, chip_stepped as stepped, chip_count_told as count_told, ChipTelling as Telling}
 use Rattle.fdc_commands.specs.declared.command.Command.TheVariants as command
 use Rattle.fdc_chip.specs.Doing.{drained_by}
 use Rattle.fdc_chip.specs.Paces as paces
-use Rattle.fdc_chip.specs.Paces.{stepped}
-use Rattle.fdc_chip.specs.Ports.{count_told}
 use Rattle.fdc_chip.specs.declared.code.ChipOpcode.TheVariants as code
-use Rattle.fdc_chip.specs.declared.stage.ChipStage.TheVariants.{Telling}
 use Rattle.fdc_chip.specs.declared.stage.ChipTask.TheVariants as task
 use Rattle.laws_chip.specs.Calls as made
 use Rattle.laws_chip.proofs.Attended.{free_stands}

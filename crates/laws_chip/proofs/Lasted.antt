@@ -1,19 +1,16 @@
 -- A command of several sectors ends: an implied seek and its sectors take so many device steps, and each one leaves one
 -- fewer.
 use Rattle.std.proofs.Common.{◌≡◌, inl, inr, ℕ, ◌+◌, ◌-◌, ◌*◌, ◌<◌, ◌≤◌, Bool, true, false, not, ◌==◌, if◌then◌else◌, Option, Some, None, List, [], ◌∷◌, refl, sym, ◌∙◌, ap, subst, arith}
-use Rattle.laws_chip.proofs.Common.{eqb-true, false≢true, not-true, and_parts, Seeks, has_ended_seek, is_seeking, seek_bits, is_begun, Results, SeekCommand, new_past, Ending, Done, phase_told, MayReadIn, MayReadTask, Sent, MayWriteIn, MayWriteTask, Phase, Taking, Execute, Result, Task, ReadTask, WriteTask, taken_in, taken_out, told_count, is_executing, is_taking, resets, takes_in, IsInRange, is_held, EndsIn, IsCounted, TakesWhole, ending_told, is_idle, mark_of, Fdc, Lines, AdapterState, StepsAdapter, WritesAdapter, lines_at, selected_at, BeginsSector, Front, GivesAt, ReadsSector, SeeksFirst, Starts, StartsIf, TakesAt, WritesFront, begun_if, count_told, passed_one, told_if, EndsIf, EndsSector, FollowsStep, MovesOn, SeeksOn, goes_on, has_met_other, is_unwanted, judged_if, passed_over_if, results_behind, results_failed, would_go_on, is_last, next_of, Operation, Read, Write, MovingSector, FrontStage, Through, Seeking, Moving, Telling, Transfer, AreWithin, HasByteNumbers, HasByteRecords, HasRecords, HasResults, is_under_way, most_steps, sectors_from, History, MayMove, Serves, ServesAt, nothing_moved, sent_of}
-use Rattle.fdc_commands.specs.declared.bytes.Accepted.TheVariants.{Ready}
-use Rattle.fdc_core.specs.Steps.{steps_left}
-use Rattle.fdc_sequencer.specs.Fronts.{reset_if}
+use Rattle.laws_chip.proofs.Common.{eqb-true, false≢true, not-true, and_parts, Seeks, has_ended_seek, is_seeking, seek_bits, is_begun, Results, SeekCommand, new_past, Ending, Done, phase_told, MayReadIn, MayReadTask, Sent, MayWriteIn, MayWriteTask, Phase, Taking, Execute, Result, Task, ReadTask, WriteTask, taken_in, taken_out, told_count, is_executing, is_taking, resets, takes_in, IsInRange, is_held, EndsIn, IsCounted, TakesWhole, ending_told, is_idle, mark_of, Fdc, Lines, AdapterState, StepsAdapter, WritesAdapter, lines_at, selected_at, BeginsSector, Front, GivesAt, ReadsSector, SeeksFirst, Starts, StartsIf, TakesAt, WritesFront, begun_if, count_told, passed_one, told_if, EndsIf, EndsSector, FollowsStep, MovesOn, SeeksOn, goes_on, has_met_other, is_unwanted, judged_if, passed_over_if, results_behind, results_failed, would_go_on, is_last, next_of, Operation, Read, Write, MovingSector, FrontStage, Through, Seeking, Moving, Telling, Transfer, AreWithin, HasByteNumbers, HasByteRecords, HasRecords, HasResults, is_under_way, most_steps, sectors_from, History, MayMove, Serves, ServesAt, nothing_moved, sent_of, ReadyCommand as Ready, core_steps_left as steps_left, front_reset_if as reset_if, SectorCallsBegins as Begins, SectorCallsCall as Call, SectorCallsDoes as Does, chip_steps_in as steps_in}
 use Rattle.laws_chip.specs.SectorCalls as call
-use Rattle.laws_chip.specs.SectorCalls.{Begins, Call, Does}
-use Rattle.laws_chip.specs.SectorLasting.{steps_in, steps_of}
+use Rattle.laws_chip.specs.SectorLasting.{steps_of}
 use Rattle.laws_chip.proofs.Called.{call_serves, calls_serve}
 use Rattle.laws_chip.proofs.Given.{given_starts, ignored, served_on}
 use Rattle.laws_chip.proofs.Known.{SameCommand, adapter_ends, clash, either_way, port_same}
 use Rattle.laws_chip.proofs.Started.{begun_busy}
 use Rattle.laws_chip.proofs.Whole.{begins_served}
 use Rattle.laws_chip.proofs.Sectors.{next_bytes, sectors_next, sectors_some}
+use Rattle.laws_chip.proofs.UnderWay.{BytePasses, Own, OfSector, Quiet, gives_pass, takes_pass}
 use Rattle.laws_chip.proofs.Sought.{NearsEnd, adapter_seeks, seek_few, seek_left, seek_some}
 
 -- ---- a sector
@@ -220,19 +217,12 @@ passed_lasts n moving fdc old was = by_last (moving.left - 1 == 0)
     by_last true = told_within n moving.transfer fdc was
     by_last false = was
 
-takes_last : (n : ℕ) (stage : FrontStage) (byte : Option ℕ) (old new : Front) → LastsAt n stage old.adapter.controller → Lasts n old → TakesAt stage old byte new → Lasts n new
-takes_last n Through byte old new now was takes = absurd now
-takes_last n (Moving moving) None old new now was (quiet, is) = same_lasts n old new is was
-takes_last n (Moving moving) (Some byte) old new now was (up, byte_is, is) =
-    subst (Lasts n) (sym is) (passed_lasts n moving (taken_out old.adapter.controller) old (record { bytes = now.bytes; counted = now.counted; within = now.within }))
-takes_last n stage byte old new now was takes = same_lasts n old new takes.1 was
-
-gives_last : (n : ℕ) (stage : FrontStage) (byte : ℕ) (given : Bool) (old new : Front) → LastsAt n stage old.adapter.controller → Lasts n old → GivesAt stage byte old given new → Lasts n new
-gives_last n Through byte given old new now was gives = absurd now
-gives_last n (Moving moving) byte false old new now was (quiet, is) = same_lasts n old new is was
-gives_last n (Moving moving) byte true old new now was (up, is) =
-    subst (Lasts n) (sym is) (passed_lasts n moving (taken_in byte old.adapter.controller) old (record { bytes = now.bytes; counted = now.counted; within = now.within }))
-gives_last n stage byte given old new now was (none, is) = same_lasts n old new is was
+passes_last : (n : ℕ) (old new : Front) → Lasts n old → BytePasses old new → Lasts n new
+passes_last n old new was (Quiet is) = same_lasts n old new is was
+passes_last n old new was (Own fdc at passed is) = absurd (subst (λ stage. LastsAt n stage old.adapter.controller) at was)
+passes_last n old new was (OfSector moving fdc at passed is) =
+    let now : MovesWithin n moving.transfer old.adapter.controller = subst (λ stage. LastsAt n stage old.adapter.controller) at was in
+    subst (Lasts n) (sym is) (passed_lasts n moving fdc old (same_within n moving.transfer old.adapter.controller fdc (same_steps old.adapter.controller.phase fdc.phase passed.phase) now))
 
 counts_last : (n : ℕ) (stage : FrontStage) (old new : Front) → LastsAt n stage old.adapter.controller → Lasts n old → new ≡ count_told stage old → Lasts n new
 counts_last n Through old new now was is = absurd now
@@ -272,8 +262,8 @@ none_fewer n new lasts = let same : n ≡ n - 0 = omega arith in subst (λ m. La
 
 pub call_lasts : (made : Call) (n : ℕ) (first : Transfer) (history : History) (old new : Front) → Does made old new → (new.stage ≡ Through → ⊥) → Serves first history old → Lasts n old → Lasts (n - steps_of made) new
 call_lasts call.Steps n first history old new does stays serves was = step_lasts n first history old.stage old does.between new refl serves.now was does.steps does.follows stays
-call_lasts (call.Takes byte) n first history old new does stays serves was = none_fewer n new (takes_last n old.stage byte old new was was does)
-call_lasts (call.Gives byte given) n first history old new does stays serves was = none_fewer n new (gives_last n old.stage byte given old new was was does)
+call_lasts (call.Takes byte) n first history old new does stays serves was = none_fewer n new (passes_last n old new was (takes_pass old.stage byte old new refl does))
+call_lasts (call.Gives byte given) n first history old new does stays serves was = none_fewer n new (passes_last n old new was (gives_pass old.stage byte given old new refl does))
 call_lasts call.Counts n first history old new does stays serves was = none_fewer n new (counts_last n old.stage old new was was does)
 call_lasts (call.Writes port value) n first history old new does stays serves was = none_fewer n new (writes_last n port value old new was stays does)
 call_lasts call.Changes n first history old new does stays serves was =

@@ -1,7 +1,7 @@
 -- The mark of a field that is read. None is known as the command begins. Once the mark is met it stays. Before that no
 -- byte passed.
 use Rattle.std.proofs.Common.{◌≡◌, ◌⊎◌, inl, inr, ℕ, ◌+◌, ◌≤◌, Bool, true, false, ◌==◌, if◌then◌else◌, Option, Some, None, List, [], ◌∷◌, ◌++◌, length, refl, sym, ◌∙◌, ap, subst, arith, length-append}
-use Rattle.laws_chip.proofs.Common.{false≢true, nil_from_length, Chrn, IsSizeCode, content_size, Past, new_past, heard, HasHeard, HasMark, IsOver, IsReading, KeepsMark, ReadOutcome, mark_at, Ending, Done, NoMark, NoSector, NoField, BadCheck, Overrun, NoCount, Late, phase_told, MayReadIn, MayReadTask, Sent, stepped, ExecutesTask, is_executing, ending_over, is_listening, ending_of_phase, mark_in, mark_of_phase, after_heard, at_stage, gone_on_reading, is_full, over_or_on, pushed, finished, ending_told, Long, Fdc, Phase, Execute, Reading, Task, Format, same_stage, starts, starts_given, FindsBadField}
+use Rattle.laws_chip.proofs.Common.{false≢true, nil_from_length, Chrn, IsSizeCode, content_size, Past, new_past, heard, HasHeard, HasMark, IsOver, IsReading, KeepsMark, ReadOutcome, mark_at, Ending, Done, NoMark, NoSector, NoField, BadCheck, Overrun, NoCount, Late, phase_told, MayReadIn, MayReadTask, Sent, stepped, ExecutesTask, is_executing, ending_over, is_listening, ending_of_phase, mark_in, mark_of_phase, after_heard, at_stage, gone_on_reading, is_full, over_or_on, pushed, finished, ending_told, Long, Fdc, Phase, Execute, Reading, Task, Format, same_stage, starts, starts_given, FindsBadField, FollowsWord as Follows, Taking as Command, Result as Telling, ReadTask as Read, TaskReadId as ReadId, WriteTask as Write}
 use Rattle.track_model.proofs.Sizes.{content_size_least}
 use Rattle.track_separator.proofs.Lawful.{reads_within}
 use Rattle.fdc_stages.proofs.Lawful.{over_full}
@@ -9,9 +9,6 @@ use Rattle.fdc_stages.specs.Readings.{FailsWell, IsFailure}
 use Rattle.fdc_stages.specs.Readings as given
 use Rattle.fdc_stages.specs.declared.reading.ReadStage.{ReadStage}
 use Rattle.fdc_stages.specs.declared.reading.ReadStage.TheVariants.{Content, Over}
-use Rattle.fdc_core.specs.Listening.{Follows}
-use Rattle.fdc_phases.specs.declared.phases.Phase.TheVariants.{Command, Result as Telling}
-use Rattle.fdc_phases.specs.declared.phases.Task.TheVariants.{ReadId, Read, Write}
 
 -- ---- as the command goes on, and as it ends
 

@@ -1,12 +1,11 @@
 -- A chip that is busy, through calls that are no device steps and don't reset: it stays at its task, and keeps its order.
 -- The call is one of the inner controller, or none.
 use Rattle.std.proofs.Common.{◌≡◌, ℕ, Bool, true, false, ◌==◌, Option, refl, sym, ◌∙◌, ap, subst}
-use Rattle.laws_chip.proofs.Common.{eqb-true, false≢true, resets, Front, GivesFront, KeepsFront, TakesFront, WritesFront, told_front, ChipState, is_data, passes_by_channel, passes_by_port, with_front, GivesChipIf, GivesIf, ReadsAt, ReadsIf, TakesByte, TakesIf, WritesChip, counted_if, latched_by, given_one, reset_if, value_behind, ChipStage, Busy, ChipTask, Track, has_command, Call, Does, IsServing, is_reset, is_step, is_under_way}
-use Rattle.fdc_chip.specs.Ports.{count_told}
+use Rattle.laws_chip.proofs.Common.{eqb-true, false≢true, resets, Front, GivesFront, KeepsFront, TakesFront, WritesFront, told_front, ChipState, is_data, passes_by_channel, passes_by_port, with_front, GivesChipIf, GivesIf, ReadsAt, ReadsIf, TakesByte, TakesIf, WritesChip, counted_if, latched_by, given_one, reset_if, value_behind, ChipStage, Busy, ChipTask, Track, has_command, Call, Does, IsServing, is_reset, is_step, is_under_way, chip_count_told as count_told}
 use Rattle.fdc_chip.specs.declared.stage.ChipTask.TheVariants as task
 use Rattle.laws_chip.specs.Calls as made
 use Rattle.laws_chip.proofs.PassedOn.{other_read}
-use Rattle.laws_chip.proofs.UnderWay.{counts_under, either_way, gives_under, same_under, takes_under, writes_under}
+use Rattle.laws_chip.proofs.UnderWay.{counts_under, either_way, gives_pass, pass_under, same_under, takes_pass, writes_under}
 
 -- the same task; only whether the terminal count has come to a READ TRACK may change
 abbrev pub IsAtTask : ChipTask → ChipStage → Type 0
@@ -134,8 +133,8 @@ call_stays call what old new does at other works = call_keeps call what old new 
 
 makes_under : (b : Bool) (old new : Front) → Makes b old new → is_under_way old.stage ≡ true → is_under_way new.stage ≡ true
 makes_under b old new (Same is) under = same_under old new is under
-makes_under b old new (Takes byte takes) under = takes_under old.stage byte old new refl under takes
-makes_under b old new (Gives byte was gives) under = gives_under old.stage byte was old new refl under gives
+makes_under b old new (Takes byte takes) under = pass_under old new (takes_pass old.stage byte old new refl takes) under
+makes_under b old new (Gives byte was gives) under = pass_under old new (gives_pass old.stage byte was old new refl gives) under
 makes_under b old new (Counts is) under = counts_under old new under is
 makes_under b old new (Writes port value writes no_data quiet) under = writes_under port value old new under writes quiet
 makes_under b old new (Changes changes keeps) under = ap is_under_way keeps.stage ∙ under

@@ -1,14 +1,10 @@
 -- A transfer whose bytes pass in time: no byte finds the FIFO full, or is missing.
 use Rattle.std.proofs.Common.{◌≡◌, ◌⊎◌, inl, inr, ℕ, ◌+◌, ◌-◌, ◌<◌, ◌≤◌, nat_lt, nat_le, max, Bool, true, false, not, ◌&&◌, ◌||◌, ◌==◌, if◌then◌else◌, Option, Some, None, List, [], ◌∷◌, length, bit_and, refl, sym, ◌∙◌, ap, subst, arith}
-use Rattle.laws_chip.proofs.Common.{eqb-true, false≢true, nat_tests, Chrn, IsSizeCode, DriveState, Fifo, emptied, low_level, room_of, wants, worth_fetching, overrun, has_ended_seek, seek_bits, Invalid, Command, ReadData, WriteData, WriteDeleted, Results, Past, Ending, Done, BadCheck, Overrun, NoCount, IsReadingData, phase_asks, phase_told, task_asks, task_told, MayReadIn, Sent, ending_of_phase, is_overrun, is_read, is_reading, moves_bytes, overran, MayWriteIn, Long, Short, Phase, Execute, Result, Task, BeginsData, TakesAs, answered, Works, asking_told, fifo_told, taken_in, taken_out, told_count, is_executing, resets, asks, is_gated, FlowsIn, TakesWhole, ending_told, given_up, mark_of, without_seek, Fdc, Lines, AdapterState, StepsAdapter, lines_at, selected_at, st1_of, BeginsSector, Front, GivesAt, StartsIf, TakesAt, WritesFront, asks_at, asks_outside, begun_if, count_told, moving_of, passed_one, told_if, with_controller, EndsIf, EndsSector, FollowsStep, MovesOn, SeeksOn, StepsFront, goes_on, has_failed_other, has_met_other, is_unwanted, judged_if, passed_over_if, results_behind, results_failed, would_go_on, command_for, next_of, results_told, size_of, Operation, Read, Write, MovingSector, FrontStage, Through, Seeking, Moving, Telling, Transfer, ChipState, asks_chip, interrupts_chip, passes_by_channel, passes_by_port, shows_behind, StepsChip, SentTask, is_under_way, MayMove, ServesAt, sent_of, IsBegun, Call, Does, IsServing, IsSound, ServesBehind, has_command}
-use Rattle.fdc_commands.specs.declared.bytes.Accepted.TheVariants.{Ready}
-use Rattle.fdc_phases.specs.Phases.{is_moving, is_over}
+use Rattle.laws_chip.proofs.Common.{eqb-true, false≢true, nat_tests, Chrn, IsSizeCode, DriveState, Fifo, emptied, low_level, room_of, wants, worth_fetching, overrun, has_ended_seek, seek_bits, Invalid, Command, ReadData, WriteData, WriteDeleted, Results, Past, Ending, Done, BadCheck, Overrun, NoCount, IsReadingData, phase_asks, phase_told, task_asks, task_told, MayReadIn, Sent, ending_of_phase, is_overrun, is_read, is_reading, moves_bytes, overran, MayWriteIn, Long, Short, Phase, Execute, Result, Task, BeginsData, TakesAs, answered, Works, asking_told, fifo_told, taken_in, taken_out, told_count, is_executing, resets, asks, is_gated, FlowsIn, TakesWhole, ending_told, given_up, mark_of, without_seek, Fdc, Lines, AdapterState, StepsAdapter, lines_at, selected_at, st1_of, BeginsSector, Front, GivesAt, StartsIf, TakesAt, WritesFront, asks_at, asks_outside, begun_if, count_told, moving_of, passed_one, told_if, with_controller, EndsIf, EndsSector, FollowsStep, MovesOn, SeeksOn, StepsFront, goes_on, has_failed_other, has_met_other, is_unwanted, judged_if, passed_over_if, results_behind, results_failed, would_go_on, command_for, next_of, results_told, size_of, Operation, Read, Write, MovingSector, FrontStage, Through, Seeking, Moving, Telling, Transfer, ChipState, asks_chip, interrupts_chip, passes_by_channel, passes_by_port, shows_behind, StepsChip, SentTask, is_under_way, MayMove, ServesAt, sent_of, IsBegun, Call, Does, IsServing, IsSound, ServesBehind, has_command, ReadyCommand as Ready, FdcObeys as Obeys, phases_is_moving as is_moving, phases_is_over as is_over, front_judged as judged}
 use Rattle.fdc_phases.specs.Waiting.{PhaseWaits, TaskWaits, phase_counted, task_counted}
 use Rattle.fdc_phases.specs.declared.answers.Answer.{Answer}
 use Rattle.fdc_phases.specs.declared.phases.Task.TheVariants as task
-use Rattle.fdc_core.specs.Commands.{Obeys}
 use Rattle.fdc_core.specs.Waiting.{Lasts, LastsIn}
-use Rattle.fdc_sequencer.specs.Moves.{judged}
 use Rattle.laws_chip.proofs.Free.{next_size}
 use Rattle.laws_chip.proofs.Given.{given_starts}
 use Rattle.laws_chip.proofs.Known.{port_same, which_drive}
@@ -19,7 +15,7 @@ use Rattle.laws_chip.proofs.PassedOn.{step_same}
 use Rattle.laws_chip.proofs.SoundCalls.{call_sound}
 use Rattle.laws_chip.proofs.SoundParts as parts
 use Rattle.laws_chip.proofs.SoundParts.{serves_of, sound_basis}
-use Rattle.laws_chip.proofs.UnderWay.{clash, either_way, not_through, port_stage}
+use Rattle.laws_chip.proofs.UnderWay.{BytePasses, Own, OfSector, Quiet, clash, either_way, gives_pass, not_through, port_stage, takes_pass}
 use Rattle.laws_chip.proofs.NextStages as makes
 use Rattle.laws_chip.proofs.NextStages.{Makes, call_stays, is_change}
 
@@ -238,17 +234,10 @@ passed_fed moving fdc old new rule is = subst IsFedFront (sym is) (by_last (movi
 same_fed : (old new : Front) → new ≡ old → IsFedFront old → IsFedFront new
 same_fed old new is fed = subst IsFedFront (sym is) fed
 
-takes_fed : (stage : FrontStage) (byte : Option ℕ) (old new : Front) → old.stage ≡ stage → is_under_way stage ≡ true → TakesAt stage old byte new → IsFedFront old → IsFedFront new
-takes_fed (Moving moving) (Some byte) old new at under (up, byte_is, is) fed = passed_fed moving (taken_out old.adapter.controller) old new (old.adapter.controller.asking, refl) is
-takes_fed (Moving moving) None old new at under (quiet, is) fed = same_fed old new is fed
-takes_fed (Seeking transfer counted) byte old new at under (none, is) fed = same_fed old new is fed
-takes_fed _ byte old new at under takes fed = absurd (false≢true under)
-
-gives_fed : (stage : FrontStage) (byte : ℕ) (was : Bool) (old new : Front) → old.stage ≡ stage → is_under_way stage ≡ true → GivesAt stage byte old was new → IsFedFront old → IsFedFront new
-gives_fed (Moving moving) byte true old new at under (up, is) fed = passed_fed moving (taken_in byte old.adapter.controller) old new (old.adapter.controller.asking, refl) is
-gives_fed (Moving moving) byte false old new at under (quiet, is) fed = same_fed old new is fed
-gives_fed (Seeking transfer counted) byte was old new at under (none, is) fed = same_fed old new is fed
-gives_fed _ byte was old new at under gives fed = absurd (false≢true under)
+passes_fed : (old new : Front) → is_under_way old.stage ≡ true → BytePasses old new → IsFedFront old → IsFedFront new
+passes_fed old new under (Quiet is) fed = same_fed old new is fed
+passes_fed old new under (Own fdc at passed is) fed = absurd (not_through old under at)
+passes_fed old new under (OfSector moving fdc at passed is) fed = passed_fed moving fdc old new (old.adapter.controller.asking, passed.rule) is
 
 counts_fed : (stage : FrontStage) (old new : Front) → old.stage ≡ stage → is_under_way stage ≡ true → new ≡ count_told stage old → IsFedFront old → IsFedFront new
 counts_fed (Moving moving) old new at under is fed = subst IsFedFront (sym is) (told_fed (record moving { counted = true }) old.adapter.controller (fed_moving moving old at fed).rule)
@@ -470,8 +459,8 @@ chip_stepped old new step was prompt =
 
 makes_fed : (b : Bool) (old new : Front) → Makes b old new → is_under_way old.stage ≡ true → IsFedFront old → IsFedFront new
 makes_fed b old new (makes.Same is) under fed = same_fed old new is fed
-makes_fed b old new (makes.Takes byte takes) under fed = takes_fed old.stage byte old new refl under takes fed
-makes_fed b old new (makes.Gives byte given gives) under fed = gives_fed old.stage byte given old new refl under gives fed
+makes_fed b old new (makes.Takes byte takes) under fed = passes_fed old new under (takes_pass old.stage byte old new refl takes) fed
+makes_fed b old new (makes.Gives byte given gives) under fed = passes_fed old new under (gives_pass old.stage byte given old new refl gives) fed
 makes_fed b old new (makes.Counts is) under fed = counts_fed old.stage old new refl under is fed
 makes_fed b old new (makes.Writes port value writes no_data quiet) under fed = port_fed port value old new writes no_data quiet fed
 makes_fed b old new (makes.Changes changes keeps) under fed =

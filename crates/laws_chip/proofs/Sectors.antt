@@ -2,11 +2,9 @@
 use Rattle.std.proofs.Common.{◌≡◌, inl, inr, ℕ, zero, suc, ◌+◌, ◌-◌, ◌%◌, ◌<◌, ◌≤◌, Bool, true, false, not, ◌&&◌, ◌||◌, ◌==◌, if◌then◌else◌, List, [], ◌∷◌, ◌++◌, replicate, refl, sym, ◌∙◌, ap, arith}
 use Rattle.std.specs.Int.Bits.{bit_xor}
 use Rattle.std.specs.Prelude.{bit_and}
-use Rattle.laws_chip.proofs.Common.{cases_lt, cases_order, eqb-false, eqb-true, false≢true, ne_eqb, not-false, is_last, is_second_head, next_cylinder, next_of, next_record, other_head, Transfer, Steps, HasByteRecords, goes_to_other, records_from, sectors_from}
+use Rattle.laws_chip.proofs.Common.{cases_lt, cases_order, eqb-false, eqb-true, false≢true, ne_eqb, not-false, is_last, is_second_head, next_cylinder, next_of, next_record, other_head, Transfer, Steps, HasByteRecords, goes_to_other, records_from, sectors_from, SectorCallsCall as Call, chip_steps_in as steps_in}
 use Rattle.std.proofs.lemmas.Nat.Bits.{and_pow, bit_at-lt, bit_at_xor}
 use Rattle.std.specs.Int.{bit_at}
-use Rattle.laws_chip.specs.SectorCalls.{Call}
-use Rattle.laws_chip.specs.SectorLasting.{steps_in}
 
 records_few : (last r : ℕ) → records_from last r ≤ 256
 records_few last r = omega arith

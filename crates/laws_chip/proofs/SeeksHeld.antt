@@ -1,8 +1,7 @@
 -- A command that is held while heads move: it is held through other calls, and begins in the device step in which they
 -- stand.
 use Rattle.std.proofs.Common.{◌≡◌, ◌⊎◌, inl, inr, ℕ, ◌+◌, ◌<◌, ◌≤◌, Bool, true, false, ◌||◌, Option, Some, is_some, length, slice_index, slice_set, unwrap_or, refl, sym, ◌∙◌, ap, subst}
-use Rattle.laws_chip.proofs.Common.{and_from, or_from, or_right, IsInRange, interrupts_outside, ChipState, with_front, code_of, AttendsIf, drained, implies, is_moving, moves_heads, needs_heads, Paces, CollectsIf, ComesIf, TakesByte, WritesChip, may_come, with_next, step_words, Follows, StepsChip, ChipOpcode, Order, PacedSeek, Settings, ChipStage, Ready, Held, Completes, IsDoneFree, IsHeldFor, completed, still_moves, Call, Does, is_reset, is_step, GoesBehind, HeadsPaced, StandsBehind, completes, most_left, is_of_data_port, HeadsGo, IsSoundInRange, SeeksBehind, most_of, waits_for_heads, IsSound}
-use Rattle.fdc_commands.specs.Seeking.{Seeking}
+use Rattle.laws_chip.proofs.Common.{and_from, or_from, or_right, IsInRange, interrupts_outside, ChipState, with_front, code_of, AttendsIf, drained, implies, is_moving, moves_heads, needs_heads, Paces, CollectsIf, ComesIf, TakesByte, WritesChip, may_come, with_next, step_words, Follows, StepsChip, ChipOpcode, Order, PacedSeek, Settings, ChipStage, Ready, Held, Completes, IsDoneFree, IsHeldFor, completed, still_moves, Call, Does, is_reset, is_step, GoesBehind, HeadsPaced, StandsBehind, completes, most_left, is_of_data_port, HeadsGo, IsSoundInRange, SeeksBehind, most_of, waits_for_heads, IsSound, Seeks as Seeking}
 use Rattle.laws_chip.proofs.HeadsGoing.{either_same, ended_drained, front_steps, going_drained, status_in, stood, stood_stands}
 use Rattle.laws_chip.proofs.PulsesGoing.{IsCalm, RangesLater, behind_calm, calm_drained, paced_step, seeks_calm, seeks_move}
 use Rattle.laws_chip.proofs.WholeTransfers.{attended_free, attending, byte_attends, follows_held, step_attends, step_rests}

@@ -1,9 +1,7 @@
 -- Heads that move come to stand, whatever calls come: each device step leaves fewer, and other calls leave no more.
 use Rattle.std.proofs.Common.{◌≡◌, ℕ, ◌+◌, ◌-◌, ◌*◌, ◌^◌, ◌<◌, ◌≤◌, max, nat_le, Bool, true, false, not, ◌&&◌, ◌||◌, ◌==◌, if◌then◌else◌, Option, Some, None, is_some, List, [], ◌∷◌, length, bit_and, bit_or, refl, sym, ◌∙◌, ap, subst, arith}
-use Rattle.laws_chip.proofs.Common.{option_map_or, eqb-true, false≢true, not-true, or_right, has_ended, is_seeking, Motion, Ended, DriveSeek, resets, IsInRange, Fdc, Front, WritesFront, interrupts_outside, status_at, StepsFront, answer_bytes, is_of_data, ChipState, with_front, code_of, AttendsIf, AttendsTo, Obeys, drained, is_moving, moves_heads, needs_heads, pace_begun, Paces, CollectsIf, ComesIf, GivesChipIf, GivesIf, ReadsAt, ReadsIf, TakesByte, TakesIf, byte_told, latched_by, is_whole, may_come, quieted_if, reset_if, value_behind, with_next, step_words, Follows, ChipAnswer, ChipOpcode, PacedSeek, Settings, ChipStage, Ready, Held, Busy, AreSeeking, HeadsGoOn, IsUsed, StaysHeld, heads_go, heads_steps, is_executed, seek_steps, Call, Does, is_of_data_port, is_reset, is_step, steps_in, steps_of, pulses_left, steps_left, IsSound}
-use Rattle.fdc_commands.specs.Seeking.{Seeking}
+use Rattle.laws_chip.proofs.Common.{option_map_or, eqb-true, false≢true, not-true, or_right, has_ended, is_seeking, Motion, Ended, DriveSeek, resets, IsInRange, Fdc, Front, WritesFront, interrupts_outside, status_at, StepsFront, answer_bytes, is_of_data, ChipState, with_front, code_of, AttendsIf, AttendsTo, Obeys, drained, is_moving, moves_heads, needs_heads, pace_begun, Paces, CollectsIf, ComesIf, GivesChipIf, GivesIf, ReadsAt, ReadsIf, TakesByte, TakesIf, byte_told, latched_by, is_whole, may_come, quieted_if, reset_if, value_behind, with_next, step_words, Follows, ChipAnswer, ChipOpcode, PacedSeek, Settings, ChipStage, Ready, Held, Busy, AreSeeking, HeadsGoOn, IsUsed, StaysHeld, heads_go, heads_steps, is_executed, seek_steps, Call, Does, is_of_data_port, is_reset, is_step, steps_in, steps_of, pulses_left, steps_left, IsSound, ChipTelling as Telling, Seeks as Seeking}
 use Rattle.fdc_chip.specs.declared.code.ChipOpcode.TheVariants as code
-use Rattle.fdc_chip.specs.declared.stage.ChipStage.TheVariants.{Telling}
 use Rattle.laws_chip.specs.Calls as made
 use Rattle.laws_chip.proofs.Channels.{front_left}
 use Rattle.laws_chip.proofs.HeadsKept.{call_idle, no_port}

@@ -1,10 +1,8 @@
 -- What is served, through device steps, the channel and port accesses.
 use Rattle.std.proofs.Common.{◌≡◌, ◌⊎◌, inl, inr, ℕ, ◌+◌, ◌-◌, nat_lt, Bool, true, false, not, ◌&&◌, ◌||◌, ◌==◌, if◌then◌else◌, Option, Some, None, List, [], ◌∷◌, ◌++◌, length, refl, sym, ◌∙◌, ap, subst, append-nil, arith}
-use Rattle.laws_chip.proofs.Common.{and_from, and_parts, eq-eqb, eqb-true, false≢true, IsSizeCode, content_size, has_ended_seek, Past, new_past, Ending, Done, BadCheck, Command, byte_out, taken_in, taken_out, to_memory_of, told_count, MayReadIn, Sent, gave, results_sent, told_in, WordTime, Stopped, after_time, is_executing, AreOfField, ReadMeans, ReadMeansIn, bytes_held, resets, asks, ending_told, given_up, is_idle, mark_of, without_seek, ending_of_phase, head_of, MayWriteIn, took, Short, Long, Fdc, Phase, Taking, Execute, Result, starts_given, write_tells, writes_window, AdapterState, StepsAdapter, WritesAdapter, lines_at, selected_at, BeginsSector, Front, GivesAt, GivesCommand, GivesFront, GivesMoving, GivesTransfer, SeeksFirst, Starts, StartsIf, TakesAt, TakesFront, TakesMoving, WritesFront, begun_if, count_told, is_ready, moving_of, passed_one, results_taken, taken_at, told_front, told_if, with_controller, EndsIf, EndsSector, FollowsStep, MovesOn, SeeksOn, StepsFront, goes_on, has_met_other, is_unwanted, judged_if, passed_over_if, Accounts, AreLeft, AreMoved, BeginsServing, Carries, GoesOn, History, IsFieldDone, IsLastOne, IsFree, IsMarkOf, IsOfOther, IsOfSector, IsRefused, IsTimeOf, KeepsServing, MayMove, Means, MeansJudged, Part, Passes, PassesAt, RefusesFirst, Serves, ServesAt, ServesCounted, ServesStep, ServesUnless, StepsTo, bytes_moved, has_other, has_results, hears_count, history_counted, history_ended, history_given, history_moved, history_passed, history_sought, history_stepped, history_taken, nothing_moved, passed_in, passed_out, results_ended, sector_after, sent_of, still_seeks, is_other, is_skipping, next_of, size_of, Operation, Read, Write, MovingSector, FrontStage, Through, Seeking, Moving, Telling, Transfer}
+use Rattle.laws_chip.proofs.Common.{and_from, and_parts, eq-eqb, eqb-true, false≢true, IsSizeCode, content_size, has_ended_seek, Past, new_past, Ending, Done, BadCheck, Command, byte_out, taken_in, taken_out, to_memory_of, told_count, MayReadIn, Sent, gave, results_sent, told_in, WordTime, Stopped, after_time, is_executing, AreOfField, ReadMeans, ReadMeansIn, bytes_held, resets, asks, ending_told, given_up, is_idle, mark_of, without_seek, ending_of_phase, head_of, MayWriteIn, took, Short, Long, Fdc, Phase, Taking, Execute, Result, starts_given, write_tells, writes_window, AdapterState, StepsAdapter, WritesAdapter, lines_at, selected_at, BeginsSector, Front, GivesAt, GivesCommand, GivesFront, GivesMoving, GivesTransfer, SeeksFirst, Starts, StartsIf, TakesAt, TakesFront, TakesMoving, WritesFront, begun_if, count_told, is_ready, moving_of, passed_one, results_taken, taken_at, told_front, told_if, with_controller, EndsIf, EndsSector, FollowsStep, MovesOn, SeeksOn, StepsFront, goes_on, has_met_other, is_unwanted, judged_if, passed_over_if, Accounts, AreLeft, AreMoved, BeginsServing, Carries, GoesOn, History, IsFieldDone, IsLastOne, IsFree, IsMarkOf, IsOfOther, IsOfSector, IsRefused, IsTimeOf, KeepsServing, MayMove, Means, MeansJudged, Part, Passes, PassesAt, RefusesFirst, Serves, ServesAt, ServesCounted, ServesStep, ServesUnless, StepsTo, bytes_moved, has_other, has_results, hears_count, history_counted, history_ended, history_given, history_moved, history_passed, history_sought, history_stepped, history_taken, nothing_moved, passed_in, passed_out, results_ended, sector_after, sent_of, still_seeks, is_other, is_skipping, next_of, size_of, Operation, Read, Write, MovingSector, FrontStage, Through, Seeking, Moving, Telling, Transfer, front_reset_if as reset_if, front_judged as judged}
 use Rattle.fdc_core.specs.Tellings.{WriteMeans, WriteMeansIn}
 use Rattle.fdc_core.proofs.Meanings.{read_gives, read_tells}
-use Rattle.fdc_sequencer.specs.Fronts.{reset_if}
-use Rattle.fdc_sequencer.specs.Moves.{judged}
 use Rattle.laws_chip.proofs.Judged.{judges}
 use Rattle.laws_chip.proofs.Known.{BadGoes, KnownOn, MovedOn, bytes_told, clash, either_way, in_on, out_on, port_busy, port_mark, port_on, steps_on}
 use Rattle.laws_chip.proofs.Free.{free_executes, given_free, next_size, port_free, sector_size, sought_free, step_dma, step_free}

@@ -1,7 +1,6 @@
 -- What makes a chip sound, from what the chip was.
 use Rattle.std.proofs.Common.{◌≡◌, inl, inr, ◌<◌, Bool, true, false, not, ◌&&◌, ◌==◌, [], refl, sym, ◌∙◌, ap, subst}
-use Rattle.laws_chip.proofs.Common.{and_parts, eqb-true, false≢true, is_gated, is_held, Front, ChipState, passes, passes_at, with_front, is_format, Order, ChipStage, Ready, Busy, ChipTask, IsBusyWith, IsSound, IsSoundAt, RestsBehind, ServesBehind, is_under_way}
-use Rattle.fdc_chip.specs.declared.stage.ChipTask.TheVariants.{Sent}
+use Rattle.laws_chip.proofs.Common.{and_parts, eqb-true, false≢true, is_gated, is_held, Front, ChipState, passes, passes_at, with_front, is_format, Order, ChipStage, Ready, Busy, ChipTask, IsBusyWith, IsSound, IsSoundAt, RestsBehind, ServesBehind, is_under_way, SentTask as Sent}
 use Rattle.laws_chip.proofs.FirstSectors.{IsBase, base_gated, base_held}
 use Rattle.laws_chip.proofs.UnderWay.{clash, either_way, not_through}
 

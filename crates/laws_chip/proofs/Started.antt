@@ -1,9 +1,6 @@
 -- How the controller's own command for a sector begins.
 use Rattle.std.proofs.Common.{◌≡◌, ◌⊎◌, inl, inr, ℕ, zero, suc, ◌+◌, nat_le, Bool, true, false, not, ◌&&◌, ◌||◌, ◌==◌, if◌then◌else◌, Option, None, [], length, refl, sym, ◌∙◌, ap, subst, arith, zero-add}
-use Rattle.laws_chip.proofs.Common.{false≢true, and_from, and_parts, eqb-true, leb-true, Chrn, IsSizeCode, content_size, emptied, seek_bits, is_begun, Invalid, Command, ReadData, WriteData, WriteDeleted, Past, new_past, BeginsData, TakesAs, answered, told_count, ReadsField, address_words, heard_words, Sent, told_in, is_executing, is_taking, TakesWhole, is_idle, mark_of, MayWrite, Short, Fdc, Lines, Result, AdapterState, moving_of, sector_alone, told_if, Accounts, Carries, IsFree, IsOfOther, MayMove, bytes_moved, sent_of, command_for, command_of, is_skipping, size_of, Operation, Read, Write, MovingSector, Transfer}
-use Rattle.fdc_commands.specs.declared.bytes.Accepted.TheVariants.{Ready}
-use Rattle.fdc_commands.specs.declared.command.Command.TheVariants.{Seek}
-use Rattle.fdc_core.specs.Commands.{Obeys}
+use Rattle.laws_chip.proofs.Common.{false≢true, and_from, and_parts, eqb-true, leb-true, Chrn, IsSizeCode, content_size, emptied, seek_bits, is_begun, Invalid, Command, ReadData, WriteData, WriteDeleted, Past, new_past, BeginsData, TakesAs, answered, told_count, ReadsField, address_words, heard_words, Sent, told_in, is_executing, is_taking, TakesWhole, is_idle, mark_of, MayWrite, Short, Fdc, Lines, Result, AdapterState, moving_of, sector_alone, told_if, Accounts, Carries, IsFree, IsOfOther, MayMove, bytes_moved, sent_of, command_for, command_of, is_skipping, size_of, Operation, Read, Write, MovingSector, Transfer, ReadyCommand as Ready, SeekCommand as Seek, FdcObeys as Obeys}
 use Rattle.fdc_core.specs.Heard.{MayRead}
 use Rattle.laws_chip.proofs.Known.{clash, either_way, told_busy, told_on}
 use Rattle.laws_chip.proofs.Marks.{fresh_mark, told_mark}
