@@ -42,9 +42,6 @@ free_stands chip basis rests stands = record {
   by_dma = basis.by_dma;
 }
 
-few_four : (n : ℕ) → n % 4 < 4
-few_four n = omega arith
-
 -- the heads move, and the chip stays sound
 moved_sound : (old new : ChipState) → IsBasis old → KeepsRest (ready old) new → RestsBehind new.front → IsBase old.front.adapter.controller new.front.adapter.controller → IsSound new
 moved_sound old new basis rest rests base =
@@ -59,7 +56,7 @@ seek_rests command unit motion start new stands obeyed is = (
   record {
     through = obeyed.through;
     takes = ap (λ (fdc : Fdc). fdc.phase) is ∙ stands.takes;
-    seek = subst (λ (fdc : Fdc). IsOfFour fdc.seeks.seek) (sym is) (few_four unit);
+    seek = subst (λ (fdc : Fdc). IsOfFour fdc.seeks.seek) (sym is) (omega arith);
   },
   record { dor = ap (λ (fdc : Fdc). fdc.dor) is; non_dma = ap (λ (fdc : Fdc). fdc.non_dma) is; command = ap (λ (fdc : Fdc). fdc.command) is },
 )
@@ -78,7 +75,7 @@ within_rests : (b : Bool) (unit pulses : ℕ) (front : Front) → Stands front
     → (let fdc = front.adapter.controller in let new = (if b then record fdc { seeks = with_motion fdc.seeks (unit % 4) (Outward (pulses_within pulses)) } else fdc) in
     RestsBehind (record front { adapter = with_controller new front.adapter }) × IsBase fdc new)
 within_rests true unit pulses front stands = (
-  record { through = stands.through; takes = stands.takes; seek = few_four unit },
+  record { through = stands.through; takes = stands.takes; seek = (omega arith) },
   record { dor = refl; non_dma = refl; command = stands.none },
 )
 within_rests false unit pulses front stands =

@@ -10,7 +10,7 @@ use Rattle.laws_chip.proofs.NextStages.{KeepsTask, call_keeps, call_serving, wor
 use Rattle.laws_chip.proofs.PassedOn.{all_passed, none_wait}
 use Rattle.laws_chip.proofs.ServedSteps.{serves_step, tells_shown}
 use Rattle.laws_chip.proofs.Singles.{WaitsBehind, executes_none, executes_step, waits_shown}
-use Rattle.laws_chip.proofs.SinglesLast.{StaysSingle, kind_of, left_most, left_some, single_call, stage_kind, left_on}
+use Rattle.laws_chip.proofs.SinglesLast.{StaysSingle, kind_of, left_most, left_some, single_call, stage_kind}
 use Rattle.laws_chip.proofs.SoundParts.{busy_at, is_busy, serves_of}
 use Rattle.laws_chip.proofs.TracksLast.{Leaves, LeavesAt, call_leaves, leaves_some, some_here, none_of}
 use Rattle.laws_chip.proofs.UnderWay.{clash, either_way, not_through}
@@ -99,7 +99,7 @@ single_left : (call : Call) (what : ChipTask) (n : ℕ) (old new : ChipState) �
     → stage_kind new.stage ≡ kind_of what → is_busy new.stage ≡ true → StaysSingle (steps_of call) old.front new.front × (steps_left new.front.adapter.controller.phase ≤ n - steps_of call)
 single_left call what n old new sound at was few does same still =
     let on = single_call call what old new sound at was does still same in
-    (on, left_on (steps_left old.front.adapter.controller.phase) (steps_left new.front.adapter.controller.phase) (steps_of call) n on.left few)
+    (on, (omega arith))
 
 never_on : (old new : ChipState) (steps : ℕ) → StaysSingle steps old.front new.front → new.order ≡ old.order → NeverLooks old → NeverLooks new
 never_on old new steps on order (inl is) = inl (ap is_read_id order ∙ is)
@@ -270,9 +270,6 @@ call_left call n old new sound still was does works = either_way (is_step call)
 
 -- ---- some device step is left
 
-served_some : (here n : ℕ) → 1 ≤ here → here + 65536 ≤ n → 0 < n
-served_some here n some few = omega arith
-
 last_some : (now n : ℕ) → 1 ≤ now → now ≤ n → 0 < n
 last_some now n some few = omega arith
 
@@ -280,9 +277,9 @@ executes_some : (n : ℕ) (chip : ChipState) → ExecutesBehind chip.front → s
 executes_some n chip was few = let phase = chip.front.adapter.controller.phase in last_some (steps_left phase) n (left_some phase was.executes was.counted) few
 
 task_some : (what : ChipTask) (n : ℕ) (chip : ChipState) → IsSound chip → chip.stage ≡ Busy what → TaskLeft what n chip → 0 < n
-task_some task.Sent n chip sound at (inl was) = served_some was.here n (some_here was.here chip.front (serves_of chip sound at was.under) was.lasts) was.few
+task_some task.Sent n chip sound at (inl was) = omega arith
 task_some task.Sent n chip sound at (inr was) = executes_some n chip was.executes was.few
-task_some (task.Verify left) n chip sound at was = served_some was.here n (some_here was.here chip.front (busy_at chip (task.Verify left) at sound) was.lasts) was.few
+task_some (task.Verify left) n chip sound at was = omega arith
 task_some (task.Track track) n chip sound at was = leaves_some was.track.place n was.track.left chip.front (busy_at chip (task.Track was.track) was.at sound) was.some was.leaves
 task_some what n chip sound at was = executes_some n chip (busy_at chip what at sound) was.few
 
@@ -309,9 +306,6 @@ more_leaves Data n m left front more (here, lasts, few) = (here, lasts, more_few
 more_served : (n m : ℕ) (chip : ChipState) → n ≤ m → ServedLeft n chip → ServedLeft m chip
 more_served n m chip more was = record { under = was.under; here = was.here; lasts = was.lasts; few = more_few (was.here + 65536) n m more was.few }
 
-more_last : (n m : ℕ) (chip : ChipState) → n ≤ m → LastLeft n chip → LastLeft m chip
-more_last n m chip more was = record { few = more_few (steps_left chip.front.adapter.controller.phase) n m more was.few }
-
 more_task : (what : ChipTask) (n m : ℕ) (chip : ChipState) → n ≤ m → TaskLeft what n chip → TaskLeft what m chip
 more_task task.Sent n m chip more (inl was) = inl (more_served n m chip more was)
 more_task task.Sent n m chip more (inr was) =
@@ -319,7 +313,7 @@ more_task task.Sent n m chip more (inr was) =
 more_task (task.Verify left) n m chip more was = more_served n m chip more was
 more_task (task.Track track) n m chip more was =
     record { track = was.track; at = was.at; some = was.some; leaves = more_leaves was.track.place n m was.track.left chip.front more was.leaves }
-more_task _ n m chip more was = more_last n m chip more was
+more_task _ n m chip more was = record { few = more_few (steps_left chip.front.adapter.controller.phase) n m more was.few }
 
 pub more_left : (n m : ℕ) (chip : ChipState) → n ≤ m → BusyLeft n chip → BusyLeft m chip
 more_left n m chip more was = record { task = was.task; at = was.at; left = more_task was.task n m chip more was.left }

@@ -363,10 +363,6 @@ module _ (outset : Outset) (bay unit : ℕ) (numbers : Numbers) where
 
 -- ---- ---- how the FORMAT begins
 
-begun_known : (unit : ℕ) (numbers : Numbers) (chosen : Task) (on : Bool) (threshold : ℕ) → IsFormattingTrack unit numbers chosen
-    → MayFormatIn new_past unit numbers (Execute (record { head_drive = unit; steps = 0; task = chosen })) (task_asks chosen false (emptied on threshold)) (emptied on threshold)
-begun_known unit numbers chosen on threshold is = is (emptied on threshold) false refl
-
 begun_going : (outset : Outset) (bay unit : ℕ) (numbers : Numbers) (chip : ChipState) → IsFormatBegun unit numbers chip → TurnsAtSpeed outset bay unit chip → IsFormattingAt outset bay unit numbers [] chip.front × (chip.stage ≡ Busy Sent)
 begun_going outset bay unit numbers chip is turns =
     let sent = begins_sent Sent (GivesCommand (FormatTrack unit numbers.n numbers.sectors numbers.gap3 numbers.fill)) is.set chip (stands_free is.set.front is.free) is.begins in
@@ -379,7 +375,7 @@ begun_going outset bay unit numbers chip is turns =
       record {
         executes = (format_executes unit numbers.n numbers.sectors numbers.gap3 numbers.fill sent.set chip.front sent.stands obeyed).0;
         past = new_past;
-        known = subst (MayFormat new_past unit numbers) (sym begins.3) (begun_known unit numbers begins.0 fdc.fifo.on fdc.fifo.threshold begins.1);
+        known = subst (MayFormat new_past unit numbers) (sym begins.3) (begins.1 (emptied fdc.fifo.on fdc.fifo.threshold) false refl);
         taken = refl;
         at = (window_none outset new_past true drive turns.disk turning (λ _. turns.speed)).at;
         selects = turns.selects;

@@ -94,9 +94,6 @@ step_seeks (Write deleted) past sent old new steps busy was =
     (λ before after works. write_seeks deleted past sent fdc.phase fdc.asking fdc.fifo (polled fdc) before after new.controller busy works.writes was)
     (λ alone. nowhere_seeks deleted past sent fdc.phase fdc.asking fdc.fifo (polled fdc) new.controller busy alone.nowhere was)
 
-same_bits : (old new : Seeking) → new.seek ≡ old.seek → seek_bits new ≡ seek_bits old
-same_bits old new same = ap (λ seek. seek_bits (record old { seek = seek })) same
-
 -- SPECIFY's ND stays
 pub step_dma : (old new : AdapterState) → StepsAdapter old new → new.controller.non_dma ≡ old.controller.non_dma
 step_dma old new steps = (adapter_stays old new steps).non_dma
@@ -106,7 +103,7 @@ pub step_free : (operation : Operation) (past : Past) (sent : Sent) (old new : A
 step_free operation past sent old new steps busy was free =
     let fdc = old.controller in
     let same = ap (λ seeks. seeks.seek) (step_seeks operation past sent old new steps busy was) ∙ polled_by (λ (polls : Fdc). polls.seeks.seek ≡ fdc.seeks.seek) fdc refl refl in
-    record { rests = same_bits fdc.seeks new.controller.seeks same ∙ free.rests; by_dma = step_dma old new steps ∙ free.by_dma }
+    record { rests = (ap (λ seek. seek_bits (record fdc.seeks { seek = seek })) same) ∙ free.rests; by_dma = step_dma old new steps ∙ free.by_dma }
 
 -- ---- the results are given up, and ports
 

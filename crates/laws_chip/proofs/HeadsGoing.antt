@@ -16,9 +16,6 @@ pub neighbour_left : (cylinder target : ℕ) (b : Bool) → nat_lt cylinder targ
 neighbour_left cylinder target true is differs = grind (arith, nat_tests)
 neighbour_left cylinder target false is differs = grind (arith, nat_tests)
 
-outward_left : (pulses left : ℕ) → (pulses == 0) ≡ false → pulses + 1 ≤ left + 1 → pulses - 1 + 1 ≤ left
-outward_left pulses left some few = grind (arith, nat_tests)
-
 -- the seek goes on, one step nearer, or ends
 abbrev OnOrEnds : ℕ → ℕ → Option ℕ → Bool → Seeking → Seeking → Type 0
 OnOrEnds left drive goal track0 old new =
@@ -30,7 +27,7 @@ motion_steps left drive None (Outward pulses) track0 old goes few = by_last (tra
     by_last : (b : Bool) → (track0 || (pulses == 0)) ≡ b
         → OnOrEnds left drive None track0 old (if b then ended old drive 0 (recalibrated drive track0) else with_motion old drive (Outward (pulses - 1)))
     by_last true is = inr refl
-    by_last false is = inl (Outward (pulses - 1), refl, tt, outward_left pulses left (or_parts track0 (pulses == 0) is).1 few)
+    by_last false is = inl (Outward (pulses - 1), refl, tt, (grind (arith, nat_tests)))
 motion_steps left drive (Some target) (Toward cylinder to) track0 old goes few = by_there (cylinder == to) refl
   where
     by_there : (b : Bool) → (cylinder == to) ≡ b
@@ -117,9 +114,6 @@ pub record HasEnded (drive status target : ℕ) (cylinders : List ℕ) (front : 
 abbrev pub status_in : Option ℕ → ℕ → Front → ℕ
 status_in goal drive old = status_at_end goal drive (lines_at old.adapter).track0
 
-held_as : (old new : Fdc) → new.dor ≡ old.dor → is_held new ≡ is_held old
-held_as old new dor = ap (λ (d : Dor). is_held (record old { dor = d })) dor
-
 pub front_steps : (left drive : ℕ) (goal : Option ℕ) (old new : Front) → StepsFront old new → SeeksBehind (left + 1) drive goal old
     → SeeksBehind left drive goal new ⊎ HasEnded drive (status_in goal drive old) (unwrap_or goal 0) old.adapter.controller.seeks.cylinders new
 front_steps left drive goal old new step was =
@@ -127,7 +121,7 @@ front_steps left drive goal old new step was =
     let is = through_step old new step was.through in
     let steps = fdc_steps left drive goal was.motion (lines_at old.adapter).track0 fdc step.between.controller was.takes was.polled was.seek was.goes was.within (rests_by_line old.adapter step.between step.steps) in
     let idle = steps.idle in
-    let free = held_as fdc step.between.controller idle.dor ∙ was.free in
+    let free = (ap (λ (d : Dor). is_held (record fdc { dor = d })) idle.dor) ∙ was.free in
     subst (λ (front : Front). SeeksBehind left drive goal front ⊎ HasEnded drive (status_in goal drive old) (unwrap_or goal 0) fdc.seeks.cylinders front) (sym is) (elim steps.seeks [
       | inl (on, seeks, goes, within) ↦ inl (record {
         through = was.through;

@@ -62,12 +62,6 @@ sense_runs s runs = by_first (first_pending s)
     by_first None = refl
     by_first (Some drive) = by_seek drive s.seek runs
 
-at_most : (n : ℕ) → n ≤ n
-at_most n = omega arith
-
-none_most : (n : ℕ) → 0 ≤ n
-none_most n = omega arith
-
 less_still : (a b c : ℕ) → a ≤ b → b ≤ c → a ≤ c
 less_still a b c one two = omega arith
 
@@ -75,15 +69,15 @@ sense_left : (s : Seeking) → seek_steps (after_sense s).seek ≤ seek_steps s.
 sense_left s = by_first (first_pending s)
   where
     by_seek : (drive : ℕ) (seek : Option DriveSeek) → seek_steps (released drive seek) ≤ seek_steps seek
-    by_seek drive None = at_most 0
+    by_seek drive None = omega arith
     by_seek drive (Some seek) = by_drive ((seek.drive == drive) && has_ended seek.motion)
       where
         by_drive : (b : Bool) → seek_steps (if b then None else Some seek) ≤ steps_left seek.motion
-        by_drive true = none_most (steps_left seek.motion)
-        by_drive false = at_most (steps_left seek.motion)
+        by_drive true = omega arith
+        by_drive false = omega arith
 
     by_first : (first : Option ℕ) → seek_steps (option_map_or (without_one s) first s).seek ≤ seek_steps s.seek
-    by_first None = at_most (seek_steps s.seek)
+    by_first None = omega arith
     by_first (Some drive) = by_seek drive s.seek
 
 -- ---- ---- all results are taken over
@@ -178,7 +172,7 @@ ended_nearer : (old : Seeking) (drive cylinder status : ℕ) → length old.pend
 ended_nearer old drive cylinder status four few = record {
   tells = λ over. ap is_some (get_or-set_same old.pending drive (Some status) None (in_list drive (length old.pending) four few));
   four = length-set old.pending drive (Some status) ∙ four;
-  left = none_most (seek_steps old.seek - 1);
+  left = omega arith;
 }
   where
     in_list : (drive n : ℕ) → n ≡ 4 → drive < 4 → drive < n
@@ -191,9 +185,6 @@ on_nearer old drive was on four runs fewer seek = record {
   left = subst (λ (s : Option DriveSeek). steps_left on ≤ seek_steps s - 1) (sym seek) fewer;
 }
 
-outward_fewer : (pulses : ℕ) → (pulses == 0) ≡ false → pulses - 1 + 1 ≤ pulses + 1 - 1
-outward_fewer pulses some = grind (arith, nat_tests)
-
 toward_fewer : (now was : ℕ) → now + 1 ≤ was → now ≤ was - 1
 toward_fewer now was fewer = omega arith
 
@@ -202,7 +193,7 @@ motion_nearer old drive (Outward pulses) track0 four few seek tells = by_last (t
   where
     by_last : (b : Bool) → (track0 || (pulses == 0)) ≡ b → IsNearer old (if b then ended old drive 0 (recalibrated drive track0) else with_motion old drive (Outward (pulses - 1)))
     by_last true is = ended_nearer old drive 0 (recalibrated drive track0) four few
-    by_last false is = on_nearer old drive (Outward pulses) (Outward (pulses - 1)) four refl (outward_fewer pulses (or_parts track0 (pulses == 0) is).1) seek
+    by_last false is = on_nearer old drive (Outward pulses) (Outward (pulses - 1)) four refl (grind (arith, nat_tests)) seek
 motion_nearer old drive (Toward cylinder target) track0 four few seek tells = by_there (cylinder == target) refl
   where
     by_there : (b : Bool) → (cylinder == target) ≡ b → IsNearer old (if b then ended old drive target (sought drive) else with_motion old drive (Toward (neighbour cylinder target) target))
@@ -211,7 +202,7 @@ motion_nearer old drive (Toward cylinder target) track0 four few seek tells = by
         let next : Motion = Toward (neighbour cylinder target) target in
         on_nearer old drive (Toward cylinder target) next four refl
         (toward_fewer (steps_left next) (steps_left (Toward cylinder target)) (neighbour_left cylinder target (nat_lt cylinder target) refl is)) seek
-motion_nearer old drive Ended track0 four few seek tells = record { tells = tells; four = four; left = subst (λ (s : Option DriveSeek). seek_steps s ≤ seek_steps s - 1) (sym seek) (none_most (0 - 1)) }
+motion_nearer old drive Ended track0 four few seek tells = record { tells = tells; four = four; left = subst (λ (s : Option DriveSeek). seek_steps s ≤ seek_steps s - 1) (sym seek) (omega arith) }
 
 stepped_nearer : (track0 : Bool) (old : Seeking) → length old.pending ≡ 4 → IsOfFour old.seek → TellsEnd old → IsNearer old (stepped old track0)
 stepped_nearer track0 old four few tells = by_seek old.seek refl
@@ -219,7 +210,7 @@ stepped_nearer track0 old four few tells = by_seek old.seek refl
     by_seek : (seek : Option DriveSeek) → old.seek ≡ seek → IsNearer old (stepped old track0)
     by_seek None is =
         let same : stepped old track0 ≡ old = ap (λ (s : Option DriveSeek). option_map_or (λ (d : DriveSeek). stepped_seek old d.drive d.motion track0) s old) is in
-        subst (IsNearer old) (sym same) (record { tells = tells; four = four; left = subst (λ (s : Option DriveSeek). seek_steps s ≤ seek_steps s - 1) (sym is) (none_most (0 - 1)) })
+        subst (IsNearer old) (sym same) (record { tells = tells; four = four; left = subst (λ (s : Option DriveSeek). seek_steps s ≤ seek_steps s - 1) (sym is) (omega arith) })
     by_seek (Some seek) is =
         let at : stepped old track0 ≡ stepped_seek old seek.drive seek.motion track0 = ap (λ (s : Option DriveSeek). option_map_or (λ (d : DriveSeek). stepped_seek old d.drive d.motion track0) s old) is in
         subst (IsNearer old) (sym at) (motion_nearer old seek.drive seek.motion track0 four (subst IsOfFour is few) is tells)

@@ -19,20 +19,11 @@ range_steps fdc range = by_seek fdc.seeks.seek refl
     by_seek None is = omega arith
     by_seek (Some seek) is = motion_within seek.motion (range.seeks.motion seek is)
 
-less_max : (all wait now was n : ℕ) → now ≤ was → max wait was + all ≤ n → max wait now + all ≤ n
-less_max all wait now was n few within = omega arith
-
-less_steps : (now was n : ℕ) → now ≤ was → was ≤ n → now ≤ n
-less_steps now was n few within = omega arith
-
 -- a seek of fewer device steps leaves fewer
 pub heads_less : (words n : ℕ) (pace : Option PacedSeek) (now was : Option DriveSeek) → seek_steps now ≤ seek_steps was → heads_steps words pace was ≤ n → heads_steps words pace now ≤ n
-heads_less words n None now was few within = less_steps (seek_steps now) (seek_steps was) n few within
+heads_less words n None now was few within = omega arith
 heads_less words n (Some pace) now was few within =
-    less_max (pulses_left pace * (max words 256 + 1) + 257) pace.wait (seek_steps now) (seek_steps was) n few within
-
-pace_some : (all wait now : ℕ) → 1 ≤ max wait now + (all + 257)
-pace_some all wait now = omega arith
+    (omega arith)
 
 -- ---- calls that leave the heads as they are
 
@@ -80,7 +71,7 @@ heads_some chip idle runs moves = by_pace chip.pace refl moves
         subst (λ (p : Option PacedSeek). 1 ≤ heads_steps (step_words chip.settings) p chip.front.adapter.controller.seeks.seek) (sym at) (moves_some chip.front idle runs moves)
     by_pace (Some pace) at moves =
         subst (λ (p : Option PacedSeek). 1 ≤ heads_steps (step_words chip.settings) p chip.front.adapter.controller.seeks.seek) (sym at)
-        (pace_some (pulses_left pace * (max (step_words chip.settings) 256 + 1)) pace.wait (seek_steps chip.front.adapter.controller.seeks.seek))
+        (omega arith)
 
 pub taken_idle : (chip : ChipState) → IsIdleAt chip.front → length chip.front.adapter.controller.seeks.pending ≡ 4 → IsIdleAt (drained chip).front
 taken_idle chip idle four = (all_taken chip idle four).taken.idle

@@ -42,10 +42,6 @@ record Identifying (place : Place) (unit : ℕ) (chip : ChipState) : Type 0 wher
   known : MayReadIdIn past unit chip.front.adapter.controller.phase
   hearing : IsHearingAt place (id_at unit) past (drive_at chip.front.adapter place.bay)
 
--- READ ID begins
-begun_known : (unit : ℕ) (chosen : Task) → IsReadingId unit chosen → MayReadIdIn new_past unit (Execute (record { head_drive = unit; steps = 0; task = chosen }))
-begun_known unit chosen is = is
-
 begun_identifies : (place : Place) (unit : ℕ) (chip : ChipState) → IsIdBegun unit chip → IsAt place chip.front → Identifying place unit chip
 begun_identifies place unit chip is at =
     let sent = begins_sent Sent (GivesCommand (identifying unit)) is.set chip (stands_free is.set.front is.free) is.begins in
@@ -56,7 +52,7 @@ begun_identifies place unit chip is at =
       order = is.order;
       executes = (id_executes unit sent.set chip.front sent.stands obeyed).0;
       past = new_past;
-      known = subst (λ (fdc : Fdc). MayReadIdIn new_past unit fdc.phase) (sym begins.3) (begun_known unit begins.0 begins.1);
+      known = subst (λ (fdc : Fdc). MayReadIdIn new_past unit fdc.phase) (sym begins.3) (begins.1);
       hearing = fresh_hearing place chip.front (id_at unit) new_past at refl;
     }
 
@@ -309,9 +305,6 @@ key_on_track place unit past key drive (from, since, led, began) has =
       | inr hears ↦ on_track track from led.late key hears.heard late
     ]
 
-same_answer : (one other : Results) → Telling (answer.Results one) 0 ≡ Telling (answer.Results other) 0 → one ≡ other
-same_answer one other is = cc
-
 pub id_tells : (place : Place) (unit : ℕ) (calls : List Call) (begun last new : ChipState) (results : Results) (at : AreAt (Busy Sent) calls begun last) → IsSound begun → IsIdBegun unit begun
     → StaysUnder place (Busy Sent) calls begun last at → StepsChip last new → Tells results new → results.st1.0 ≡ 0 → (spot : ℕ) × IsAddressAt (track_at place (head_of unit)) spot results.key
 id_tells place unit calls begun last new results at sound is under step tells none =
@@ -320,7 +313,7 @@ id_tells place unit calls begun last new results at sound is under step tells no
       | inl (same, executes) ↦ absurd (false≢true (sym (ap is_telling (ap (λ (chip : ChipState). chip.stage) same ∙ was.stage)) ∙ ap is_telling tells.stage))
       | inr told ↦
           let more = step_hears place unit last step.between step.steps was there in
-          let same : told.results ≡ results = same_answer told.results results (sym told.told ∙ tells.stage) in
+          let same : told.results ≡ results = cc in
           let (are, has) = subst (MayReadIdIn more.past unit) told.at more.known in
           let found = found_key unit more.past told.ending told.results are has (ap (λ (r : Results). r.st1.0) same ∙ none) in
           key_on_track place unit more.past results.key (drive_at step.between.adapter place.bay) more.hearing (subst (λ (r : Results). HasAddress more.past r.key) same found)

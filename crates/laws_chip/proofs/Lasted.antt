@@ -137,12 +137,6 @@ nearer_within now left sectors n fewer some all = omega arith
 sought_within : (left sectors n : ℕ) → 1 ≤ left → left + 65536 * sectors ≤ n → 65536 * sectors ≤ n - 1
 sought_within left sectors n some all = omega arith
 
-fewer_within : (now left sectors n : ℕ) → now < left → 1 ≤ sectors → left + 65536 * sectors ≤ n + 65536 → now + 65536 * sectors ≤ n - 1 + 65536
-fewer_within now left sectors n fewer some all = omega arith
-
-next_within : (now left sectors next n : ℕ) → now < left → next + 1 ≡ sectors → left + 65536 * sectors ≤ n + 65536 → 65536 * next ≤ n - 1
-next_within now left sectors next n fewer one all = omega arith
-
 seek_lasts : (n : ℕ) (at : Transfer) (counted : Bool) (old : Front) (between : AdapterState) (new : Front) → old.stage ≡ Seeking at counted → SeeksWithin n at old.adapter.controller → StepsAdapter old.adapter between
     → FollowsStep (mark_of old.adapter.controller) (Seeking at counted) (record old { adapter = between }) new → (new.stage ≡ Through → ⊥) → Lasts (n - 1) new
 seek_lasts n at counted old between new stage_is was steps follows stays = by_end (has_ended_seek between.controller.seeks) refl follows
@@ -173,7 +167,7 @@ module _ (n : ℕ) (moving : MovingSector) (old : Fdc) (was : MovesWithin n movi
       let bytes = was.bytes more in
       let one = sectors_next moving.transfer bytes more in
       begins_lasts (n - 1) next false (has_met_other moving marked) front new (λ last. next_bytes moving.transfer bytes)
-      (next_within (steps_left phase) (steps_left old.phase) (sectors_from moving.transfer) (sectors_from next) n fewer one was.within) stays begins
+      (omega arith) stays begins
 
   results_last : (results : Results) (front new : Front) → new ≡ record front { stage = Telling results } → Lasts (n - 1) new
   results_last results front new is = at_stage (n - 1) (Telling results) new (ap (λ f. f.stage) is) tt
@@ -196,7 +190,7 @@ module _ (n : ℕ) (moving : MovingSector) (old : Fdc) (was : MovesWithin n movi
   moves_last mark None front new stage_is fewer counted stays is = passed_last (is_unwanted moving (mark_of front.adapter.controller)) front new stage_is (record {
     bytes = was.bytes;
     counted = counted;
-    within = fewer_within (steps_left front.adapter.controller.phase) (steps_left old.phase) (sectors_from moving.transfer) n fewer (sectors_some moving.transfer) was.within;
+    within = omega arith;
   }) is
 
 step_lasts : (n : ℕ) (first : Transfer) (history : History) (stage : FrontStage) (old : Front) (between : AdapterState) (new : Front) → old.stage ≡ stage → ServesAt stage first history old.adapter.controller
@@ -270,15 +264,12 @@ call_lasts call.Changes n first history old new does stays serves was =
     none_fewer n new (at_stage n old.stage new does.stage (subst (LastsAt n old.stage) (sym does.controller) was))
 call_lasts made n first history old new does stays serves was = none_fewer n new (same_lasts n old new (ignored made old new tt does (served_on first history old serves) stays) was)
 
-fewer_by : (n one rest : ℕ) → n - one - rest ≡ n - (one + rest)
-fewer_by n one rest = omega arith
-
 pub calls_last : (calls : List Call) (n : ℕ) (first : Transfer) (history : History) (old new : Front) → AreWithin calls old new → Serves first history old → Lasts n old → Lasts (n - steps_in calls) new
 calls_last [] n first history old new same serves was = none_fewer n new (same_lasts n old new same was)
 calls_last (made ∷ calls) n first history old new (between, does, stays, rest) serves was =
     let one = call_serves made first history old between does stays serves in
     let lasts = call_lasts made n first history old between does stays serves was in
-    subst (λ m. Lasts m new) (fewer_by n (steps_of made) (steps_in calls)) (calls_last calls (n - steps_of made) first one.history between new rest one.serves lasts)
+    subst (λ m. Lasts m new) (omega arith) (calls_last calls (n - steps_of made) first one.history between new rest one.serves lasts)
 
 -- ---- how a command begins
 
@@ -298,9 +289,6 @@ seek_runs head_drive cylinder lines old new takes idle = either_way (seek_bits o
 sought_first : (left sectors : ℕ) → left ≤ 256 → left + 65536 * sectors ≤ 256 + 65536 * sectors
 sought_first left sectors few = omega arith
 
-moved_first : (sectors : ℕ) → 65536 * sectors ≤ 256 + 65536 * sectors
-moved_first sectors = omega arith
-
 starts_last : (first : Transfer) (old new : Front) → HasRecords first → IsInRange new.adapter.controller → (new.stage ≡ Through → ⊥) → Starts first old new → Lasts (most_steps first) new
 starts_last first old new bytes range stays starts = by_seek first.seeks starts
   where
@@ -318,13 +306,13 @@ starts_last first old new bytes range stays starts = by_seek first.seeks starts
 
     by_seek : (b : Bool) → StartsIf b first old new → Lasts (most_steps first) new
     by_seek true seeks = by_idle seeks (is_idle seeks.between.controller) refl seeks.begun
-    by_seek false begins = begins_lasts (most_steps first) first false false old new bytes (moved_first (sectors_from first)) stays begins
+    by_seek false begins = begins_lasts (most_steps first) first false false old new bytes (omega arith) stays begins
 
 -- a sector whose address field has just passed
 pub field_lasts : (at : Transfer) (old new : Front) → HasRecords at → ReadsSector at old new → Lasts (most_steps at) new
 field_lasts at old new bytes reads =
     let counted : IsCounted reads.between.controller.phase = subst (λ (fdc : Fdc). IsCounted fdc.phase) (sym reads.reads.reads.2) (omega arith) in
-    subst (Lasts (most_steps at)) (sym reads.begun) (begun_within false (most_steps at) at reads.between bytes (moved_first (sectors_from at)) counted)
+    subst (Lasts (most_steps at)) (sym reads.begun) (begun_within false (most_steps at) at reads.between bytes (omega arith) counted)
 
 pub first_lasts : (first : Transfer) (start begun : Front) → Begins first start begun → HasRecords first → IsInRange begun.adapter.controller → Lasts (most_steps first) begun
 first_lasts first start begun begins records range = starts_last first start begun records range begins.stays (given_starts first start begun begins.ready begins.gives)
@@ -356,9 +344,6 @@ begun_records (Moving moving) first fdc (here, counts, carries) under bytes = su
 
 -- ---- the whole command
 
-some_left : (left sectors n : ℕ) → 1 ≤ left → left + 65536 * sectors ≤ n → 1 ≤ n
-some_left left sectors n some all = omega arith
-
 some_moves : (left sectors n : ℕ) → 1 ≤ left → 1 ≤ sectors → left + 65536 * sectors ≤ n + 65536 → 1 ≤ n
 some_moves left sectors n some one all = omega arith
 
@@ -366,7 +351,7 @@ some_moves left sectors n some one all = omega arith
 pub lasts_some : (n : ℕ) (stage : FrontStage) (first : Transfer) (history : History) (fdc : Fdc) → ServesAt stage first history fdc → LastsAt n stage fdc → is_under_way stage ≡ true → 1 ≤ n
 lasts_some n Through first history fdc now was under = absurd was
 lasts_some n (Telling results) first history fdc now was under = absurd (false≢true under)
-lasts_some n (Seeking at counted) first history fdc now was under = some_left (seek_left fdc.seeks.seek) (sectors_from at) n (seek_some fdc.seeks was.runs) was.within
+lasts_some n (Seeking at counted) first history fdc now was under = omega arith
 lasts_some n (Moving moving) first history fdc (here, counts, carries) was under =
     some_moves (steps_left fdc.phase) (sectors_from moving.transfer) n (left_some fdc.phase carries.busy was.counted) (sectors_some moving.transfer) was.within
 

@@ -313,17 +313,13 @@ unfolding drained_by
 calm_drained chip free = let same = calm_one chip free in
     ap (λ c. drained_one (drained_one (drained_one c))) same ∙ (ap (λ c. drained_one (drained_one c)) same ∙ (ap drained_one same ∙ same))
 
-sends_sense : (drive : ℕ) (old new : ChipState) → is_held old.front.adapter.controller ≡ false → TakesByte Ready 8 (polling drive Ready old) new
-    → new ≡ sensing (drained (record (polling drive Ready old) { order = with_byte 0 8 old.order }))
-sends_sense drive old new free takes = let came : ComesIf true 8 (polling drive Ready old) new = rw free at takes in came
-
 senses_from : (drive : ℕ) (old : ChipState) → drive < 4 → sensing (record (polling drive Ready old) { order = with_byte 0 8 old.order }) ≡ sensing_from drive old
 senses_from (suc (suc (suc (suc drive)))) old few = absurd (omega arith)
 senses_from _ old few = refl
 
 sends_at : (drive : ℕ) (old new : ChipState) → drive < 4 → is_held old.front.adapter.controller ≡ false → TakesByte Ready 8 (polling drive Ready old) new → new ≡ sensing_from drive old
 sends_at drive old new few free takes =
-    sends_sense drive old new free takes
+    (let came : ComesIf true 8 (polling drive Ready old) new = rw free at takes in came)
     ∙ (ap sensing (calm_drained (record (polling drive Ready old) { order = with_byte 0 8 old.order }) free) ∙ senses_from drive old few)
 
 pub poll_sends : (drive : ℕ) (old new : ChipState) → drive < 4 → HasPolls drive Ready old → WritesChip 0x3F5 8 old new → HasPolls (drive + 1) (telling_poll drive 0) new

@@ -205,12 +205,9 @@ begun_rule (Write true) head_drive key last_sector gap code lines old new takes 
 sector_fed : (at : Transfer) (counted passed_over : Bool) (old new : Front) → IsSizeCode at.key.n → BeginsSector at counted passed_over old new → IsFedFront new
 sector_fed at counted passed_over old new sized begins = by_busy (is_executing begins.between.controller.phase) refl begins.begun
   where
-    some_left : (n : ℕ) → n ≡ 0 → (n == 0) ≡ false → ⊥
-    some_left n none some = false≢true (sym some ∙ ap (λ m. m == 0) none)
-
     told_or : (b : Bool) → GoesByRule begins.between.controller → IsFed (moving_of at b passed_over) (told_if b begins.between).controller
     told_or true rule = told_fed (moving_of at true passed_over) begins.between.controller rule
-    told_or false rule = record { rule = rule; last = λ none. absurd (some_left (size_of at.key.n) none (size_some at.key.n sized)) }
+    told_or false rule = record { rule = rule; last = λ none. absurd (false≢true (sym (size_some at.key.n sized) ∙ ap (λ m. m == 0) none)) }
 
     by_busy : (b : Bool) → is_executing begins.between.controller.phase ≡ b → new ≡ begun_if b at counted passed_over begins.between old → IsFedFront new
     by_busy false quiet is = free_as Through new (ap (λ (f : Front). f.stage) is) tt
@@ -367,12 +364,8 @@ ends_calm mark (Done marked) moving old new results calm ends tells = by_next (g
 ends_calm mark Overrun moving old new results calm is tells = absurd (false≢true (sym calm))
 ends_calm mark ending moving old new results calm is tells = as_told _ results old new (told_calm ending moving.transfer moving.transfer.key (has_failed_other mark moving ending) calm) is tells
 
--- the controller's ending isn't OR, and it isn't OR as the front judges it
-same_ending : (one other : Ending) → Some one ≡ Some other → one ≡ other
-same_ending one other is = cc
-
 answer_calm : (told : Answer) (ending : Ending) → is_overrun (Result told) ≡ false → ending_of_phase (Result told) ≡ Some ending → overran ending ≡ false
-answer_calm (Long found results read) ending calm is = sym (ap overran (same_ending found ending is)) ∙ calm
+answer_calm (Long found results read) ending calm is = sym (ap overran (cc)) ∙ calm
 answer_calm (Short next last) ending calm is = absurd (cc)
 
 phase_calm : (phase : Phase) (ending : Ending) → is_overrun phase ≡ false → ending_of_phase phase ≡ Some ending → overran ending ≡ false

@@ -58,13 +58,10 @@ sensed_four old few = by_first (first_pending old)
     by_first None = few
     by_first (Some drive) = released_four drive old.seek few
 
-some_pow : (drive : ℕ) → 2 ^ drive ≡ 0 → ⊥
-some_pow drive none = let some = pow_pos drive in absurd (omega arith)
-
 -- if no seek bit is set, no seek runs
 pub none_four : (seek : Option Seek) → option_map_or (λ (s : Seek). 2 ^ s.drive) seek 0 ≡ 0 → IsOfFour seek
 none_four None none = tt
-none_four (Some seek) none = absurd (some_pow seek.drive none)
+none_four (Some seek) none = absurd (let some = pow_pos seek.drive in absurd (omega arith))
 
 pub stands_rests : (front : Front) → Stands front → RestsBehind front
 stands_rests front stands = record { through = stands.through; takes = stands.takes; seek = none_four front.adapter.controller.seeks.seek stands.rests }

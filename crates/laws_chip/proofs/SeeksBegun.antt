@@ -242,9 +242,6 @@ none_of : (pace : Option PacedSeek) → is_some pace ≡ false → pace ≡ None
 none_of None is = refl
 none_of (Some pace) is = absurd (false≢true (sym is))
 
-pub of_four : (n : ℕ) → n % 4 ≤ 3
-of_four n = omega arith
-
 -- ---- its last byte
 
 -- the inner controller stands, and the chip begins the seek
@@ -294,7 +291,7 @@ seek_comes code goal byte old new was is_after few completes is writes still unp
     subst (λ (order : Order). HeadsGo (most_of goal) (order.unit % 4) goal Ready new) coming.order_is (record {
       at = ap (λ (chip : ChipState). chip.stage) rest;
       unpaced = ap (λ (chip : ChipState). chip.pace) rest ∙ coming.unpaced;
-      few = of_four set.order.unit;
+      few = omega arith;
       going = given_seeks set.order.unit goal set.front new.front coming.stands coming.pending (coming.poll ∙ polled) is_after.range gives;
     })
 
@@ -308,9 +305,6 @@ none_kept (Some seek) none = let some = pow_pos seek.drive in absurd (omega arit
 -- the pulses of the whole seek, from the cylinder that the chip counts
 abbrev begun_at : Option ℕ → Order → Interrupting → PacedSeek
 begun_at goal order interrupts = pace_begun order.unit (cylinder_of order.unit interrupts) goal
-
-most_within : (words pulses : ℕ) → max 0 (0 + 1) + 254 + pulses * max words 2 ≤ most_paced words pulses
-most_within words pulses = omega arith
 
 pub paced_comes : (code : ChipOpcode) (goal : Option ℕ) (byte : ℕ) (old new : ChipState) → IsSoundInRange old → IsSoundInRange new → byte < 256
     → Completes code byte old → goal_of code (completed byte old) (drained old).interrupts ≡ Some goal → WritesChip 0x3F5 byte old new → still_moves old ≡ false → old.paced ≡ true
@@ -327,7 +321,7 @@ paced_comes code goal byte old new was is_after few completes is writes still pa
     ap (λ (order : Order). begun_at goal order set.interrupts) coming.order_is ∙ ap (λ (i : Interrupting). begun_at goal (completed byte old) i) coming.numbers in
     record {
       at = ap (λ (chip : ChipState). chip.stage) now;
-      few = of_four (completed byte old).unit;
+      few = omega arith;
       pace = begun_at goal (completed byte old) (drained old).interrupts;
       paced = ap (λ (chip : ChipState). chip.pace) now ∙ ap Some same;
       drive_is = refl;
@@ -345,5 +339,5 @@ paced_comes code goal byte old new was is_after few completes is writes still pa
         four = ap (λ (f : Front). length f.adapter.controller.seeks.cylinders) (sym front) ∙ is_after.range.seeks.cylinders;
         counts = inr (omega arith);
       }));
-      within = most_within (step_words new.settings) (pulses_left (begun_at goal (completed byte old) (drained old).interrupts));
+      within = omega arith;
     }

@@ -57,17 +57,11 @@ paced_as left drive goal stage old new was at pace settings going = record {
   within = subst (λ (s : Settings). most_left was.behind was.apart (step_words s) was.pace ≤ left) (sym settings) was.within;
 }
 
-same_going : (left drive : ℕ) (goal : Option ℕ) (stage : ChipStage) (old new : ChipState) → new ≡ old → HeadsGo left drive goal stage old → HeadsGo left drive goal stage new
-same_going left drive goal stage old new is was = subst (HeadsGo left drive goal stage) (sym is) was
-
 pub call_going : (left drive : ℕ) (goal : Option ℕ) (stage : ChipStage) (call : Call) (old new : ChipState) → waits_for_heads stage ≡ true → HeadsGo left drive goal stage old → Does call old new → is_step call ≡ false
     → is_reset call ≡ false → is_of_data_port call ≡ false → HeadsGo left drive goal stage new
 call_going left drive goal stage call old new waits was does no_step no_reset other =
     let keeps = call_heads call old new (ap waits_for_heads was.at ∙ waits) does no_step no_reset other in
     record { at = keeps.stage ∙ was.at; unpaced = keeps.pace ∙ was.unpaced; few = was.few; going = seeks_kept left drive goal old new keeps was.going }
-
-same_paced : (left drive : ℕ) (goal : Option ℕ) (stage : ChipStage) (old new : ChipState) → new ≡ old → HeadsPaced left drive goal stage old → HeadsPaced left drive goal stage new
-same_paced left drive goal stage old new is was = subst (HeadsPaced left drive goal stage) (sym is) was
 
 pub call_paced : (left drive : ℕ) (goal : Option ℕ) (stage : ChipStage) (call : Call) (old new : ChipState) → waits_for_heads stage ≡ true → HeadsPaced left drive goal stage old → Does call old new → is_step call ≡ false
     → is_reset call ≡ false → is_of_data_port call ≡ false → HeadsPaced left drive goal stage new
@@ -87,13 +81,13 @@ byte_taken byte old new at writes part = by_chance (may_come old) (subst (λ sta
 pub byte_going : (left drive : ℕ) (goal : Option ℕ) (byte : ℕ) (old new : ChipState) → HeadsGo left drive goal Ready old → WritesChip 0x3F5 byte old new → completes byte old ≡ false → HeadsGo left drive goal Ready new
 byte_going left drive goal byte old new was writes part = elim (byte_taken byte old new was.at writes part) [
   | inl is ↦ subst (HeadsGo left drive goal Ready) (sym is) (record { at = was.at; unpaced = was.unpaced; few = was.few; going = was.going })
-  | inr is ↦ same_going left drive goal Ready old new is was
+  | inr is ↦ subst (HeadsGo left drive goal Ready) (sym is) was
 ]
 
 pub byte_paced : (left drive : ℕ) (goal : Option ℕ) (byte : ℕ) (old new : ChipState) → HeadsPaced left drive goal Ready old → WritesChip 0x3F5 byte old new → completes byte old ≡ false → HeadsPaced left drive goal Ready new
 byte_paced left drive goal byte old new was writes part = elim (byte_taken byte old new was.at writes part) [
   | inl is ↦ subst (HeadsPaced left drive goal Ready) (sym is) (paced_as left drive goal Ready old (with_next byte old) was refl refl refl was.going)
-  | inr is ↦ same_paced left drive goal Ready old new is was
+  | inr is ↦ subst (HeadsPaced left drive goal Ready) (sym is) was
 ]
 
 -- ---- a command comes, and is held

@@ -33,11 +33,8 @@ run_some : (motion : Motion) → not (has_ended motion) ≡ true → 1 ≤ steps
 run_some Ended runs = absurd (false≢true runs)
 run_some _ runs = omega arith
 
-pace_some : (all wait now : ℕ) → 0 < max wait now + (all + 257)
-pace_some all wait now = omega arith
-
 go_some : (words : ℕ) (pace : Option PacedSeek) (seek : Option DriveSeek) → (is_some pace || option_map_or (λ (d : DriveSeek). not (has_ended d.motion)) seek false) ≡ true → 0 < heads_steps words pace seek
-go_some words (Some pace) seek goes = pace_some (pulses_left pace * (max words 256 + 1)) pace.wait (seek_steps seek)
+go_some words (Some pace) seek goes = omega arith
 go_some words None None goes = absurd (false≢true goes)
 go_some words None (Some seek) goes = run_some seek.motion goes
 
@@ -173,9 +170,6 @@ other_few call words n old new idle free range goes still does no_step few = eit
 
 -- ---- a device step
 
-same_n : (n : ℕ) → n ≤ n
-same_n n = omega arith
-
 -- what the chip does after the pulses of the step leaves the seek, or takes over its result
 after_few : (words n : ℕ) (old : ChipState) (between : Front) (paced : ChipState) → IsSound old → is_busy old.stage ≡ false → HeadsGoOn words old → TellsEnd old.front.adapter.controller.seeks → StepsFront old.front between
     → Paces old.pace (with_front between old) paced → left_at words old ≤ n → IsFewLater paced → IsPaced words (n - 1) paced
@@ -254,14 +248,10 @@ seeks_last words n (call ∷ calls) old new sound knows was few (between, does, 
 pub used_stands : (words : ℕ) (calls : List Call) (old new : ChipState) → IsUsed old → HeadsGoOn words old → AreSeeking words calls old new
     → steps_in calls < heads_steps words old.pace old.front.adapter.controller.seeks.seek
 used_stands words calls old new used was are =
-    let known = used_known old used in seeks_last words (left_at words old) calls old new known.sound known.knows was (same_n (left_at words old)) are
+    let known = used_known old used in seeks_last words (left_at words old) calls old new known.sound known.knows was (omega arith) are
 
 pub words_most : (settings : Settings) → step_words settings ≤ 1000
 words_most settings = omega arith
 
--- as a seek begins whose pulses come in time, its first pulse is due
-none_waits : (all : ℕ) → max 0 0 + all ≡ all
-none_waits all = omega arith
-
 pub pace_begins : (words unit cylinder : ℕ) (goal : Option ℕ) → heads_steps words (Some (pace_begun unit cylinder goal)) None ≡ pulses_left (pace_begun unit cylinder goal) * (max words 256 + 1) + 257
-pace_begins words unit cylinder goal = none_waits (pulses_left (pace_begun unit cylinder goal) * (max words 256 + 1) + 257)
+pace_begins words unit cylinder goal = omega arith

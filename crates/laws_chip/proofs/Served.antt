@@ -490,9 +490,6 @@ other_port (Moving moving) port value first history old new stage_is sized parts
     writes_one first history.parts history.past history.counted moving sized parts here counts old new port value stage_is carries no_byte no_reset writes same
 other_port (Telling results) port value first history old new stage_is sized parts now no_byte no_reset writes same = same_stage first history (Telling results) new (same ∙ stage_is) sized parts now
 
-data_resets : (port value : ℕ) → port ≡ 0x3F5 → resets port value ≡ false
-data_resets port value is = ap (λ p. resets p value) is
-
 pub writes_serve : (port value : ℕ) (old new : Front) → WritesFront port value old new → ServesUnless (resets port value) old new
 writes_serve port value old new writes = by_port (port == 0x3F5) refl
   where
@@ -504,7 +501,7 @@ writes_serve port value old new writes = by_port (port == 0x3F5) refl
     by_port : (b : Bool) → (port == 0x3F5) ≡ b → ServesUnless (resets port value) old new
     by_port true is =
         let here = eqb-true port 0x3F5 is in
-        subst (λ b. ServesUnless b old new) (sym (data_resets port value here))
+        subst (λ b. ServesUnless b old new) (sym (ap (λ p. resets p value) here))
         (λ first history serves. same_front first history old new (writes.bytes here) serves)
     by_port false is = let (wrote, after) = writes.others is in by_reset (resets port value) is refl wrote after
 

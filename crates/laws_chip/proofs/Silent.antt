@@ -111,9 +111,6 @@ some_or false b is = absurd (false≢true is)
 fetches_none : (asking ended : Bool) (fifo : Fifo) → fifo.bytes ≡ [] → wants true asking ended fifo ≡ false
 fetches_none asking ended fifo none = none_and (not (length fifo.bytes == 0)) _ (ap (λ (bytes : List ℕ). not (length bytes == 0)) none)
 
-fills_none : (asking counted : Bool) (fifo : Fifo) → counted ≡ true → wants false asking counted fifo ≡ false
-fills_none asking counted fifo is = none_and _ _ (some_or counted _ is)
-
 reading_on : (head_drive steps : ℕ) (reading : Reading) (old : Fdc) → reading.counted ≡ true → old.fifo.bytes ≡ [] → Muted (gone_on_reading head_drive steps reading old)
 reading_on head_drive steps reading old counted none = by_ending (ending_of reading) (length old.fifo.bytes == 0)
   where
@@ -131,7 +128,7 @@ heard_muted head_drive steps reading (heard.Byte stage value) old counted none =
 heard_muted head_drive steps reading (heard.Ended ending) old counted none = tt
 
 next_muted : (head_drive steps : ℕ) (writing : Writing) (next : WriteNext) (old : Fdc) → writing.counted ≡ true → Muted (after_next head_drive steps writing next old)
-next_muted head_drive steps writing (On stage) old counted = (counted, fills_none old.asking writing.counted old.fifo counted)
+next_muted head_drive steps writing (On stage) old counted = (counted, (none_and _ _ (some_or writing.counted _ counted)))
 next_muted head_drive steps writing (Ended ending) old counted = tt
 
 writes_muted : (time : WordTime) (head_drive steps : ℕ) (writing : Writing) (old : Fdc) (before : DriveState) (new : Fdc) → WriteDoes time head_drive steps writing old before new → writing.counted ≡ true → Muted new
@@ -198,9 +195,6 @@ IsSilentAt _ fdc = Unit {0}
 abbrev IsSilent : Front → Type 0
 IsSilent front = IsSilentAt front.stage front.adapter.controller
 
-goes_counted : (moving : MovingSector) (marked : Bool) → moving.counted ≡ true → goes_on moving marked ≡ false
-goes_counted moving marked counted = none_and _ _ (none_and (not moving.counted) _ (ap not counted))
-
 stage_silent : (stage : FrontStage) (new : Front) → new.stage ≡ stage → IsSilentAt stage new.adapter.controller → IsSilent new
 stage_silent stage new is silent = subst (λ s. IsSilentAt s new.adapter.controller) (sym is) silent
 
@@ -212,7 +206,7 @@ record GoesSilent (history now : History) (new : Front) : Type 0 where
 module _ (history : History) (past : Past) (moving : MovingSector) (counted : moving.counted ≡ true) (new : Front) where
   silent_ends : (was : Option Bool) (ending : Ending) (mark : Option Bool) (old : Front) → EndsSector was moving ending old new → GoesSilent history (history_moved (Some ending) moving mark past history) new
   silent_ends was (Done marked) mark old ends =
-      let none = goes_counted moving marked counted in
+      let none = (none_and _ _ (none_and (not moving.counted) _ (ap not counted))) in
       let is : EndsIf false moving marked old new = subst (λ b. EndsIf b moving marked old new) none ends in
       record { silent = stage_silent _ new (ap (λ f. f.stage) is) tt; parts = ap (λ b. (history_ended b moving.transfer marked past history).parts) none }
   silent_ends was ending mark old ends = record { silent = stage_silent _ new (ap (λ f. f.stage) ends) tt; parts = refl }
@@ -341,9 +335,6 @@ module _ (first : Transfer) (served history : History) where
   silent_call call grown old new does stays serves was then_served then_serves is =
       subst (λ h. StaysSilent call history h new) (sym is) (same_silent call history old new refl (ignored call old new tt does (served_on first served old serves) stays) was)
 
-none_more : (first second : List ℕ) → first ≡ [] → second ≡ [] → first ++ second ≡ []
-none_more first second one two = ap (λ bytes. bytes ++ second) one ∙ two
-
 -- no byte passes, and no sector is over
 pub calls_silent : (calls : List Call) (first : Transfer) (served history grown : History) (old new : Front) (within : AreWithin calls old new) → Serves first served old → IsSilent old
     → Gather calls old new within history grown → (passed_in_all calls ≡ []) × (grown.parts ≡ history.parts)
@@ -352,7 +343,7 @@ calls_silent (call ∷ calls) first served history grown old new (between, does,
     let one = call_serves call first served old between does within serves in
     let silent = silent_call first served history call mid old between does within serves was one.history one.serves grows in
     let more = calls_silent calls first one.history mid grown between new rest one.serves silent.silent gather in
-    (none_more (passed_by call) (passed_in_all calls) silent.none more.0, more.1 ∙ silent.parts)
+    ((ap (λ bytes. bytes ++ (passed_in_all calls)) silent.none ∙ more.0), more.1 ∙ silent.parts)
 
 -- where the terminal count is heard, the front becomes silent
 pub count_silent : (first : Transfer) (served : History) (old : Front) → Serves first served old → IsSilent (told_front old)

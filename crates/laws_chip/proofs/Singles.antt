@@ -16,9 +16,6 @@ id_single : (unit : ℕ) (begins : Task) → IsReadingId unit begins → is_sing
 id_single unit (task.ReadId search) is = refl
 id_single unit _ is = absurd is
 
-none_counted : 0 < 65536
-none_counted = omega arith
-
 pub id_executes : (unit : ℕ) (start new : Front) → Stands start → IsObeyed (ReadId unit) start new → ExecutesBehind new × IsBase start.adapter.controller new.adapter.controller
 id_executes unit start new stands obeyed =
     let begins : BeginsData (ReadId unit) (record start.adapter.controller { command = [] }) new.adapter.controller = (obeyed.obeys.0 stands.rests).1 stands.by_dma in
@@ -26,7 +23,7 @@ id_executes unit start new stands obeyed =
       record {
         through = obeyed.through;
         executes = ap (λ (fdc : Fdc). executes_single fdc.phase) is ∙ id_single unit begins.0 begins.1;
-        counted = subst (λ (fdc : Fdc). IsCounted fdc.phase) (sym is) none_counted;
+        counted = subst (λ (fdc : Fdc). IsCounted fdc.phase) (sym is) (omega arith);
         rests = ap (λ (fdc : Fdc). seek_bits fdc.seeks) is ∙ stands.rests;
       },
       record { dor = ap (λ (fdc : Fdc). fdc.dor) is; non_dma = ap (λ (fdc : Fdc). fdc.non_dma) is; command = ap (λ (fdc : Fdc). fdc.command) is },
@@ -43,7 +40,7 @@ format_executes unit n sectors gap fill start new stands obeyed =
       record {
         through = obeyed.through;
         executes = ap (λ (fdc : Fdc). executes_single fdc.phase) is ∙ format_single unit (record { n = n; sectors = sectors; gap3 = gap; fill = fill }) begins.0 begins.1;
-        counted = subst (λ (fdc : Fdc). IsCounted fdc.phase) (sym is) none_counted;
+        counted = subst (λ (fdc : Fdc). IsCounted fdc.phase) (sym is) (omega arith);
         rests = ap (λ (fdc : Fdc). seek_bits fdc.seeks) is ∙ stands.rests;
       },
       record { dor = ap (λ (fdc : Fdc). fdc.dor) is; non_dma = ap (λ (fdc : Fdc). fdc.non_dma) is; command = ap (λ (fdc : Fdc). fdc.command) is },

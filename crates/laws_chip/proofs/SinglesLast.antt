@@ -83,9 +83,6 @@ pub record StaysSingle (n : ℕ) (old new : Front) : Type 0 where
 same_left : (n m : ℕ) → n ≡ m → n + 0 ≤ m
 same_left n m same = omega arith
 
-less_left : (n m : ℕ) → n < m → n + 1 ≤ m
-less_left n m less = omega arith
-
 same_single : (old new : Front) → new ≡ old → ExecutesBehind old → StaysSingle 0 old new
 same_single old new is was = record {
   executes = subst ExecutesBehind (sym is) was;
@@ -123,7 +120,7 @@ may_single what old between new whole step was may same =
           subst (λ (chip : ChipState). StaysSingle 1 old.front chip.front) (sym at)
           (record {
             executes = still;
-            left = less_left (steps_left between.adapter.controller.phase) (steps_left old.front.adapter.controller.phase) left;
+            left = omega arith;
             formats = λ formatted. still_formats between.adapter.controller.phase still.executes (formats_step old.front between step was.through formatted);
           })
       | inr waits ↦
@@ -196,9 +193,6 @@ left_most _ = omega arith
 none_less : (left n : ℕ) → 1 ≤ left → left ≤ n → 0 < n
 none_less left n some few = omega arith
 
-pub left_on : (old new steps n : ℕ) → new + steps ≤ old → old ≤ n → new ≤ n - steps
-left_on old new steps n fewer few = omega arith
-
 pub steps_less : (steps more n : ℕ) → more < n - steps → steps + more < n
 steps_less steps more n less = omega arith
 
@@ -210,7 +204,7 @@ singles_last (call ∷ calls) what n old new sound at was few (between, does, wr
     let on = single_call call what old between sound at was does (ap is_busy still) (ap stage_kind still) in
     let steps = steps_of call in
     steps_less steps (steps_in calls) n (singles_last calls what (n - steps) between new (call_sound call old between does writes sound) still on.executes
-    (left_on (steps_left old.front.adapter.controller.phase) (steps_left between.front.adapter.controller.phase) steps n on.left few) rest)
+    (omega arith) rest)
 
 pub single_last : (what : ChipTask) (calls : List Call) (old new : ChipState) → IsSound old → old.stage ≡ Busy what → ExecutesBehind old.front → AreAt (Busy what) calls old new → steps_in calls < 65536
 single_last what calls old new sound at was are = singles_last calls what 65536 old new sound at was (left_most old.front.adapter.controller.phase) are

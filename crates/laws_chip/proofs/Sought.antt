@@ -25,9 +25,6 @@ ends_here old drive cylinder status left = record { fewer = omega arith; runs = 
 goes_nearer : (old : Seeks) (drive : ℕ) (still : Motion) (left : ℕ) → motion_left still ≤ left - 1 → IsNearer left (with_motion old drive still)
 goes_nearer old drive still left fewer = record { fewer = fewer; runs = λ none. ap not none }
 
-outward_left : (pulses : ℕ) → (pulses == 0) ≡ false → pulses - 1 + 1 ≤ pulses + 1 - 1
-outward_left pulses some = grind (arith, nat_tests)
-
 neighbour_left : (cylinder target : ℕ) (b : Bool) → nat_lt cylinder target ≡ b → (cylinder == target) ≡ false
     → motion_left (motion.Toward (if b then cylinder + 1 else cylinder - 1) target) + 1 ≤ motion_left (motion.Toward cylinder target)
 neighbour_left cylinder target true is differs = grind (arith, nat_tests)
@@ -38,7 +35,7 @@ motion_nearer old drive (motion.Outward pulses) track0 runs = by_last (track0 ||
   where
     by_last : (b : Bool) → (track0 || (pulses == 0)) ≡ b → IsNearer (motion_left (motion.Outward pulses)) (if b then ended old drive 0 (recalibrated drive track0) else with_motion old drive (motion.Outward (pulses - 1)))
     by_last true is = ends_here old drive 0 (recalibrated drive track0) (motion_left (motion.Outward pulses))
-    by_last false is = goes_nearer old drive (motion.Outward (pulses - 1)) (motion_left (motion.Outward pulses)) (outward_left pulses (or_parts track0 (pulses == 0) is).1)
+    by_last false is = goes_nearer old drive (motion.Outward (pulses - 1)) (motion_left (motion.Outward pulses)) (grind (arith, nat_tests))
 motion_nearer old drive (motion.Toward cylinder target) track0 runs = by_there (cylinder == target) refl
   where
     by_there : (b : Bool) → (cylinder == target) ≡ b

@@ -27,9 +27,6 @@ in_range n is = let (some, few) = and_parts (nat_le 1 n) (nat_le n 6) is in (leb
 abbrev IsAnswered : Fdc → Type 0
 IsAnswered fdc = fdc.phase ≡ Result (Short 0x80 None)
 
-idle_answer : (fdc : Fdc) → IsAnswered fdc → is_executing fdc.phase ≡ false
-idle_answer fdc is = ap is_executing is
-
 -- nothing stands in the way of the command, if the controller executes it
 module _ (P : Type 0) (seeks : ℕ) (non_dma : Bool) (old new : Fdc) where
   abbrev May : Type 0
@@ -132,7 +129,7 @@ answered_idle at lines old new takes idle = elim (command_taken at lines old new
 pub begun_busy : (at : Transfer) (lines : Lines) (old new : Fdc) → TakesWhole (Ready (command_of at)) lines old new → is_executing new.phase ≡ true → Begun at.opcode.operation (sent_of at) new
 begun_busy at lines old new takes busy = elim (command_taken at lines old new takes) [
   | inl begun ↦ begun
-  | inr answers ↦ clash (is_executing new.phase) (idle_answer new answers) busy
+  | inr answers ↦ clash (is_executing new.phase) (ap is_executing answers) busy
 ]
 
 -- ---- the seek that comes before

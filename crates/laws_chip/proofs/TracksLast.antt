@@ -203,13 +203,9 @@ step_leaves n old new sound was step works =
 
 -- ---- ---- other calls
 
--- as many device steps are left
-none_off : (here steps : ℕ) → steps ≡ 0 → here - steps ≡ here
-none_off here steps none = omega arith
-
 serves_within : (here : ℕ) (old new : Front) → ServesBehind old → Lasts here old → IsWithin 0 old new → Lasts here new
 serves_within here old new was lasts within =
-    subst (λ n. Lasts n new) (none_off here (lasting.steps_in within.calls) within.steps_are) (calls_last within.calls here was.first was.history old new within.within was.serves lasts)
+    subst (λ n. Lasts n new) (omega arith) (calls_last within.calls here was.first was.history old new within.within was.serves lasts)
 
 as_many : (now was more n : ℕ) → now + 0 ≤ was → was + more ≤ n → now + more ≤ n
 as_many now was more n fewer few = omega arith
@@ -250,18 +246,12 @@ call_leaves call n old new sound still was does works = either_way (is_step call
     by_step made.Steps is step = step_leaves n old new sound was step works
     by_step _ is does = absurd (false≢true is)
 
-index_some : (here left n : ℕ) → 1 ≤ left → here + 131328 * left ≤ n → 0 < n
-index_some here left n some few = omega arith
-
-address_some : (here left n : ℕ) → 1 ≤ left → here + (65792 + 131328 * left) ≤ n + 131328 → 0 < n
-address_some here left n some few = omega arith
-
 data_some : (here left n : ℕ) → 1 ≤ here → 1 ≤ left → here + 131328 * left ≤ n + 131328 → 0 < n
 data_some here left n one some few = omega arith
 
 pub leaves_some : (place : Place) (n left : ℕ) (front : Front) → IsBusyAt place front → 1 ≤ left → LeavesAt place n left front → 0 < n
-leaves_some Index n left front serves some (here, lasts, few) = index_some here left n some few
-leaves_some Address n left front executes some few = address_some (steps_left front.adapter.controller.phase) left n some few
+leaves_some Index n left front serves some (here, lasts, few) = omega arith
+leaves_some Address n left front executes some few = omega arith
 leaves_some Data n left front serves some (here, lasts, few) = data_some here left n (some_here here front serves lasts) some few
 
 tracks_last : (calls : List Call) (n : ℕ) (old new : ChipState) → IsSound old → Leaves n old → AreTracked calls old new → steps_in calls < n
@@ -280,9 +270,6 @@ all_left last = by_none (last == 0) refl
     by_none true none = omega arith
     by_none false some = positive last (eqb-false last 0 some)
 
-at_most : (n : ℕ) → n ≤ n
-at_most n = omega arith
-
 pub track_leaves : (old begun : ChipState) → is_size old.order.key.n ≡ true → IsFreeBehind old.front → Obeys (ReadTrack true) old begun → IsInRange begun.front.adapter.controller → Leaves (most_track_steps old.order) begun
 track_leaves old begun size free obeys range =
     let noted = with_last old.order.last_sector old in
@@ -295,7 +282,7 @@ track_leaves old begun size free obeys range =
       track = track_begun (implies noted) old.order;
       at = sent.stage;
       some = all_left old.order.last_sector;
-      leaves = (65792, first_sector (implies noted) key old.order sent.set begun.front sent.stands refl sent.gives range, at_most (65792 + 131328 * sectors_of_track old.order));
+      leaves = (65792, first_sector (implies noted) key old.order sent.set begun.front sent.stands refl sent.gives range, (omega arith));
     }
 
 pub track_last : (calls : List Call) (old begun new : ChipState) → is_size old.order.key.n ≡ true → IsFreeBehind old.front → Obeys (ReadTrack true) old begun → IsSound begun → IsInRange begun.front.adapter.controller

@@ -65,9 +65,6 @@ format_starts mfm old new free obeys =
 
 -- ---- ---- a command of sectors
 
-one_more : (sectors : ℕ) → 256 + 65536 * sectors + 65536 ≤ 256 + 65536 * (sectors + 1)
-one_more sectors = omega arith
-
 order_left : (seeks : Bool) (order : Order) (new : ChipState) → BeginsBehind (transfer_sent seeks order) new.front → is_under_way new.front.stage ≡ true → IsWorking new → ServedLeft (256 + 65536 * (sectors_of order + 1)) new
 order_left seeks order new begins under working =
     let first = transfer_sent seeks order in
@@ -76,7 +73,7 @@ order_left seeks order new begins under working =
       under = under;
       here = most_steps first;
       lasts = first_lasts first begins.start new.front begins.begins (λ more. records) working.ranges.controller;
-      few = one_more (sectors_from first);
+      few = omega arith;
     }
 
 -- the medium can't have such a command
