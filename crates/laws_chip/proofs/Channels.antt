@@ -6,6 +6,7 @@ use Rattle.laws_chip.proofs.Called.{media_serve}
 use Rattle.laws_chip.proofs.Served.{counts_serve, gives_serve, takes_serve, writes_serve}
 use Rattle.fdc_chip.specs.declared.stage.ChipTask.TheVariants as chip
 use Rattle.laws_chip.proofs.FirstSectors.{IsBase}
+use Rattle.laws_chip.proofs.Known.{port_sets}
 use Rattle.laws_chip.proofs.ServedSteps.{TellsBehind}
 use Rattle.laws_chip.proofs.Singles.{WaitsBehind}
 use Rattle.laws_chip.proofs.UnderWay.{BytePasses, Own, OfSector, Quiet, clash, counts_under, either_way, gives_pass, pass_under, port_stage, takes_pass, writes_under}
@@ -225,33 +226,19 @@ pub record IsLeft (old new : Fdc) : Type 0 where
   pub interrupt : new.interrupt ≡ old.interrupt
   pub free : is_held new ≡ true → is_held old ≡ true
 
-left_as : (old set new : Fdc) → IsLeft old set → new ≡ set → IsLeft old new
-left_as old set new left is = subst (IsLeft old) (sym is) left
-
-unreset : (b : Bool) (old set : Fdc) → b ≡ false → IsLeft old set → IsLeft old (if b then reset set else set)
-unreset true old set is left = absurd (false≢true (sym is))
-unreset false old set is left = left
-
--- DOR without a reset lets the controller go
-dor_free : (value : ℕ) (old : Fdc) → dor_resets value ≡ false → is_held (record old { dor = record { 0 = value } }) ≡ true → is_held old ≡ true
-dor_free value old no_reset held = clash (dor_resets value) no_reset held
-
 pub port_left : (port value : ℕ) (lines : Lines) (old new : Fdc) → Writes port value lines old new → (port == 0x3F5) ≡ false → resets port value ≡ false → IsLeft old new
-port_left port value lines old new writes no_byte no_reset = either_way (port == 0x3F2)
-    (λ output.
-    let quiet : dor_resets value ≡ false = sym (ap (λ b. if b then dor_resets value else (if port == 0x3F4 then dsr_resets value else false)) output) ∙ no_reset in
-    left_as old _ new (unreset (dor_resets value) old (record old { dor = record { 0 = value } }) quiet (record { phase = refl; seeks = refl; non_dma = refl; command = refl; poll = refl; interrupt = refl; free = dor_free value old quiet }))
-    (writes.output (eqb-true port 0x3F2 output)))
-    (λ no_output. either_way (port == 0x3F4)
-    (λ select.
-    let quiet : dsr_resets value ≡ false =
-    sym (ap (λ b. if b then dsr_resets value else false) select)
-    ∙ (sym (ap (λ b. if b then dor_resets value else (if port == 0x3F4 then dsr_resets value else false)) no_output) ∙ no_reset) in
-    left_as old _ new (unreset (dsr_resets value) old (record old { rate = rate_chosen value }) quiet (record { phase = refl; seeks = refl; non_dma = refl; command = refl; poll = refl; interrupt = refl; free = λ held. held }))
-    (writes.select (eqb-true port 0x3F4 select)))
-    (λ no_select. either_way (port == 0x3F7)
-    (λ control. left_as old _ new (record { phase = refl; seeks = refl; non_dma = refl; command = refl; poll = refl; interrupt = refl; free = λ held. held }) (writes.control (eqb-true port 0x3F7 control)))
-    (λ no_control. left_as old _ new (record { phase = refl; seeks = refl; non_dma = refl; command = refl; poll = refl; interrupt = refl; free = λ held. held }) (writes.others no_output no_select no_byte no_control))))
+port_left port value lines old new writes no_byte no_reset =
+    let sets = port_sets port value lines old new writes no_byte in
+    let same = sets.same in
+    subst (IsLeft old) (sym (sets.is ∙ ap (λ b. if b then reset sets.set else sets.set) no_reset)) (record {
+      phase = same.phase;
+      seeks = same.seeks;
+      non_dma = same.non_dma;
+      command = same.command;
+      poll = same.poll;
+      interrupt = same.interrupt;
+      free = sets.free no_reset;
+    })
 
 pub front_left : (port value : ℕ) (old new : Front) → WritesFront port value old new → (port == 0x3F5) ≡ false → resets port value ≡ false → IsLeft old.adapter.controller new.adapter.controller
 front_left port value old new writes no_byte no_reset =
@@ -281,8 +268,7 @@ port_executes port value old new writes no_byte no_reset was =
     }
 
 pub port_busy : (what : ChipTask) (port value : ℕ) (old new : Front) → WritesFront port value old new → (port == 0x3F5) ≡ false → resets port value ≡ false → IsBusyWith what old → IsBusyWith what new
-port_busy what port value old new writes no_byte no_reset busy =
-    keep_with what old new (port_serves port value old new writes no_byte no_reset) (port_executes port value old new writes no_byte no_reset) busy
+port_busy what port value old new writes no_byte no_reset busy = search (keep_with, port_serves, port_executes)
 
 -- ---- media
 

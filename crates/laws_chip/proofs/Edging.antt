@@ -191,8 +191,7 @@ answer_read false first told read old new tells is down up =
     absurd (false≢true (rises first (Telling told (read + 1)) old new is refl (answer_down told read old tells down) up))
 
 data_read : (stage : ChipStage) (old : ChipState) (value : ℕ) (new : ChipState) → old.stage ≡ stage → ReadsAt stage old value new → interrupts_chip old ≡ false → interrupts_chip new ≡ true → EndsAnswer old new
-data_read (Telling told read) old value new at (value_is, is) down up =
-    answer_read (nat_le (length (answer_bytes told)) (read + 1)) (is_of_data told && read == 0) told read old new at is down up
+data_read (Telling told read) old value new at (value_is, is) down up = search answer_read
 data_read _ old value new at reads down up = port_read (passes_by_port old) old value new refl reads down up
 
 pub read_raises : (port value : ℕ) (old new : ChipState) → ReadsChip port old value new → interrupts_chip old ≡ false → interrupts_chip new ≡ true → EndsAnswer old new

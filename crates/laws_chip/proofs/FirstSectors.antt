@@ -2,7 +2,7 @@
 -- controller. The sequencer serves a command that it is given.
 use Rattle.std.proofs.Common.{◌≡◌, ℕ, nat_le, Bool, true, false, ◌&&◌, if◌then◌else◌, [], refl, sym, ◌∙◌, ap, subst}
 use Rattle.laws_chip.proofs.Common.{and_from, le-leb, Chrn, IsSizeCode, Dor, Invalid, Command, ReadData, WriteData, WriteDeleted, BeginsData, TakesAs, seeking, is_taking, is_gated, is_held, TakesWhole, is_idle, Fdc, Lines, AdapterState, lines_at, BeginsSector, Front, GivesTransfer, SeeksFirst, Starts, StartsIf, begun_if, moving_of, told_if, command_for, Operation, Read, Write, FrontStage, Through, Moving, Seeking, Transfer, is_under_way, IsFree, is_size, BeginsBehind, WaitsForHeads, ReadyCommand as Ready, FdcObeys as Obeys, FrontTransfersIf as TransfersIf, SectorCallsBegins as Begins}
-use Rattle.laws_chip.proofs.Free.{free_executes}
+use Rattle.laws_chip.proofs.Free.{free_executes, is_in}
 use Rattle.laws_chip.proofs.Started.{in_range}
 use Rattle.laws_chip.proofs.Whole.{begins_served}
 use Rattle.laws_chip.proofs.Standing.{Stands, stands_ready, stands_taking}
@@ -30,9 +30,6 @@ base_told true old between base = record { dor = base.dor; non_dma = base.non_dm
 base_told false old between base = base
 
 -- ---- a sector
-
-is_in : (n : ℕ) → IsSizeCode n → (nat_le 1 n && nat_le n 6) ≡ true
-is_in n (some, few) = and_from (nat_le 1 n) (nat_le n 6) (le-leb 1 n some) (le-leb n 6 few)
 
 module _ (head_drive : ℕ) (key : Chrn) (last_sector gap length_code : ℕ) (lines : Lines) (old new : Fdc) (sized : IsSizeCode key.n) (free : IsFree old) where
   abbrev without : Fdc

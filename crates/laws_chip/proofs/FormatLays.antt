@@ -140,8 +140,7 @@ record Stepped (outset : Outset) (unit : ℕ) (numbers : Numbers) (given : List 
 
 time_here : (outset : Outset) (unit head_drive : ℕ) (rate : DataRate) (time : WordTime) (drive after : DriveState) → head_drive ≡ unit → outset.head ≡ head_of unit → rate ≡ outset.rate
     → IsTime time rate (head_of head_drive) drive after → IsTime time outset.rate outset.head drive after
-time_here outset unit head_drive rate time drive after head under same is =
-    subst (λ h. IsTime time outset.rate h drive after) (ap head_of head ∙ sym under) (subst (λ r. IsTime time r (head_of head_drive) drive after) same is)
+time_here outset unit head_drive rate time drive after head under same is = grind (arith, head_of)
 
 phase_steps : (outset : Outset) (unit : ℕ) (numbers : Numbers) (given : List ℕ) (past : Past) (phase : Phase) (asking : Bool) (fifo : Fifo) (polls new : Fdc) (before after : DriveState) → IsDisk outset.disk → outset.head ≡ head_of unit
     → polls.rate ≡ outset.rate → is_executing phase ≡ true → past.taken ≡ given → MayFormatIn past unit numbers phase asking fifo → IsAtDrive outset past true before → WritesIn phase asking fifo polls before after new

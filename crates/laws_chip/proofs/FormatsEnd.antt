@@ -71,8 +71,7 @@ format_on _ head_drive steps formatting old before new (due, does) =
 
 nowhere_on : (head_drive steps : ℕ) (formatting : Formatting) (old new : Fdc) → FormatsNowhere head_drive steps formatting old new → FormatsOn new.phase
 nowhere_on head_drive steps formatting old new (inl (last, is)) = phase_as _ new (ends_formats Late head_drive no_key old refl) is
-nowhere_on head_drive steps formatting old new (inr (few, (next, hears, is))) =
-    phase_as _ new (laid_on head_drive (steps + 1) formatting next old (fails_other next hears.1)) is
+nowhere_on head_drive steps formatting old new (inr (few, (next, hears, is))) = search (phase_as, laid_on, fails_other)
 
 module _ (polls new : Fdc) where
   task_on : (begins : Task) (head_drive steps : ℕ) (asking : Bool) (fifo : Fifo) (before after : DriveState) → is_format begins ≡ true

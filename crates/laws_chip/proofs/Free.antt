@@ -30,7 +30,7 @@ next_seeks : (head_drive steps : ℕ) (writing : Writing) (next : WriteNext) (ol
 next_seeks head_drive steps writing (On stage) old = refl
 next_seeks head_drive steps writing (Ended ending) old = refl
 
-without_seeks : (needs : Bool) (old : Fdc) → (without_byte needs old).seeks ≡ old.seeks
+pub without_seeks : (needs : Bool) (old : Fdc) → (without_byte needs old).seeks ≡ old.seeks
 without_seeks true old = refl
 without_seeks false old = refl
 
@@ -136,7 +136,7 @@ sought_free old ended clear =
 
 -- ---- a command is executed
 
-is_in : (n : ℕ) → IsSizeCode n → (nat_le 1 n && nat_le n 6) ≡ true
+pub is_in : (n : ℕ) → IsSizeCode n → (nat_le 1 n && nat_le n 6) ≡ true
 is_in n (some, few) = and_from (nat_le 1 n) (nat_le n 6) (le-leb 1 n some) (le-leb n 6 few)
 
 module _ (head_drive : ℕ) (key : Chrn) (last_sector gap length_code : ℕ) (lines : Lines) (old new : Fdc) (sized : IsSizeCode key.n) (free : IsFree old) where

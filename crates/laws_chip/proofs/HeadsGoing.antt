@@ -221,11 +221,8 @@ untold_drained drive status cylinders chip few free untold =
 
 -- the cylinder number that is reported is where the heads went
 pub told_at : (drive target : ℕ) (cylinders : List ℕ) → drive ≤ 3 → length cylinders ≡ 4 → slice_index (slice_set cylinders drive target) drive ≡ target
-told_at zero target (a ∷ b ∷ c ∷ d ∷ []) few four = refl
-told_at (suc zero) target (a ∷ b ∷ c ∷ d ∷ []) few four = refl
-told_at (suc (suc zero)) target (a ∷ b ∷ c ∷ d ∷ []) few four = refl
-told_at (suc (suc (suc zero))) target (a ∷ b ∷ c ∷ d ∷ []) few four = refl
 told_at (suc (suc (suc (suc drive)))) target (a ∷ b ∷ c ∷ d ∷ []) few four = absurd (omega arith)
+told_at _ target (a ∷ b ∷ c ∷ d ∷ []) few four = refl
 told_at drive target _ few four = absurd (omega arith)
 
 pub stood_stands : (status cylinder : ℕ) (cylinders : List ℕ) (chip : ChipState) → is_held chip.front.adapter.controller ≡ false → HeadsStand (stood status cylinder cylinders chip).front

@@ -138,11 +138,8 @@ none_runs None has = refl
 none_runs (Some seek) has = by_end (has_ended seek.motion) refl
   where
     by_drive : (drive : ℕ) → is_some (slice_index_or none_pending drive None) ≡ true → ⊥
-    by_drive zero is = false≢true is
-    by_drive (suc zero) is = false≢true is
-    by_drive (suc (suc zero)) is = false≢true is
-    by_drive (suc (suc (suc zero))) is = false≢true is
     by_drive (suc (suc (suc (suc drive)))) is = false≢true is
+    by_drive _ is = false≢true is
 
     by_end : (b : Bool) → has_ended seek.motion ≡ b → b ≡ false
     by_end true over = absurd (by_drive seek.drive (has over))

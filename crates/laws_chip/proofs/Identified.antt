@@ -175,25 +175,12 @@ same_keeps : (place : Place) (old new : Front) → new ≡ old → ExecutesBehin
 same_keeps place old new is was = subst (KeepsId place old) (sym is)
     (record { executes = was; known = λ past unit known. known; turns = λ at. turns_as place (drive_at old.adapter place.bay) (drive_at old.adapter place.bay) refl })
 
-takes_keeps : (place : Place) (old : Front) (byte : Option ℕ) (new : Front) → TakesFront old byte new → ExecutesBehind old → KeepsId place old new
-takes_keeps place old byte new takes was =
-    let (stage, alike) = front_takes old byte new was.through takes in
-    let is = (subst (λ s. TakesAt s old byte new) was.through takes).1 in
-    record {
-      executes = takes_executes old byte new takes was;
-      known = known_as old.adapter.controller.phase new.adapter.controller.phase alike.phase;
-      turns = λ at. turns_as place (drive_at old.adapter place.bay) (drive_at new.adapter place.bay) (ap (λ (front : Front). drive_at front.adapter place.bay) is);
-    }
-
-gives_keeps : (place : Place) (byte : ℕ) (old : Front) (given : Bool) (new : Front) → GivesFront byte old given new → ExecutesBehind old → KeepsId place old new
-gives_keeps place byte old given new gives was =
-    let (stage, alike) = front_gives byte old given new was.through gives in
-    let is = (subst (λ s. GivesAt s byte old given new) was.through gives).1 in
-    record {
-      executes = gives_executes byte old given new gives was;
-      known = known_as old.adapter.controller.phase new.adapter.controller.phase alike.phase;
-      turns = λ at. turns_as place (drive_at old.adapter place.bay) (drive_at new.adapter place.bay) (ap (λ (front : Front). drive_at front.adapter place.bay) is);
-    }
+alike_keeps : (place : Place) (old new : Front) → ExecutesBehind new → new.adapter.controller.phase ≡ old.adapter.controller.phase → drive_at new.adapter place.bay ≡ drive_at old.adapter place.bay → KeepsId place old new
+alike_keeps place old new executes phase drive = record {
+  executes = executes;
+  known = known_as old.adapter.controller.phase new.adapter.controller.phase phase;
+  turns = λ at. turns_as place (drive_at old.adapter place.bay) (drive_at new.adapter place.bay) drive;
+}
 
 told_known : (phase : Phase) (past : Past) (unit : ℕ) → MayReadIdIn past unit phase → MayReadIdIn past unit (phase_told phase)
 told_known (Execute execution) past unit known = by_task execution.task known
@@ -221,8 +208,12 @@ port_keeps place port value old new writes no_data quiet was = record {
 
 makes_id : (b : Bool) (place : Place) (old new : Front) → (b ≡ true → TurnsOn (drive_at old.adapter place.bay) (drive_at new.adapter place.bay)) → Makes b old new → ExecutesBehind old → KeepsId place old new
 makes_id b place old new turns (makes.Same is) was = same_keeps place old new is was
-makes_id b place old new turns (makes.Takes byte takes) was = takes_keeps place old byte new takes was
-makes_id b place old new turns (makes.Gives byte given gives) was = gives_keeps place byte old given new gives was
+makes_id b place old new turns (makes.Takes byte takes) was =
+    alike_keeps place old new (takes_executes old byte new takes was) (front_takes old byte new was.through takes).1.phase
+    (ap (λ (front : Front). drive_at front.adapter place.bay) (subst (λ s. TakesAt s old byte new) was.through takes).1)
+makes_id b place old new turns (makes.Gives byte given gives) was =
+    alike_keeps place old new (gives_executes byte old given new gives was) (front_gives byte old given new was.through gives).1.phase
+    (ap (λ (front : Front). drive_at front.adapter place.bay) (subst (λ s. GivesAt s byte old given new) was.through gives).1)
 makes_id b place old new turns (makes.Counts is) was = counts_keep place old new is was
 makes_id b place old new turns (makes.Writes port value writes no_data quiet) was = port_keeps place port value old new writes no_data quiet was
 makes_id b place old new turns (makes.Changes changes keeps) was = record {

@@ -172,9 +172,6 @@ module _ (deleted : Bool) (past : Past) (sent : Sent) (mark : Option Bool) where
 
   write_task : (task : Task) (head_drive steps : ℕ) (asking : Bool) (fifo : Fifo) (polls : Fdc) (before after : DriveState) (new : Fdc) → WritesTask task head_drive steps asking fifo polls before after new
       → MayWriteTask past sent deleted head_drive steps task asking fifo → KnownOn (Write deleted) past sent mark (IsWriteAt polls.rate before after new) new
-  write_task (ReadId search) head_drive steps asking fifo polls before after new writes was = absurd was
-  write_task (ReadTask reading) head_drive steps asking fifo polls before after new writes was = absurd was
-  write_task (Format formatting) head_drive steps asking fifo polls before after new writes was = absurd was
   write_task (WriteTask writing) head_drive steps asking fifo polls before after new writes (asks, (handed, was)) = record {
     time = writes.step.does.time;
     is = (
@@ -187,6 +184,7 @@ module _ (deleted : Bool) (past : Past) (sent : Sent) (mark : Option Bool) where
     marks = tt;
     bad = tt;
   }
+  write_task _ head_drive steps asking fifo polls before after new writes was = absurd was
 
   write_in : (phase : Phase) (asking : Bool) (fifo : Fifo) (polls : Fdc) (before after : DriveState) (new : Fdc) → is_executing phase ≡ true → WritesIn phase asking fifo polls before after new
       → MayWriteIn past sent deleted phase asking fifo → KnownOn (Write deleted) past sent mark (IsWriteAt polls.rate before after new) new
@@ -367,6 +365,9 @@ pub record SameCommand (old new : Fdc) : Type 0 where
   pub fifo : new.fifo ≡ old.fifo
   pub seeks : new.seeks ≡ old.seeks
   pub non_dma : new.non_dma ≡ old.non_dma
+  pub command : new.command ≡ old.command
+  pub poll : new.poll_due ≡ old.poll_due
+  pub interrupt : new.interrupt ≡ old.interrupt
 
 same_known : (operation : Operation) (past : Past) (sent : Sent) (old new : Fdc) → SameCommand old new → MayMove operation past sent old → MayMove operation past sent new
 same_known (Read wanted skip) past sent old new same was =
@@ -383,26 +384,33 @@ pub record PortSets (port value : ℕ) (old new : Fdc) : Type 0 where
   pub set : Fdc
   pub same : SameCommand old set
   pub is : new ≡ (if resets port value then reset set else set)
+  pub free : resets port value ≡ false → is_held set ≡ true → is_held old ≡ true
 
-sets_all : (port value : ℕ) (anew : Bool) (old set new : Fdc) → SameCommand old set → resets port value ≡ anew → new ≡ (if anew then reset set else set) → PortSets port value old new
-sets_all port value anew old set new same resets is = record { set = set; same = same; is = is ∙ ap (λ b. if b then reset set else set) (sym resets) }
+sets_all : (port value : ℕ) (anew : Bool) (old set new : Fdc) → SameCommand old set → resets port value ≡ anew → new ≡ (if anew then reset set else set)
+    → (anew ≡ false → is_held set ≡ true → is_held old ≡ true) → PortSets port value old new
+sets_all port value anew old set new same resets is free =
+    record { set = set; same = same; is = is ∙ ap (λ b. if b then reset set else set) (sym resets); free = λ quiet. free (sym resets ∙ quiet) }
 
 pub port_sets : (port value : ℕ) (lines : Lines) (old new : Fdc) → Writes port value lines old new → (port == 0x3F5) ≡ false → PortSets port value old new
 port_sets port value lines old new writes no_byte = either_way (port == 0x3F2)
     (λ output.
     let anew = ap (λ b. if b then dor_resets value else (if port == 0x3F4 then dsr_resets value else false)) output in
-    sets_all port value (dor_resets value) old (record old { dor = record { 0 = value } }) new (record { phase = refl; asking = refl; fifo = refl; seeks = refl; non_dma = refl }) anew (writes.output (eqb-true port 0x3F2 output)))
+    sets_all port value (dor_resets value) old (record old { dor = record { 0 = value } }) new
+    (record { phase = refl; asking = refl; fifo = refl; seeks = refl; non_dma = refl; command = refl; poll = refl; interrupt = refl }) anew (writes.output (eqb-true port 0x3F2 output)) (λ quiet held. clash (dor_resets value) quiet held))
     (λ no_output.
     let other = ap (λ b. if b then dor_resets value else (if port == 0x3F4 then dsr_resets value else false)) no_output in
     either_way (port == 0x3F4)
     (λ select.
     let anew = other ∙ ap (λ b. if b then dsr_resets value else false) select in
-    sets_all port value (dsr_resets value) old (record old { rate = rate_chosen value }) new (record { phase = refl; asking = refl; fifo = refl; seeks = refl; non_dma = refl }) anew (writes.select (eqb-true port 0x3F4 select)))
+    sets_all port value (dsr_resets value) old (record old { rate = rate_chosen value }) new
+    (record { phase = refl; asking = refl; fifo = refl; seeks = refl; non_dma = refl; command = refl; poll = refl; interrupt = refl }) anew (writes.select (eqb-true port 0x3F4 select)) (λ quiet held. held))
     (λ no_select.
     let quiet = other ∙ ap (λ b. if b then dsr_resets value else false) no_select in
     either_way (port == 0x3F7)
-    (λ control. sets_all port value false old _ new (record { phase = refl; asking = refl; fifo = refl; seeks = refl; non_dma = refl }) quiet (writes.control (eqb-true port 0x3F7 control)))
-    (λ no_control. sets_all port value false old _ new (record { phase = refl; asking = refl; fifo = refl; seeks = refl; non_dma = refl }) quiet (writes.others no_output no_select no_byte no_control))))
+    (λ control. sets_all port value false old _ new
+    (record { phase = refl; asking = refl; fifo = refl; seeks = refl; non_dma = refl; command = refl; poll = refl; interrupt = refl }) quiet (writes.control (eqb-true port 0x3F7 control)) (λ quiet held. held))
+    (λ no_control. sets_all port value false old _ new
+    (record { phase = refl; asking = refl; fifo = refl; seeks = refl; non_dma = refl; command = refl; poll = refl; interrupt = refl }) quiet (writes.others no_output no_select no_byte no_control) (λ quiet held. held))))
 
 pub port_same : (port value : ℕ) (lines : Lines) (old new : Fdc) → Writes port value lines old new → (port == 0x3F5) ≡ false → resets port value ≡ false → SameCommand old new
 port_same port value lines old new writes no_byte no_reset =
@@ -412,8 +420,7 @@ port_same port value lines old new writes no_byte no_reset =
 -- a write of another port than the data port's that doesn't reset the controller
 pub port_on : (operation : Operation) (past : Past) (sent : Sent) (port value : ℕ) (lines : Lines) (old new : Fdc) → Writes port value lines old new → (port == 0x3F5) ≡ false
     → resets port value ≡ false → MayMove operation past sent old → MayMove operation past sent new
-port_on operation past sent port value lines old new writes no_byte no_reset was =
-    same_known operation past sent old new (port_same port value lines old new writes no_byte no_reset) was
+port_on operation past sent port value lines old new writes no_byte no_reset was = search (same_known, port_same)
 
 pub port_busy : (port value : ℕ) (lines : Lines) (old new : Fdc) → Writes port value lines old new → (port == 0x3F5) ≡ false → resets port value ≡ false
     → is_executing old.phase ≡ true → is_executing new.phase ≡ true

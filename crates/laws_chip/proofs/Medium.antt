@@ -355,7 +355,6 @@ module _ (place : Place) (first : Transfer) (wanted skip : Bool) (reads : first.
   take_hears : (stage : FrontStage) (byte : Option ℕ) (history : History) (old new : Front) → NowHeard stage place first history old → Hears place first history old → TakesAt stage old byte new
       → Hears place first (history_taken stage byte history) new
   take_hears Through byte history old new now was takes = absurd now
-  take_hears (Moving moving) None history old new now was (quiet, is) = same_front history old new is was
   take_hears (Moving moving) (Some byte) history old new (here, hearing) was (up, byte_is, is) =
       one_hears history moving (gave byte history.past) (taken_out old.adapter.controller) old new was.parts here
       (bytes_hearing place (here_of first history) history.past (history.past.given ++ byte ∷ []) history.past.taken history.past.counted (drive_at old.adapter place.bay) hearing) is
@@ -364,7 +363,6 @@ module _ (place : Place) (first : Transfer) (wanted skip : Bool) (reads : first.
   give_hears : (stage : FrontStage) (byte : ℕ) (given : Bool) (history : History) (old new : Front) → NowHeard stage place first history old → Hears place first history old → GivesAt stage byte old given new
       → Hears place first (history_given stage byte given history) new
   give_hears Through byte given history old new now was gives = absurd now
-  give_hears (Moving moving) byte false history old new now was (quiet, is) = same_front history old new is was
   give_hears (Moving moving) byte true history old new (here, hearing) was (up, is) =
       one_hears history moving (took byte history.past) (taken_in byte old.adapter.controller) old new was.parts here
       (bytes_hearing place (here_of first history) history.past history.past.given (history.past.taken ++ byte ∷ []) history.past.counted (drive_at old.adapter place.bay) hearing) is
@@ -449,8 +447,7 @@ module _ (place : Place) (first : Transfer) (wanted skip : Bool) (reads : first.
   call_hears (Takes byte) history grown old new does stays at at_then turns is was = subst (λ h. Hears place first h new) (sym is) (take_hears old.stage byte history old new was.now was does)
   call_hears (Gives byte given) history grown old new does stays at at_then turns is was = subst (λ h. Hears place first h new) (sym is) (give_hears old.stage byte given history old new was.now was does)
   call_hears Counts history grown old new does stays at at_then turns is was = subst (λ h. Hears place first h new) (sym is) (count_hears old.stage history old new was.now was does)
-  call_hears (Writes port value) history grown old new does stays at at_then turns is was =
-      subst (λ h. Hears place first h new) (sym is) (write_hears port value history old new was stays at_then does)
+  call_hears (Writes port value) history grown old new does stays at at_then turns is was = grind (arith, first, write_hears)
   call_hears Changes history grown old new does stays at at_then turns is was =
       subst (λ h. Hears place first h new) (sym is) (turn_hears old.stage history old new was.parts was.now does.stage at_then
       (λ moving here there. subst (λ stage. TurnsOnIn stage Changes (drive_at old.adapter place.bay) (drive_at new.adapter place.bay)) here turns))
@@ -521,8 +518,7 @@ module _ (place : Place) (first : Transfer) (wanted skip : Bool) (reads : first.
   nothing_heard Through begun is now at = absurd now
   nothing_heard (Seeking target counted) begun is (here, none) at =
       record { parts = tt; now = subst (λ stage. NowHeard stage place first (nothing_moved false) begun) (sym is) (here, refl) }
-  nothing_heard (Moving moving) begun is (here, counts, carries) at =
-      to_moving (nothing_moved false) moving begun is tt here (fresh_hearing place begun first new_past at refl)
+  nothing_heard (Moving moving) begun is (here, counts, carries) at = search (to_moving, fresh_hearing, first)
   nothing_heard (Telling results) begun is now at =
       to_telling (nothing_moved false) results begun is tt (heard_nothing place first new_past 0 new_past (sym (led_none new_past)) refl)
 

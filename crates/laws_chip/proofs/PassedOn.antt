@@ -169,8 +169,7 @@ one_passed made.Changes old new was does serving = record {
   makes = refl;
   within = single behind.Changes old.front new.front does.front serving.under_way;
 }
-one_passed (made.Straps on) old new was does serving = record { calls = []; makes = refl; within = ap (λ chip. chip.front) does }
-one_passed (made.StrapsSteps on) old new was does serving = record { calls = []; makes = refl; within = ap (λ chip. chip.front) does }
+one_passed _ old new was does serving = record { calls = []; makes = refl; within = ap (λ chip. chip.front) does }
 
 -- of the calls that a call comes to, only a device step counts as one
 only_steps : (b : Bool) (call : behind.Call) → lasting.steps_of call ≡ 0 → lasting.steps_in (only_if b call) ≡ 0

@@ -145,10 +145,7 @@ drains_fourth old front free = rw free refl
 
 drains : (old : ChipState) (front : Front) → is_held front.adapter.controller ≡ false → drained (taking_over 0 false old front) ≡ taking_over 4 true old front
 unfolding drained_by
-drains old front free =
-    ap (λ chip. drained_one (drained_one (drained_one chip))) (drains_first old front free)
-    ∙ (ap (λ chip. drained_one (drained_one chip)) (drains_second old front free)
-    ∙ (ap drained_one (drains_third old front free) ∙ drains_fourth old front free))
+drains old front free = search (drains_first, drains_second, drains_third, drains_fourth)
 
 -- the results of all drives are pending, and INT is up
 record ArePolled (new : ChipState) : Type 0 where

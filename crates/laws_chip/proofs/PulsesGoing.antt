@@ -124,11 +124,8 @@ sought_untold pace (suc (suc (suc (suc drive)))) few = absurd (omega arith)
 sought_untold pace _ few = refl
 
 set_four : (drive target : ℕ) (cylinders : List ℕ) → drive ≤ 3 → length cylinders ≡ 4 → length (slice_set cylinders drive target) ≡ 4
-set_four zero target (a ∷ b ∷ c ∷ d ∷ []) few four = refl
-set_four (suc zero) target (a ∷ b ∷ c ∷ d ∷ []) few four = refl
-set_four (suc (suc zero)) target (a ∷ b ∷ c ∷ d ∷ []) few four = refl
-set_four (suc (suc (suc zero))) target (a ∷ b ∷ c ∷ d ∷ []) few four = refl
 set_four (suc (suc (suc (suc drive)))) target (a ∷ b ∷ c ∷ d ∷ []) few four = absurd (omega arith)
+set_four _ target (a ∷ b ∷ c ∷ d ∷ []) few four = refl
 set_four drive target _ few four = absurd (omega arith)
 
 -- the seek of a single pulse has ended, and its result was taken over

@@ -7,8 +7,7 @@ use Rattle.std.proofs.lemmas.Nat.Bits.{and_pow, bit_at-lt, bit_at_xor}
 use Rattle.std.specs.Int.{bit_at}
 
 records_step : (last r next more now : ℕ) → (r + 1) % 256 ≡ next → (last + 256 - next) % 256 ≡ more → (last + 256 - r) % 256 ≡ now → more + 1 ≡ now → records_from last ((r + 1) % 256) + 1 ≡ records_from last r
-records_step last r next more now next_is more_is now_is one =
-    ap (λ n. records_from last n + 1) next_is ∙ (ap (λ n. n + 1 + 1) more_is ∙ (ap (λ n. n + 1) one ∙ sym (ap (λ n. n + 1) now_is)))
+records_step last r next more now next_is more_is now_is one = grind arith
 
 -- the record after FF is 00
 records_around : (last r : ℕ) → last < r → r < 256 → records_from last ((r + 1) % 256) + 1 ≡ records_from last r

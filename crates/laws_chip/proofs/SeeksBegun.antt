@@ -235,8 +235,7 @@ given_seeks unit None start new stands none polled range gives =
       pending = ap (λ (fdc : Fdc). fdc.seeks.pending) is ∙ none;
       four = range.seeks.cylinders;
     }
-given_seeks unit (Some target) start new stands none polled range gives =
-    given_seek 256 unit target start new stands none polled range gives (given_within unit target start new stands range gives)
+given_seeks unit (Some target) start new stands none polled range gives = search (given_seek, given_within)
 
 none_of : (pace : Option PacedSeek) → is_some pace ≡ false → pace ≡ None
 none_of None is = refl

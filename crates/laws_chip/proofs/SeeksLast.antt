@@ -106,8 +106,7 @@ attends_few false words n found old new needs moves obeys few = obeys_few words 
 
 attended_few : (words n : ℕ) (found : Option ChipOpcode) (old new : ChipState) → IsIdleAt old.front → IsInRange old.front.adapter.controller → heads_go old ≡ true → AttendsTo found old new → left_at words old ≤ n → left_at words new ≤ n
 attended_few words n None old new idle range goes is few = same_few words n old new (ap (λ (chip : ChipState). chip.pace) is) (ap (λ (chip : ChipState). chip.front.adapter.controller.seeks.seek) is) few
-attended_few words n (Some found) old new idle range goes attends few =
-    attends_few (needs_heads found) words n found (drained old) new refl (go_moving old idle range goes) attends (drained_few words n old idle few)
+attended_few words n (Some found) old new idle range goes attends few = grind (arith, attends_few, drained, go_moving, drained_few)
 
 collects_few : (b : Bool) (words n : ℕ) (found : Option ChipOpcode) (old new : ChipState) → IsIdleAt old.front → IsInRange old.front.adapter.controller → heads_go old ≡ true → CollectsIf b found old new → left_at words old ≤ n → left_at words new ≤ n
 collects_few true words n found old new idle range goes attends few = attended_few words n found (record old { count = 0 }) new idle range goes attends few

@@ -75,21 +75,17 @@ read_means : (past : Past) (sent : Sent) (fdc : Fdc) (ending : Ending) → IsSiz
 read_means past sent fdc ending sized was is = by_phase fdc.phase is (read_tells past sent fdc sized was)
   where
     by_phase : (phase : Phase) → ending_of_phase phase ≡ Some ending → ReadMeansIn past sent phase → Means (Read false false) past sent ending
-    by_phase Taking is tells = absurd (cc is)
-    by_phase (Execute execution) is tells = absurd (cc is)
-    by_phase (Result (Short next last)) is tells = absurd (cc is)
     by_phase (Result (Long other results read)) is tells = let same : other ≡ ending = cc is in subst (ReadMeans past sent) same tells.1
+    by_phase _ is tells = absurd (cc is)
 
 write_means : (deleted : Bool) (past : Past) (sent : Sent) (fdc : Fdc) (ending : Ending) → MayMove (Write deleted) past sent fdc → ending_told fdc ≡ Some ending → Means (Write deleted) past sent ending
 write_means deleted past sent fdc ending was is = by_phase fdc.phase is (write_tells past sent deleted fdc was)
   where
     by_phase : (phase : Phase) → ending_of_phase phase ≡ Some ending → WriteMeansIn past sent deleted phase → Means (Write deleted) past sent ending
-    by_phase Taking is tells = absurd (cc is)
-    by_phase (Execute execution) is tells = absurd (cc is)
-    by_phase (Result (Short next last)) is tells = absurd (cc is)
     by_phase (Result (Long other results read)) is tells =
         let same : other ≡ ending = cc is in
         subst (λ e. WriteMeans past sent deleted e (results_sent e sent)) same (subst (WriteMeans past sent deleted other) tells.results_are tells)
+    by_phase _ is tells = absurd (cc is)
 
 pub ended_means : (operation : Operation) (past : Past) (sent : Sent) (fdc : Fdc) (ending : Ending) → IsSizeCode sent.key.n → MayMove operation past sent fdc → ending_told fdc ≡ Some ending
     → Means operation past sent ending
@@ -111,17 +107,15 @@ pub still_busy : (operation : Operation) (past : Past) (sent : Sent) (fdc : Fdc)
 still_busy (Read wanted skip) past sent fdc was none = by_phase fdc.phase was none
   where
     by_phase : (phase : Phase) → MayReadIn past sent phase fdc.asking fdc.fifo.bytes → ending_of_phase phase ≡ None → is_executing phase ≡ true
-    by_phase Taking was none = absurd was
     by_phase (Execute execution) was none = refl
-    by_phase (Result (Short next last)) was none = absurd was
     by_phase (Result (Long ending results read)) was none = absurd (cc none)
+    by_phase _ was none = absurd was
 still_busy (Write deleted) past sent fdc was none = by_phase fdc.phase was none
   where
     by_phase : (phase : Phase) → MayWriteIn past sent deleted phase fdc.asking fdc.fifo → ending_of_phase phase ≡ None → is_executing phase ≡ true
-    by_phase Taking was none = absurd was
     by_phase (Execute execution) was none = refl
-    by_phase (Result (Short next last)) was none = absurd was
     by_phase (Result (Long ending results read)) was none = absurd (cc none)
+    by_phase _ was none = absurd was
 
 -- ---- a device step while a sector is moved
 

@@ -37,9 +37,7 @@ kind_of (Read wanted skip) past sent fdc was = by_phase fdc.phase was
   where
     by_task : (task : Task) (h s : ℕ) → MayReadTask past sent h s task fdc.asking fdc.fifo.bytes → IsKindTask task
     by_task (ReadTask reading) h s was = tt
-    by_task (WriteTask writing) h s was = tt
-    by_task (ReadId search) h s was = absurd was
-    by_task (Format formatting) h s was = absurd was
+    by_task _ h s was = absurd was
 
     by_phase : (phase : Phase) → MayReadIn past sent phase fdc.asking fdc.fifo.bytes → IsKind phase
     by_phase (Execute execution) was = by_task execution.task execution.head_drive execution.steps was
@@ -47,10 +45,8 @@ kind_of (Read wanted skip) past sent fdc was = by_phase fdc.phase was
 kind_of (Write deleted) past sent fdc was = by_phase fdc.phase was
   where
     by_task : (task : Task) (h s : ℕ) → MayWriteTask past sent deleted h s task fdc.asking fdc.fifo → IsKindTask task
-    by_task (ReadTask reading) h s was = tt
     by_task (WriteTask writing) h s was = tt
-    by_task (ReadId search) h s was = absurd was
-    by_task (Format formatting) h s was = absurd was
+    by_task _ h s was = absurd was
 
     by_phase : (phase : Phase) → MayWriteIn past sent deleted phase fdc.asking fdc.fifo → IsKind phase
     by_phase (Execute execution) was = by_task execution.task execution.head_drive execution.steps was

@@ -7,6 +7,7 @@ use Rattle.fdc_stages.specs.Searches as searched
 use Rattle.fdc_phases.specs.declared.phases.Task.TheVariants as task
 use Rattle.laws_chip.proofs.Known.{adapter_ends, at_drive, polled_by}
 use Rattle.laws_chip.proofs.FirstSectors.{IsBase}
+use Rattle.laws_chip.proofs.Free.{without_seeks}
 use Rattle.laws_chip.proofs.Rests.{adapter_base, through_step}
 use Rattle.laws_chip.proofs.Standing.{IsObeyed, Stands}
 
@@ -71,10 +72,6 @@ searched_singly head_drive steps (searched.Missed ending) old = ends_singly endi
 id_singly : (head_drive steps : ℕ) (search : Search) (index : Bool) (word : ℕ) (old new : Fdc) → StepsOn head_drive steps (task.ReadId search) index word old new → GoesSingly old new
 id_singly head_drive steps search index word old new (inl (last, is)) = singly_as old _ new (ends_singly Late head_drive no_key old old refl) is
 id_singly head_drive steps search index word old new (inr (few, (after, hears, is))) = singly_as old _ new (searched_singly head_drive (steps + 1) after old) is
-
-without_seeks : (needs : Bool) (old : Fdc) → (without_byte needs old).seeks ≡ old.seeks
-without_seeks true old = refl
-without_seeks false old = refl
 
 laid_singly : (head_drive steps : ℕ) (formatting : Formatting) (next : FormatNext) (old mid : Fdc) → mid.seeks ≡ old.seeks → GoesSingly old (after_laid head_drive steps formatting next mid)
 laid_singly head_drive steps formatting (laid.On stage) old mid same = record { seeks = same; now = inl refl }

@@ -35,7 +35,6 @@ takes_pass Through (Some byte) old new at ((up, byte_is, same), is) =
 takes_pass Through None old new at ((quiet, same), is) = Quiet (is ∙ ap (λ (fdc : Fdc). record old { adapter = with_controller fdc old.adapter }) same)
 takes_pass (Moving moving) (Some byte) old new at (up, byte_is, is) =
     OfSector moving (taken_out old.adapter.controller) at (record { phase = refl; seeks = refl; dor = refl; non_dma = refl; command = refl; poll = refl; rule = refl }) is
-takes_pass (Moving moving) None old new at (quiet, is) = Quiet is
 takes_pass _ byte old new at takes = Quiet takes.1
 
 pub gives_pass : (stage : FrontStage) (byte : ℕ) (was : Bool) (old new : Front) → old.stage ≡ stage → GivesAt stage byte old was new → BytePasses old new
@@ -45,7 +44,6 @@ gives_pass Through byte true old new at ((up, same), is) =
 gives_pass Through byte false old new at ((quiet, same), is) = Quiet (is ∙ ap (λ (fdc : Fdc). record old { adapter = with_controller fdc old.adapter }) same)
 gives_pass (Moving moving) byte true old new at (up, is) =
     OfSector moving (taken_in byte old.adapter.controller) at (record { phase = refl; seeks = refl; dor = refl; non_dma = refl; command = refl; poll = refl; rule = refl }) is
-gives_pass (Moving moving) byte false old new at (quiet, is) = Quiet is
 gives_pass _ byte was old new at (none, is) = Quiet is
 
 pub pass_under : (old new : Front) → BytePasses old new → is_under_way old.stage ≡ true → is_under_way new.stage ≡ true

@@ -54,8 +54,7 @@ sector_begins place at disk front is medium like =
 -- whatever bytes were moved
 pub sector_moves : (place : Place) (at : Transfer) (disk : Disk) (past : Past) (executes : Bool) (drive : DriveState) (given taken : List ℕ) (counted : Bool) → IsAtSector place at disk past executes drive
     → IsAtSector place at disk (record past { given = given; taken = taken; counted = counted }) executes drive
-sector_moves place at disk past executes drive given taken counted (from, since, was, began) =
-    (from, since, window_bytes (outset_on place at disk from since) past executes drive given taken counted was, began)
+sector_moves place at disk past executes drive given taken counted (from, since, was, began) = grind (arith, window_bytes)
 
 pub sector_told : (place : Place) (at : Transfer) (disk : Disk) (past : Past) (executes : Bool) (drive : DriveState) (b : Bool) → IsAtSector place at disk past executes drive
     → IsAtSector place at disk (told_in b past) executes drive
