@@ -1,6 +1,6 @@
 -- How many device steps are left of a command that is executed: each call leaves fewer, by the device step that it is.
-use Rattle.std.proofs.Common.{◌≡◌, ◌⊎◌, inl, inr, ℕ, ◌+◌, ◌-◌, ◌*◌, ◌<◌, ◌≤◌, Bool, true, false, not, ◌&&◌, ◌==◌, Option, Some, None, option_map, [], ◌∷◌, bit_and, if◌then◌else◌, refl, sym, ◌∙◌, ap, subst, arith}
-use Rattle.laws_chip.proofs.Common.{and_right, false≢true, Chrn, missing_mark, Results, Front, results_taken, StepsFront, is_under_way, ChipState, with_front, is_size, EndsAddress, EndsAddressIf, EndsAs, EndsAt, EndsData, EndsIndex, EndsSent, MayEnd, as_done, done_if, has_key, has_room, is_not_found, is_over, judged, looks_for_cylinder, results_judged, says_cut, verified, without_one, Follows, StepsChip, Place, Index, Address, Data, Busy, ChipTask, Track, has_command, Call, Does, IsServing, is_reset, is_step, steps_of, is_read_id, IsTracking, IsVerifying, ExecutesBehind, IsSound, ServesBehind, core_steps_left as steps_left}
+use Rattle.std.proofs.Common.{◌≡◌, ◌⊎◌, inl, inr, ℕ, ◌+◌, ◌-◌, ◌*◌, ◌<◌, ◌≤◌, Bool, true, false, ◌&&◌, ◌==◌, Option, Some, None, option_map, [], ◌∷◌, if◌then◌else◌, refl, sym, ◌∙◌, ap, subst, arith}
+use Rattle.laws_chip.proofs.Common.{and_right, false≢true, Chrn, Results, Front, results_taken, StepsFront, is_under_way, ChipState, with_front, EndsAs, EndsSent, MayEnd, as_done, done_if, has_key, has_room, is_not_found, judged, looks_for_cylinder, results_judged, says_cut, verified, Follows, StepsChip, Place, Index, Address, Data, Busy, ChipTask, Track, has_command, Call, Does, IsServing, is_reset, is_step, steps_of, is_read_id, IsVerifying, ExecutesBehind, IsSound, ServesBehind, core_steps_left as steps_left}
 use Rattle.laws_chip.specs.SectorCalls as behind
 use Rattle.laws_chip.proofs.Lasted.{Lasts, call_lasts, calls_last}
 use Rattle.fdc_chip.specs.declared.stage.ChipTask.TheVariants as task
@@ -65,18 +65,14 @@ looked_on now here steps n most some one few = omega arith
 one_step : 1 ≤ 1
 one_step = omega arith
 
--- READ ID looks which cylinder passes
-sought_left : (n : ℕ) (results : Results) (old new : ChipState) → ServesBehind old.front → ServedLeft n old → new.stage ≡ Busy (task.Sought results) → BusyLeft (n - 1) new
-sought_left n results old new serves was at =
+ended_left : (b : Bool) (n : ℕ) (results : Results) (old set new : ChipState) → ServesBehind old.front → ServedLeft n old → has_command new.stage ≡ true → EndsSent b results set new → BusyLeft (n - 1) new
+ended_left true n results old set new serves was works (gives, rest) =
     let phase = new.front.adapter.controller.phase in
     record {
       task = task.Sought results;
-      at = at;
+      at = (ap (λ (chip : ChipState). chip.stage) rest);
       left = record { few = looked_on (steps_left phase) was.here 1 n (left_most phase) (some_here was.here old.front serves was.lasts) one_step was.few };
     }
-
-ended_left : (b : Bool) (n : ℕ) (results : Results) (old set new : ChipState) → ServesBehind old.front → ServedLeft n old → has_command new.stage ≡ true → EndsSent b results set new → BusyLeft (n - 1) new
-ended_left true n results old set new serves was works (gives, rest) = sought_left n results old new serves was (ap (λ (chip : ChipState). chip.stage) rest)
 ended_left false n results old set new serves was works is = told_none new works (ap (λ (chip : ChipState). has_command chip.stage) is)
 
 -- the sequencer's calls leave fewer
@@ -226,8 +222,9 @@ step_left (task.Track track) n old new step sound still at left works = leaves_l
 none_one : (steps : ℕ) → steps ≡ 0 → steps ≤ 1
 none_one steps none = omega arith
 
-served_call : (call : Call) (n : ℕ) (old new : ChipState) → IsSound old → old.stage ≡ Busy task.Sent → ServedLeft n old → Does call old new → is_step call ≡ false → is_reset call ≡ false → BusyLeft (n - steps_of call) new
-served_call call n old new sound at was does other quiet =
+other_left : (call : Call) (what : ChipTask) (n : ℕ) (old new : ChipState) → IsSound old → IsSound new → old.stage ≡ Busy what → TaskLeft what n old → Does call old new → is_step call ≡ false → is_reset call ≡ false → KeepsTask (is_change call) what old new
+    → BusyLeft (n - steps_of call) new
+other_left call task.Sent n old new sound still at (inl was) does other quiet keeps =
     let before : IsServing old = record { sent = at; under_way = was.under } in
     let after = call_serving call old new before does other quiet in
     let passed = all_passed (call ∷ []) old new (new, does, after, refl) before in
@@ -238,10 +235,6 @@ served_call call n old new sound at was does other quiet =
       at = after.sent;
       left = inl (served_within n (steps_of call) old new (serves_of old sound at was.under) was (none_one (steps_of call) (none_of call other)) after.under_way within);
     }
-
-other_left : (call : Call) (what : ChipTask) (n : ℕ) (old new : ChipState) → IsSound old → IsSound new → old.stage ≡ Busy what → TaskLeft what n old → Does call old new → is_step call ≡ false → is_reset call ≡ false → KeepsTask (is_change call) what old new
-    → BusyLeft (n - steps_of call) new
-other_left call task.Sent n old new sound still at (inl was) does other quiet keeps = served_call call n old new sound at was does other quiet
 other_left call task.Sent n old new sound still at (inr was) does other quiet keeps =
     record { task = task.Sent; at = keeps.stage; left = inr (single_on call n old new sound at was does keeps.stage keeps.order) }
 other_left call (task.Sought first) n old new sound still at was does other quiet keeps =

@@ -1,6 +1,6 @@
 -- What the inner controller executes, through the channel, the terminal count, ports and media.
-use Rattle.std.proofs.Common.{◌≡◌, ◌⊎◌, inl, inr, ℕ, ◌-◌, Bool, true, false, ◌==◌, if◌then◌else◌, Option, Some, None, [], refl, sym, ◌∙◌, ap, subst}
-use Rattle.laws_chip.proofs.Common.{eqb-true, false≢true, seek_bits, phase_told, rate_chosen, Phase, Taking, Execute, Task, taken_in, taken_out, told_count, Writes, dor_resets, dsr_resets, resets, is_held, reset, IsCounted, Fdc, Lines, lines_at, Front, GivesAt, GivesFront, KeepsFront, TakesAt, TakesFront, WritesFront, count_told, passed_one, told_front, told_if, MovingSector, FrontStage, Through, Seeking, Moving, Telling, is_under_way, KeepsServing, ServesUnless, history_counted, history_given, history_taken, Place, Address, ChipTask, ExecutesBehind, IsBusyAt, IsBusyWith, ServesBehind, WaitsForHeads, executes_single, is_single, AdaptersGives as Gives, AdaptersTakes as Takes}
+use Rattle.std.proofs.Common.{◌≡◌, ◌⊎◌, inl, inr, ℕ, ◌-◌, Bool, true, false, ◌==◌, if◌then◌else◌, Option, [], refl, sym, ◌∙◌, ap, subst}
+use Rattle.laws_chip.proofs.Common.{false≢true, seek_bits, phase_told, Phase, Taking, Execute, Task, told_count, Writes, resets, is_held, reset, IsCounted, Fdc, Lines, lines_at, Front, GivesFront, KeepsFront, TakesAt, TakesFront, WritesFront, count_told, passed_one, told_front, told_if, MovingSector, FrontStage, Through, Seeking, Moving, Telling, is_under_way, KeepsServing, ServesUnless, history_counted, history_given, history_taken, Place, Address, ChipTask, ExecutesBehind, IsBusyAt, IsBusyWith, ServesBehind, WaitsForHeads, executes_single, is_single}
 use Rattle.fdc_phases.specs.declared.phases.Task.TheVariants as task
 use Rattle.laws_chip.proofs.Called.{media_serve}
 use Rattle.laws_chip.proofs.Served.{counts_serve, gives_serve, takes_serve, writes_serve}
@@ -9,7 +9,7 @@ use Rattle.laws_chip.proofs.FirstSectors.{IsBase}
 use Rattle.laws_chip.proofs.Known.{port_sets}
 use Rattle.laws_chip.proofs.ServedSteps.{TellsBehind}
 use Rattle.laws_chip.proofs.Singles.{WaitsBehind}
-use Rattle.laws_chip.proofs.UnderWay.{BytePasses, Own, OfSector, Quiet, clash, counts_under, either_way, gives_pass, pass_under, port_stage, takes_pass, writes_under}
+use Rattle.laws_chip.proofs.UnderWay.{BytePasses, Own, OfSector, Quiet, counts_under, gives_pass, pass_under, port_stage, takes_pass, writes_under}
 
 -- the results of what was executed are there
 abbrev pub IsOverBehind : Front → Type 0

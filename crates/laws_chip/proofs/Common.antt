@@ -95,7 +95,7 @@ pub use Rattle.fdc_registers.specs.Fifo.{Fifo, emptied, low_level, room_of, want
 pub use Rattle.fdc_registers.specs.St1.{missing_mark, overrun}
 pub use Rattle.fdc_registers.specs.declared.drive_lines.Dor.{Dor}
 pub use Rattle.fdc_sequencer.specs.AdapterSenses.{after_result, without_result}
-pub use Rattle.fdc_sequencer.specs.Adapters.{AdapterState, StepsAdapter, WritesAdapter, drive_at, lines_at, selected_at, Gives as AdaptersGives, Takes as AdaptersTakes}
+pub use Rattle.fdc_sequencer.specs.Adapters.{AdapterState, StepsAdapter, WritesAdapter, drive_at, lines_at, selected_at, Takes as AdaptersTakes}
 pub use Rattle.fdc_sequencer.specs.Fronts.{BeginsSector, Commands, CommandsIf, Front, GivesAt, GivesCommand, GivesFront, GivesMoving, GivesTransfer, KeepsFront, ReadsSector, SeeksFirst, Starts, StartsIf, TakesAt, TakesFront, TakesMoving, WritesFront, asks_at, asks_outside, begun_if, count_told, count_told as front_told, interrupts_at, interrupts_outside, is_ready, is_ready as is_ready_behind, is_ready_at, is_through, moving_of, passed_one, results_at, results_outside, results_taken, sector_alone, seeking_bit, status_at, taken_at, told_front, told_if, value_outside, with_controller, TransfersIf as FrontTransfersIf, reset_if as front_reset_if}
 pub use Rattle.fdc_sequencer.specs.Moves.{EndsIf, EndsSector, FollowsStep, MovesOn, SeeksOn, StepsFront, goes_on, has_failed_other, has_met_other, is_bad_other, is_unwanted, judged_if, passed_over_if, results_behind, results_failed, would_go_on, judged as front_judged}
 pub use Rattle.fdc_sequencer.specs.Senses.{pending_outside, recalibrated_at, recalibrated_outside, sensed_at, sensed_outside}
@@ -124,7 +124,7 @@ pub use Rattle.laws_chip.specs.Beginning.{BeginsBehind, BeginsUnless, Completes,
 pub use Rattle.laws_chip.specs.Bounds.{AreSeeking, AreUses, AreWithoutReset, AreWorking, EndsAmong, HasRanges, HeadsGoOn, HeadsMove, IsGiven, IsUsed, IsWorking, StaysHeld, WaitsFor, has_command, heads_go, heads_of, heads_steps, is_executed, most_steps_of, sectors_of, seek_steps, wait_at, wait_of}
 pub use Rattle.laws_chip.specs.Calls.{AreMade, ArePassedOn, AreServed, Call, Does, IsPassedOn, IsServing, Makes, MakesRead, MakesWrite, WritesByte, is_data_access, is_reset, is_step, only_if, steps_in, steps_of}
 pub use Rattle.laws_chip.specs.Identifying.{IsIdBegun, StaysUnder, TurnsOnBy, is_read_id}
-pub use Rattle.laws_chip.specs.Lasting.{AreAt, AreTracked, AreVerified, IsTracking, IsVerifying, most_track_steps}
+pub use Rattle.laws_chip.specs.Lasting.{AreAt, AreTracked, AreVerified, IsVerifying, most_track_steps}
 pub use Rattle.laws_chip.specs.Media.{AreOnMedium, BeginsOnTrack, HasMarkOnTrack, HasOnTrack, IsAt, IsAtWhile, IsClean, IsOnMedium, IsReadFrom, StaysIn, TurnsOn, TurnsOnIn, track_under, Place as MediumPlace}
 pub use Rattle.laws_chip.specs.Outcomes.{EndsSo, HasField, IsFailure, IsFieldWith, IsJudged, IsMovedBut, PassedWhole, PassesOfSector, ResultsSay, StopsBehind, TellsOther}
 pub use Rattle.laws_chip.specs.PacedSeeks.{GoesBehind, HeadsPaced, StandsBehind, completes, most_left, most_paced, pulses_left, pulses_to}

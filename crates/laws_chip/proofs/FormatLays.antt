@@ -1,6 +1,6 @@
 -- FORMAT TRACK over a medium at speed: the sector IDs that were given are laid.
 use Rattle.std.proofs.Common.{◌≡◌, inl, inr, ℕ, zero, suc, ◌+◌, ◌%◌, ◌≤◌, Bool, true, false, not, ◌&&◌, ◌==◌, if◌then◌else◌, Option, Some, None, List, [], ◌∷◌, ◌++◌, length, refl, sym, ◌∙◌, ap, subst, arith, length-append, append-nil, append_assoc}
-use Rattle.laws_chip.proofs.Common.{and_parts, eqb-true, false≢true, IsDisk, DriveState, is_protected, rate_of, Dor, Fifo, emptied, with_polls, IsAtPart, Numbers, is_first, is_next, Past, new_past, heard, kept_out, wrote, FormatNext, IsFormattingTrack, task_asks, stepped, told_in, head_of, is_reading, rate_fits, IsFormattingOn, MayFormatIn, MayFormatTask, took, Phase, Taking, Execute, Result, Task, DataRate, Formatting, BeginsData, taken_in, to_memory_of, told_count, Outset, IsTurningIn, IsAtDrive, FormatDoes, after_laid, is_executing, asks, is_gated, is_held, polled, IsHeardTime, IsTime, KeptOut, Saw, Stopped, WordTime, Wrote, after_time, WritesIn, WritesTask, MayFormat, Fdc, in_formats, told_formats, format_tells, lays_track, drive_less, kept_on, saw_on, still_unprotected, stopped_on, wrote_on, AdapterState, StepsAdapter, drive_at, selected_at, Front, GivesAt, GivesFront, TakesAt, TakesFront, told_front, told_if, with_controller, GivesCommand, StepsFront, Through, ChipState, passes_by_channel, passes_by_port, with_front, FormatsIf, Obeys, is_size, with_keys, with_last, GivesChipIf, GivesIf, ReadsAt, ReadsIf, TakesByte, TakesIf, StepsChip, Busy, passed_in, IsFreeBehind, Call, Does, AreAt, ExecutesBehind, IsSound, executes_single, SentTask as Sent, CommandFormatTrack as FormatTrack}
+use Rattle.laws_chip.proofs.Common.{and_parts, eqb-true, false≢true, IsDisk, DriveState, is_protected, rate_of, Dor, Fifo, emptied, IsAtPart, Numbers, is_first, is_next, Past, new_past, heard, kept_out, wrote, FormatNext, stepped, told_in, head_of, is_reading, rate_fits, IsFormattingOn, MayFormatIn, MayFormatTask, took, Phase, Taking, Execute, Result, Task, DataRate, Formatting, BeginsData, taken_in, to_memory_of, told_count, Outset, IsTurningIn, IsAtDrive, FormatDoes, after_laid, is_executing, asks, is_gated, polled, IsHeardTime, IsTime, KeptOut, Saw, Stopped, WordTime, Wrote, after_time, WritesIn, WritesTask, MayFormat, Fdc, in_formats, told_formats, format_tells, lays_track, drive_less, kept_on, saw_on, still_unprotected, stopped_on, wrote_on, AdapterState, StepsAdapter, drive_at, selected_at, Front, GivesAt, GivesFront, TakesAt, TakesFront, told_front, told_if, with_controller, GivesCommand, StepsFront, Through, ChipState, passes_by_channel, passes_by_port, with_front, FormatsIf, Obeys, is_size, with_keys, with_last, GivesChipIf, GivesIf, ReadsAt, ReadsIf, TakesByte, TakesIf, StepsChip, Busy, passed_in, IsFreeBehind, Call, Does, AreAt, ExecutesBehind, IsSound, executes_single, SentTask as Sent, CommandFormatTrack as FormatTrack}
 use Rattle.fdc_stages.specs.declared.formatting.FormatNext.TheVariants as next
 use Rattle.fdc_stages.specs.declared.formatting.FormatPart.{FormatPart}
 use Rattle.fdc_stages.specs.declared.formatting.FormatPart.TheVariants.{Await, Due, Lay, Barred}

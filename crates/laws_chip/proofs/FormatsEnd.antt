@@ -1,6 +1,6 @@
 -- A FORMAT TRACK of the inner controller goes on through device steps, and never reports a sector that isn't found.
 use Rattle.std.proofs.Common.{◌≡◌, inl, inr, ℕ, ◌+◌, Bool, true, false, Option, refl, sym, ap, subst}
-use Rattle.laws_chip.proofs.Common.{false≢true, Chrn, DriveState, Fifo, emptied, Ending, NoSector, Late, FormatNext, EndsWell, FailsWell, Numbers, IsFormattingTrack, phase_told, Long, Phase, Execute, Result, Task, Formatting, FormatDoes, after_laid, finished, polled, FormatsNowhere, StepsNowhere, TaskStepsNowhere, WordTime, Wrote, Stopped, WritesIn, WritesTask, Stops, without_byte, Fdc, AdapterState, StepsAdapter, selected_at, Front, StepsFront, Through, is_not_found, phases_no_key as no_key}
+use Rattle.laws_chip.proofs.Common.{false≢true, Chrn, DriveState, Fifo, emptied, Ending, NoSector, Late, FormatNext, EndsWell, FailsWell, Numbers, IsFormattingTrack, phase_told, Long, Phase, Execute, Result, Task, Formatting, FormatDoes, after_laid, finished, polled, FormatsNowhere, StepsNowhere, TaskStepsNowhere, WordTime, Wrote, Stopped, WritesIn, WritesTask, Stops, without_byte, Fdc, AdapterState, StepsAdapter, Front, StepsFront, Through, is_not_found, phases_no_key as no_key}
 use Rattle.fdc_stages.specs.declared.formatting.FormatNext.TheVariants as laid
 use Rattle.fdc_phases.specs.declared.phases.Task.TheVariants as task
 use Rattle.laws_chip.proofs.Known.{at_drive}

@@ -1,6 +1,6 @@
 -- Seeks that give a pulse in each device step: they go on, and end by INT.
-use Rattle.std.proofs.Common.{◌≡◌, ◌⊎◌, inl, inr, ℕ, zero, suc, ◌+◌, ◌-◌, ◌≤◌, nat_lt, Bool, true, false, not, ◌&&◌, ◌||◌, ◌==◌, if◌then◌else◌, Option, Some, None, List, [], ◌∷◌, length, slice_index, slice_set, unwrap_or, refl, sym, ◌∙◌, ap, subst, arith}
-use Rattle.laws_chip.proofs.Common.{option_map_or, and_from, or_parts, or_right, nat_tests, DriveState, Dor, ended, has_ended, is_seeking, neighbour, recalibrated, sought, stepped_seek, with_motion, with_polls, Motion, Outward, Toward, Ended, DriveSeek, Taking, is_gated, is_held, Rests, polled, seek_stepped, Fdc, AdapterState, StepsAdapter, lines_at, selected_at, Front, interrupts_at, interrupts_outside, StepsFront, Through, ChipState, interrupts_chip, with_front, drained, drained_one, is_told, moves_heads, Interrupting, with_result, StepsChip, PacedSeek, ChipStage, Ready, EndsBySignal, GoesTo, HeadsGo, HeadsStand, SeeksBehind, status_at_end, steps_left, IsSound, Seeks as Seeking, commands_stepped as stepped}
+use Rattle.std.proofs.Common.{◌≡◌, ◌⊎◌, inl, inr, ℕ, suc, ◌+◌, ◌-◌, ◌≤◌, nat_lt, Bool, true, false, not, ◌&&◌, ◌||◌, ◌==◌, if◌then◌else◌, Option, Some, None, List, [], ◌∷◌, length, slice_index, slice_set, unwrap_or, refl, sym, ◌∙◌, ap, subst, arith}
+use Rattle.laws_chip.proofs.Common.{option_map_or, and_from, or_right, nat_tests, DriveState, Dor, ended, has_ended, is_seeking, neighbour, recalibrated, sought, stepped_seek, with_motion, with_polls, Motion, Outward, Toward, Ended, DriveSeek, Taking, is_gated, is_held, Rests, polled, seek_stepped, Fdc, AdapterState, StepsAdapter, lines_at, selected_at, Front, interrupts_at, interrupts_outside, StepsFront, Through, ChipState, interrupts_chip, with_front, drained, drained_one, is_told, moves_heads, Interrupting, with_result, StepsChip, PacedSeek, ChipStage, Ready, EndsBySignal, GoesTo, HeadsGo, HeadsStand, SeeksBehind, status_at_end, steps_left, IsSound, Seeks as Seeking, commands_stepped as stepped}
 use Rattle.std.specs.Prelude.{bit_and}
 use Rattle.fdc_registers.specs.St0.{seek_end}
 use Rattle.fdc_core.specs.Drives.Lines.{absent_lines, lines_of_drive, lines_of_selected}

@@ -44,13 +44,6 @@ same_kept old set new set_is is =
     rest_kept old set new set_is (is ∙ ap (λ f. with_front f set) (sym (ap (λ (chip : ChipState). chip.front) is))) (ap (λ f. f.stage) front)
     (same_left old.front.adapter.controller new.front.adapter.controller (ap (λ f. f.adapter.controller) front))
 
-port_kept : (port value : ℕ) (old new : ChipState) → WritesChip port value old new → (port == 0x3F5) ≡ false → resets port (value_behind port value) ≡ false → KeepsHeads old new
-port_kept port value old new writes no_data quiet =
-    let given = value_behind port value in
-    let set = latched_by port value old in
-    let (front, rest) = writes.others no_data in
-    rest_kept old set new refl (subst (λ b. new ≡ with_front new.front (reset_if b set)) quiet rest) (port_stage port given old.front new.front front no_data quiet) (front_left port given old.front new.front front no_data quiet)
-
 no_bytes_at : (stage : ChipStage) → is_busy stage ≡ false → passes_at stage ≡ false
 no_bytes_at (Busy task) idle = absurd (false≢true (sym idle))
 no_bytes_at _ idle = refl
@@ -74,7 +67,11 @@ call_idle (made.Takes byte) old new idle does no_step quiet other = same_kept ol
 call_idle (made.Gives byte given) old new idle does no_step quiet other = same_kept old old new refl (subst (λ b. GivesChipIf b byte old given new) (no_channel old idle) does).1
 call_idle made.Counts old new idle does no_step quiet other = same_kept old old new refl (does ∙ not_counted old.stage old idle)
 call_idle (made.Reads port value) old new idle does no_step quiet other = same_kept old old new refl (other_read port value old new other does)
-call_idle (made.Writes port value) old new idle does no_step quiet other = port_kept port value old new does other quiet
+call_idle (made.Writes port value) old new idle does no_step quiet other =
+    let given = value_behind port value in
+    let set = latched_by port value old in
+    let (front, rest) = does.others other in
+    rest_kept old set new refl (subst (λ b. new ≡ with_front new.front (reset_if b set)) quiet rest) (port_stage port given old.front new.front front other quiet) (front_left port given old.front new.front front other quiet)
 call_idle made.Changes old new idle does no_step quiet other =
     rest_kept old old new refl does.rest does.front.stage (same_left old.front.adapter.controller new.front.adapter.controller does.front.controller)
 call_idle (made.Straps on) old new idle does no_step quiet other = same_kept old (record old { strapped = on }) new refl does

@@ -1,7 +1,7 @@
 -- A seek that has ended has its result in the inner controller, until the result is taken over. The heads that move
 -- come nearer with each device step.
-use Rattle.std.proofs.Common.{◌≡◌, ℕ, zero, suc, ◌+◌, ◌-◌, ◌<◌, ◌≤◌, nat_lt, Bool, true, false, not, ◌&&◌, ◌||◌, ◌==◌, if◌then◌else◌, Option, Some, None, is_some, option_map, List, [], length, slice_index, slice_index_or, slice_set, refl, sym, ◌∙◌, ap, subst, arith}
-use Rattle.laws_chip.proofs.Common.{option_map_or, and_right, eqb-false, false≢true, or_parts, nat_tests, get_or-set_other, get_or-set_same, length-set, after_sense, ended, first_pending, has_ended, has_ended_seek, neighbour, recalibrated, released, sensed, sought, stepped_seek, with_motion, with_polls, Motion, Outward, Toward, Ended, DriveSeek, is_held, polled, seek_stepped, Fdc, lines_at, after_result, without_result, Front, with_controller, StepsFront, pending_outside, sensed_at, sensed_outside, ChipState, with_front, drained, drained_one, IsOfFour, seek_steps, steps_left, RestsBehind, Seeks as Seeking, commands_stepped as stepped}
+use Rattle.std.proofs.Common.{◌≡◌, ℕ, suc, ◌+◌, ◌-◌, ◌<◌, ◌≤◌, nat_lt, Bool, true, false, ◌&&◌, ◌||◌, ◌==◌, if◌then◌else◌, Option, Some, None, is_some, option_map, List, [], length, slice_index, slice_index_or, slice_set, refl, sym, ◌∙◌, ap, subst, arith}
+use Rattle.laws_chip.proofs.Common.{option_map_or, and_right, eqb-false, false≢true, nat_tests, get_or-set_other, get_or-set_same, length-set, after_sense, ended, first_pending, has_ended, has_ended_seek, neighbour, recalibrated, released, sensed, sought, stepped_seek, with_motion, with_polls, Motion, Outward, Toward, Ended, DriveSeek, polled, seek_stepped, Fdc, lines_at, after_result, without_result, Front, with_controller, StepsFront, pending_outside, sensed_at, sensed_outside, ChipState, with_front, drained, drained_one, IsOfFour, seek_steps, steps_left, RestsBehind, Seeks as Seeking, commands_stepped as stepped}
 use Rattle.fdc_commands.specs.Seeking.{status_of, without_result as without_one}
 use Rattle.fdc_chip.specs.Doing.{drained_by}
 use Rattle.laws_chip.proofs.HeadsGoing.{neighbour_left, none_pending, rests_by_line}

@@ -1,6 +1,6 @@
 -- A held command waits for heads, whatever seek they make: each device step leaves fewer, and other calls leave as many.
-use Rattle.std.proofs.Common.{◌≡◌, ◌⊎◌, inl, inr, ℕ, ◌+◌, ◌-◌, ◌*◌, ◌≤◌, max, Bool, true, false, ◌||◌, Option, Some, None, is_some, [], length, refl, sym, ◌∙◌, ap, subst, arith}
-use Rattle.laws_chip.proofs.Common.{and_from, has_ended_seek, DriveSeek, IsInRange, Fdc, ChipState, with_front, code_of, AttendsIf, drained, implies, is_moving, moves_heads, needs_heads, GoesOnIf, Paces, PulsesIf, is_due, step_words, StepsChip, ChipOpcode, Order, PacedSeek, Settings, Held, IsDoneFree, IsHeldFor, HeadsMove, heads_of, heads_steps, seek_steps, Call, Does, is_reset, is_step, pulses_left, is_of_data_port, IsSound, RestsBehind, waits_for_heads, EndsPace as EndsAt, is_over_pace as is_over, Seeks as Seeking}
+use Rattle.std.proofs.Common.{◌≡◌, ◌⊎◌, inl, inr, ℕ, ◌+◌, ◌-◌, ◌*◌, ◌≤◌, Bool, true, false, ◌||◌, Option, Some, None, is_some, [], length, refl, sym, ◌∙◌, ap, subst, arith}
+use Rattle.laws_chip.proofs.Common.{and_from, has_ended_seek, DriveSeek, IsInRange, Fdc, ChipState, with_front, code_of, AttendsIf, drained, implies, is_moving, moves_heads, needs_heads, GoesOnIf, Paces, PulsesIf, is_due, step_words, StepsChip, ChipOpcode, Order, PacedSeek, Settings, Held, IsDoneFree, IsHeldFor, HeadsMove, heads_of, heads_steps, seek_steps, Call, Does, is_reset, is_step, is_of_data_port, IsSound, RestsBehind, waits_for_heads, EndsPace as EndsAt, is_over_pace as is_over, Seeks as Seeking}
 use Rattle.laws_chip.proofs.HeadsLeft.{IsFewLater, IsPaced, drained_settings, moves_some, paces_on}
 use Rattle.laws_chip.proofs.HeadsTold.{drained_left, drained_runs, drained_same, runs_tells}
 use Rattle.laws_chip.proofs.Rests.{drained_rests}
@@ -33,15 +33,12 @@ heads_are old new keeps =
     ∙ (ap (λ (p : Option PacedSeek). heads_steps (step_words old.settings) p new.front.adapter.controller.seeks.seek) keeps.pace
     ∙ ap (λ (s : Seeking). heads_steps (step_words old.settings) old.pace s.seek) keeps.left.seeks)
 
-keeps_move : (left : ℕ) (old new : ChipState) → KeepsHeads old new → HeadsMove left old → HeadsMove left new
-keeps_move left old new keeps was = record {
-  runs = ap has_ended_seek keeps.left.seeks ∙ was.runs;
-  some = subst (λ n. 1 ≤ n) (sym (heads_are old new keeps)) was.some;
-  within = subst (λ n. n ≤ left) (sym (heads_are old new keeps)) was.within;
-}
-
 pub move_call : (left : ℕ) (call : Call) (old new : ChipState) → old.stage ≡ Held → Does call old new → is_step call ≡ false → is_reset call ≡ false → is_of_data_port call ≡ false → HeadsMove left old → HeadsMove left new
-move_call left call old new at does no_step quiet other was = keeps_move left old new (call_heads call old new (ap waits_for_heads at) does no_step quiet other) was
+move_call left call old new at does no_step quiet other was = record {
+  runs = ap has_ended_seek (call_heads call old new (ap waits_for_heads at) does no_step quiet other).left.seeks ∙ was.runs;
+  some = subst (λ n. 1 ≤ n) (sym (heads_are old new (call_heads call old new (ap waits_for_heads at) does no_step quiet other))) was.some;
+  within = subst (λ n. n ≤ left) (sym (heads_are old new (call_heads call old new (ap waits_for_heads at) does no_step quiet other))) was.within;
+}
 
 -- ---- pulses leave the settings
 

@@ -1,6 +1,6 @@
 -- READ ID over a medium that stays in: what it heard, and the sector ID that it reports.
 use Rattle.std.proofs.Common.{◌≡◌, ◌⊎◌, inl, inr, ℕ, zero, suc, ◌+◌, ◌*◌, ◌<◌, ◌≤◌, Bool, true, false, not, ◌&&◌, ◌||◌, ◌==◌, Option, Some, List, [], ◌∷◌, bit_and, refl, sym, ◌∙◌, ap, subst, arith}
-use Rattle.laws_chip.proofs.Common.{agree_below_at, false≢true, eqb-true, Chrn, IsAddressAt, IsDisk, Becomes, DriveState, at_index, Results, HasAddress, HasIdentified, Past, new_past, heard, Ending, Done, NoMark, NoSector, Late, results_of, IsReadingId, phase_told, MayReadIdIn, MayReadIdTask, key_met, stepped, head_of, is_listening, Long, Phase, Execute, Result, Task, DataRate, BeginsData, Works, SeesTask, SeesUnder, SeesWord, after_step, is_executing, resets, MovesIn, MovesTask, let_pass, polled, Fdc, IsHeardFrom, address_heard, address_late, turn_heard, AdapterState, StepsAdapter, drive_at, selected_at, Front, GivesAt, GivesCommand, GivesFront, TakesAt, TakesFront, WritesFront, count_told, results_outside, results_taken, told_front, told_if, StepsFront, Read, Transfer, IsAt, TurnsOn, ChipState, with_front, code_of, Obeys, identifying, is_format, EndsAs, EndsSent, MayEnd, is_not_found, looks_for_cylinder, told_results, Follows, StepsChip, ChipOpcode, Order, ChipStage, Busy, IsFreeBehind, Call, Does, is_step, IsIdBegun, StaysUnder, TurnsOnBy, is_read_id, AreAt, ExecutesBehind, IsSound, executes_single, Tells, has_command, ChipTelling as Telling, SentTask as Sent, CommandReadId as ReadId, MediumPlace as Place}
+use Rattle.laws_chip.proofs.Common.{agree_below_at, false≢true, eqb-true, Chrn, IsAddressAt, IsDisk, Becomes, DriveState, at_index, Results, HasAddress, HasIdentified, Past, new_past, heard, Ending, Done, NoMark, NoSector, Late, results_of, phase_told, MayReadIdIn, MayReadIdTask, key_met, stepped, head_of, is_listening, Long, Phase, Execute, Result, Task, DataRate, BeginsData, Works, SeesTask, SeesUnder, SeesWord, after_step, is_executing, resets, MovesIn, MovesTask, let_pass, polled, Fdc, IsHeardFrom, address_heard, address_late, turn_heard, AdapterState, StepsAdapter, drive_at, selected_at, Front, GivesAt, GivesCommand, TakesAt, WritesFront, count_told, results_outside, results_taken, told_front, told_if, StepsFront, Read, Transfer, IsAt, TurnsOn, ChipState, with_front, code_of, Obeys, identifying, is_format, EndsAs, EndsSent, MayEnd, is_not_found, looks_for_cylinder, told_results, Follows, StepsChip, ChipOpcode, Order, ChipStage, Busy, IsFreeBehind, Call, Does, is_step, IsIdBegun, StaysUnder, TurnsOnBy, is_read_id, AreAt, ExecutesBehind, IsSound, executes_single, Tells, has_command, ChipTelling as Telling, SentTask as Sent, CommandReadId as ReadId, MediumPlace as Place}
 use Rattle.fdc_phases.specs.declared.phases.Task.TheVariants as phase_task
 use Rattle.laws_chip.specs.Media.{track_at}
 use Rattle.laws_chip.proofs.LateHearing.{hearing_led}
@@ -190,22 +190,6 @@ told_known (Execute execution) past unit known = by_task execution.task known
     by_task _ known = absurd known
 told_known _ past unit known = known
 
-counts_keep : (place : Place) (old new : Front) → new ≡ told_front old → ExecutesBehind old → KeepsId place old new
-counts_keep place old new is was =
-    let at : new ≡ record old { adapter = told_if true old.adapter } = subst (λ stage. new ≡ count_told stage old) was.through is in
-    record {
-      executes = counts_executes old new is was;
-      known = λ past unit known. subst (λ (front : Front). MayReadIdIn past unit front.adapter.controller.phase) (sym at) (told_known old.adapter.controller.phase past unit known);
-      turns = λ there. turns_as place (drive_at old.adapter place.bay) (drive_at new.adapter place.bay) (ap (λ (front : Front). drive_at front.adapter place.bay) at);
-    }
-
-port_keeps : (place : Place) (port value : ℕ) (old new : Front) → WritesFront port value old new → (port == 0x3F5) ≡ false → resets port value ≡ false → ExecutesBehind old → KeepsId place old new
-port_keeps place port value old new writes no_data quiet was = record {
-  executes = port_executes port value old new writes no_data quiet was;
-  known = known_as old.adapter.controller.phase new.adapter.controller.phase (front_left port value old new writes no_data quiet).phase;
-  turns = λ at. adapter_turns place (id_at 0) false false refl port value place.bay old.adapter new.adapter (writes.others no_data).0 at.motor;
-}
-
 makes_id : (b : Bool) (place : Place) (old new : Front) → (b ≡ true → TurnsOn (drive_at old.adapter place.bay) (drive_at new.adapter place.bay)) → Makes b old new → ExecutesBehind old → KeepsId place old new
 makes_id b place old new turns (makes.Same is) was = same_keeps place old new is was
 makes_id b place old new turns (makes.Takes byte takes) was =
@@ -214,8 +198,18 @@ makes_id b place old new turns (makes.Takes byte takes) was =
 makes_id b place old new turns (makes.Gives byte given gives) was =
     alike_keeps place old new (gives_executes byte old given new gives was) (front_gives byte old given new was.through gives).1.phase
     (ap (λ (front : Front). drive_at front.adapter place.bay) (subst (λ s. GivesAt s byte old given new) was.through gives).1)
-makes_id b place old new turns (makes.Counts is) was = counts_keep place old new is was
-makes_id b place old new turns (makes.Writes port value writes no_data quiet) was = port_keeps place port value old new writes no_data quiet was
+makes_id b place old new turns (makes.Counts is) was =
+    let at : new ≡ record old { adapter = told_if true old.adapter } = subst (λ stage. new ≡ count_told stage old) was.through is in
+    record {
+      executes = counts_executes old new is was;
+      known = λ past unit known. subst (λ (front : Front). MayReadIdIn past unit front.adapter.controller.phase) (sym at) (told_known old.adapter.controller.phase past unit known);
+      turns = λ there. turns_as place (drive_at old.adapter place.bay) (drive_at new.adapter place.bay) (ap (λ (front : Front). drive_at front.adapter place.bay) at);
+    }
+makes_id b place old new turns (makes.Writes port value writes no_data quiet) was = record {
+  executes = port_executes port value old new writes no_data quiet was;
+  known = known_as old.adapter.controller.phase new.adapter.controller.phase (front_left port value old new writes no_data quiet).phase;
+  turns = λ at. adapter_turns place (id_at 0) false false refl port value place.bay old.adapter new.adapter (writes.others no_data).0 at.motor;
+}
 makes_id b place old new turns (makes.Changes changes keeps) was = record {
   executes = keeps_executes old new keeps was;
   known = known_as old.adapter.controller.phase new.adapter.controller.phase (ap (λ (fdc : Fdc). fdc.phase) keeps.controller);

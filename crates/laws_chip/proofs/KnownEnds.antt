@@ -1,6 +1,6 @@
 -- In a chip that isn't busy, a seek that has ended has its result in the inner controller: through all calls.
 use Rattle.std.proofs.Common.{◌≡◌, inl, inr, ℕ, zero, suc, ◌%◌, ◌<◌, Bool, true, false, not, ◌&&◌, ◌==◌, if◌then◌else◌, nat_le, Option, Some, None, option_map, [], bit_and, refl, sym, ◌∙◌, ap, subst}
-use Rattle.laws_chip.proofs.Common.{and_from, and_left, and_parts, and_right, eqb-true, false≢true, not-true, has_ended_seek, pulses_within, seek_bits, sensed, with_motion, Outward, DriveSeek, Results, recalibrating, given, resets, IsInRange, is_held, is_idle, Fdc, after_result, without_result, Front, GivesCommand, WritesFront, interrupts_outside, is_ready, results_outside, results_taken, with_controller, StepsFront, pending_outside, recalibrated_at, recalibrated_outside, sensed_at, sensed_outside, ChipState, passes, passes_at, passes_by_channel, passes_by_port, with_front, code_of, AttendsIf, AttendsTo, MovesIf, GivesOn, Obeys, chip_configured, configuring, drained, drained_one, is_moving, moves_heads, moving, needs_heads, relative_target, Ends, EndsAt, EndsAs, MayEnd, is_over, judged, cylinder_of, is_format, GoesOnIf, Paces, PulsesIf, is_due, CollectsIf, ComesIf, GivesChipIf, GivesIf, ReadsAt, ReadsIf, TakesByte, TakesIf, WritesChip, latched_by, is_whole, may_come, reset_if, value_behind, with_next, is_by_port, step_words, Follows, FollowsTask, ChipOpcode, PacedSeek, ChipStage, Ready, Held, Busy, ChipTask, Track, Call, Does, WritesByte, is_of_data_port, is_reset, is_step, IsSound, RestsBehind, chip_stepped as stepped, chip_count_told as count_told, ChipTelling as Telling}
+use Rattle.laws_chip.proofs.Common.{and_from, and_parts, eqb-true, false≢true, not-true, has_ended_seek, pulses_within, seek_bits, sensed, with_motion, Outward, DriveSeek, Results, recalibrating, given, IsInRange, is_held, is_idle, Fdc, after_result, without_result, Front, GivesCommand, interrupts_outside, is_ready, results_outside, results_taken, with_controller, StepsFront, pending_outside, recalibrated_at, recalibrated_outside, sensed_at, sensed_outside, ChipState, with_front, code_of, AttendsIf, AttendsTo, MovesIf, GivesOn, Obeys, chip_configured, configuring, drained, drained_one, is_moving, moves_heads, moving, needs_heads, relative_target, Ends, EndsAt, EndsAs, MayEnd, is_over, judged, cylinder_of, GoesOnIf, Paces, PulsesIf, is_due, CollectsIf, ComesIf, GivesIf, ReadsAt, ReadsIf, TakesByte, is_whole, may_come, value_behind, with_next, step_words, Follows, FollowsTask, ChipOpcode, PacedSeek, ChipStage, Ready, Held, Busy, ChipTask, Track, Call, Does, WritesByte, is_of_data_port, is_reset, is_step, IsSound, RestsBehind, chip_stepped as stepped, ChipTelling as Telling}
 use Rattle.fdc_commands.specs.declared.command.Command.TheVariants as command
 use Rattle.fdc_chip.specs.Doing.{drained_by}
 use Rattle.fdc_chip.specs.Paces as paces
@@ -8,7 +8,6 @@ use Rattle.fdc_chip.specs.declared.code.ChipOpcode.TheVariants as code
 use Rattle.fdc_chip.specs.declared.stage.ChipTask.TheVariants as task
 use Rattle.laws_chip.specs.Calls as made
 use Rattle.laws_chip.proofs.Attended.{free_stands}
-use Rattle.laws_chip.proofs.Channels.{front_left}
 use Rattle.laws_chip.proofs.CommandsBegun.{configured_stands}
 use Rattle.laws_chip.proofs.HeadsKept.{call_idle, no_port}
 use Rattle.laws_chip.proofs.HeadsLeft.{seek_given}
@@ -75,16 +74,13 @@ drains_tell (suc n) chip none rests tells = one_tells (drained_by n chip) (drain
 sought_tells : (unit target : ℕ) (start : Front) (new : ChipState) → Stands start → GivesCommand (moving unit (Some target)) start new.front → Tells new
 sought_tells unit target start new stands gives = runs_tells new.front.adapter.controller.seeks (seek_given unit target start new stands gives).runs
 
-recalibrated_tells : (unit : ℕ) (start new : Front) → Stands start → GivesCommand (moving unit None) start new → TellsEnd new.adapter.controller.seeks
-recalibrated_tells unit start new stands gives =
-    let obeyed = given_obeyed (command.Recalibrate unit) start new stands refl gives in
-    let is : new.adapter.controller ≡ recalibrating unit (record start.adapter.controller { command = [] }) = obeyed.obeys.0 stands.rests in
-    runs_tells new.adapter.controller.seeks (ap (λ (fdc : Fdc). has_ended_seek fdc.seeks) is)
-
 moves_tell : (b : Bool) (goal : Option ℕ) (old new : ChipState) → Stands old.front → MovesIf b goal old new → Tells new
 moves_tell true goal old new stands is = front_tells old new (ap (λ (chip : ChipState). chip.front) is) (stands_tell old.front stands)
 moves_tell false (Some target) old new stands (gives, rest) = sought_tells old.order.unit target old.front new stands gives
-moves_tell false None old new stands (gives, rest) = recalibrated_tells old.order.unit old.front new.front stands gives
+moves_tell false None old new stands (gives, rest) =
+    let obeyed = given_obeyed (command.Recalibrate old.order.unit) old.front new.front stands refl gives in
+    let is : new.front.adapter.controller ≡ recalibrating old.order.unit (record old.front.adapter.controller { command = [] }) = obeyed.obeys.0 stands.rests in
+    runs_tells new.front.adapter.controller.seeks (ap (λ (fdc : Fdc). has_ended_seek fdc.seeks) is)
 
 configure_tells : (old new : ChipState) → Stands old.front → GivesOn (configuring old.order.key.c old.order.key.h) (chip_configured old) new → Tells new
 configure_tells old new stands (gives, rest) =

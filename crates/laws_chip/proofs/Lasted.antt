@@ -1,7 +1,7 @@
 -- A command of several sectors ends: an implied seek and its sectors take so many device steps, and each one leaves one
 -- fewer.
-use Rattle.std.proofs.Common.{◌≡◌, inl, inr, ℕ, ◌+◌, ◌-◌, ◌*◌, ◌<◌, ◌≤◌, Bool, true, false, not, ◌==◌, if◌then◌else◌, Option, Some, None, List, [], ◌∷◌, refl, sym, ◌∙◌, ap, subst, arith}
-use Rattle.laws_chip.proofs.Common.{eqb-true, false≢true, not-true, and_parts, Seeks, has_ended_seek, is_seeking, seek_bits, is_begun, Results, SeekCommand, new_past, Ending, Done, phase_told, MayReadIn, MayReadTask, Sent, MayWriteIn, MayWriteTask, Phase, Taking, Execute, Result, Task, ReadTask, WriteTask, taken_in, taken_out, told_count, is_executing, is_taking, resets, takes_in, IsInRange, is_held, EndsIn, IsCounted, TakesWhole, ending_told, is_idle, mark_of, Fdc, Lines, AdapterState, StepsAdapter, WritesAdapter, lines_at, selected_at, BeginsSector, Front, GivesAt, ReadsSector, SeeksFirst, Starts, StartsIf, TakesAt, WritesFront, begun_if, count_told, passed_one, told_if, EndsIf, EndsSector, FollowsStep, MovesOn, SeeksOn, goes_on, has_met_other, is_unwanted, judged_if, passed_over_if, results_behind, results_failed, would_go_on, is_last, next_of, Operation, Read, Write, MovingSector, FrontStage, Through, Seeking, Moving, Telling, Transfer, AreWithin, HasByteNumbers, HasByteRecords, HasRecords, HasResults, is_under_way, most_steps, sectors_from, History, MayMove, Serves, ServesAt, nothing_moved, sent_of, ReadyCommand as Ready, core_steps_left as steps_left, front_reset_if as reset_if, SectorCallsBegins as Begins, SectorCallsCall as Call, SectorCallsDoes as Does, chip_steps_in as steps_in}
+use Rattle.std.proofs.Common.{◌≡◌, ℕ, ◌+◌, ◌-◌, ◌*◌, ◌<◌, ◌≤◌, Bool, true, false, not, ◌==◌, if◌then◌else◌, Option, Some, None, List, [], ◌∷◌, refl, sym, ◌∙◌, ap, subst, arith}
+use Rattle.laws_chip.proofs.Common.{eqb-true, false≢true, not-true, and_parts, Seeks, has_ended_seek, is_seeking, seek_bits, is_begun, Results, SeekCommand, new_past, Ending, Done, phase_told, MayReadIn, MayReadTask, Sent, MayWriteIn, MayWriteTask, Phase, Taking, Execute, Result, Task, ReadTask, WriteTask, told_count, is_executing, is_taking, resets, takes_in, IsInRange, is_held, EndsIn, IsCounted, TakesWhole, ending_told, is_idle, mark_of, Fdc, Lines, AdapterState, StepsAdapter, WritesAdapter, lines_at, BeginsSector, Front, ReadsSector, SeeksFirst, Starts, StartsIf, WritesFront, begun_if, count_told, passed_one, told_if, EndsIf, EndsSector, FollowsStep, MovesOn, SeeksOn, goes_on, has_met_other, is_unwanted, judged_if, passed_over_if, results_behind, results_failed, would_go_on, is_last, next_of, Operation, Read, Write, MovingSector, FrontStage, Through, Seeking, Moving, Telling, Transfer, AreWithin, HasByteNumbers, HasByteRecords, HasRecords, HasResults, is_under_way, most_steps, sectors_from, History, MayMove, Serves, ServesAt, nothing_moved, sent_of, ReadyCommand as Ready, core_steps_left as steps_left, front_reset_if as reset_if, SectorCallsBegins as Begins, SectorCallsCall as Call, SectorCallsDoes as Does, chip_steps_in as steps_in}
 use Rattle.laws_chip.specs.SectorCalls as call
 use Rattle.laws_chip.specs.SectorLasting.{steps_of}
 use Rattle.laws_chip.proofs.Called.{call_serves, calls_serve}
@@ -159,16 +159,6 @@ seek_lasts n at counted old between new stage_is was steps follows stays = by_en
 
 -- after a device step of a sector's command
 module _ (n : ℕ) (moving : MovingSector) (old : Fdc) (was : MovesWithin n moving.transfer old) where
-  next_lasts : (marked : Bool) (phase : Phase) (front new : Front) → steps_left phase < steps_left old.phase → goes_on moving marked ≡ true → (new.stage ≡ Through → ⊥)
-      → BeginsSector (next_of moving.transfer) false (has_met_other moving marked) front new → Lasts (n - 1) new
-  next_lasts marked phase front new fewer goes stays begins =
-      let next = next_of moving.transfer in
-      let more = not-true (is_last moving.transfer) (and_parts (would_go_on moving marked) (not (is_last moving.transfer)) goes).1 in
-      let bytes = was.bytes more in
-      let one = sectors_next moving.transfer bytes more in
-      begins_lasts (n - 1) next false (has_met_other moving marked) front new (λ last. next_bytes moving.transfer bytes)
-      (omega arith) stays begins
-
   results_last : (results : Results) (front new : Front) → new ≡ record front { stage = Telling results } → Lasts (n - 1) new
   results_last results front new is = at_stage (n - 1) (Telling results) new (ap (λ f. f.stage) is) tt
 
@@ -176,7 +166,13 @@ module _ (n : ℕ) (moving : MovingSector) (old : Fdc) (was : MovesWithin n movi
   ends_last mark (Done marked) phase front new fewer stays ends = by_next (goes_on moving marked) refl ends
     where
       by_next : (b : Bool) → goes_on moving marked ≡ b → EndsIf b moving marked front new → Lasts (n - 1) new
-      by_next true goes begins = next_lasts marked phase front new fewer goes stays begins
+      by_next true goes begins =
+          let next = next_of moving.transfer in
+          let more = not-true (is_last moving.transfer) (and_parts (would_go_on moving marked) (not (is_last moving.transfer)) goes).1 in
+          let bytes = was.bytes more in
+          let one = sectors_next moving.transfer bytes more in
+          begins_lasts (n - 1) next false (has_met_other moving marked) front new (λ last. next_bytes moving.transfer bytes)
+          (omega arith) stays begins
       by_next false over is = results_last (results_behind moving marked) front new is
   ends_last mark ending phase front new fewer stays is = results_last (results_failed mark moving ending) front new is
 

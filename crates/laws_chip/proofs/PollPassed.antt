@@ -239,11 +239,6 @@ byte_poll : (stage : ChipStage) (byte : ℕ) (old new : ChipState) → TakesByte
 byte_poll Ready byte old new comes none = comes_by (may_come old) byte old new comes none
 byte_poll _ byte old new gives none = gives_if (passes_by_port old) byte old new gives ∙ none
 
-port_poll : (port value : ℕ) (old new : ChipState) → WritesChip port value old new → resets port (value_behind port value) ≡ false → to_come old ≡ false → to_come new ≡ false
-port_poll port value old new writes quiet none = either_way (port == 0x3F5)
-    (λ here. byte_poll old.stage value old new (writes.bytes (eqb-true port 0x3F5 here)) none)
-    (λ other. writes_poll port (value_behind port value) old.front new.front (writes.others other).0 quiet none)
-
 read_chip : (port value : ℕ) (old new : ChipState) → ReadsChip port old value new → to_come new ≡ to_come old
 read_chip port value old new reads = either_way (port == 0x3F5)
     (λ here. reads_at old.stage old value new (reads.byte (eqb-true port 0x3F5 here)))
@@ -256,6 +251,8 @@ call_makes (made.Takes byte) old new does quiet none = takes_by (passes_by_chann
 call_makes (made.Gives byte was) old new does quiet none = gives_by (passes_by_channel old) byte old was new does ∙ none
 call_makes made.Counts old new does quiet none = ap to_come does ∙ (chip_counts old.stage old ∙ none)
 call_makes (made.Reads port value) old new does quiet none = read_chip port value old new does ∙ none
-call_makes (made.Writes port value) old new does quiet none = port_poll port value old new does quiet none
+call_makes (made.Writes port value) old new does quiet none = either_way (port == 0x3F5)
+    (λ here. byte_poll old.stage value old new (does.bytes (eqb-true port 0x3F5 here)) none)
+    (λ other. writes_poll port (value_behind port value) old.front new.front (does.others other).0 quiet none)
 call_makes made.Changes old new does quiet none = ap (λ (fdc : Fdc). fdc.poll_due) does.front.controller ∙ none
 call_makes _ old new does quiet none = ap to_come does ∙ none

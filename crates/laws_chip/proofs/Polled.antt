@@ -1,6 +1,6 @@
 -- A reset, up to the results of its poll.
 use Rattle.std.proofs.Common.{◌≡◌, ◌⊎◌, inl, inr, ℕ, suc, ◌+◌, ◌<◌, Bool, true, false, not, ◌&&◌, ◌||◌, ◌==◌, if◌then◌else◌, nat_lt, Option, Some, None, List, [], ◌∷◌, refl, sym, ◌∙◌, ap, subst, arith}
-use Rattle.laws_chip.proofs.Common.{and_from, and_right, false≢true, eqb-true, is_seeking, with_polls, Phase, Taking, resets, is_gated, is_held, Rests, polled, seek_stepped, Fdc, Dor, AdapterState, StepsAdapter, selected_at, Front, asks_outside, interrupts_at, interrupts_outside, StepsFront, FrontStage, Through, ChipState, interrupts_chip, passes, passes_at, shows_behind, with_front, drained, drained_one, sensing, Interrupting, is_format, with_byte, Paces, ComesIf, ReadsAt, ReadsChip, TakesByte, WritesChip, latched_by, reset_if, value_behind, is_by_port, Follows, StepsChip, PacedSeek, ChipStage, Ready, Call, Does, is_step, AwaitsPoll, HasPolls, IsFreshBehind, is_of_data_port, polls_from, telling_poll, IsSound, waits_for_heads, ChipTelling as Telling, Seeks as Seeking, commands_stepped as stepped}
+use Rattle.laws_chip.proofs.Common.{and_from, and_right, false≢true, eqb-true, is_seeking, with_polls, Phase, Taking, resets, is_gated, is_held, Rests, polled, seek_stepped, Fdc, Dor, Front, asks_outside, interrupts_at, interrupts_outside, StepsFront, FrontStage, Through, ChipState, interrupts_chip, passes, passes_at, shows_behind, with_front, drained, drained_one, sensing, Interrupting, is_format, with_byte, Paces, ComesIf, ReadsAt, ReadsChip, TakesByte, WritesChip, latched_by, reset_if, value_behind, is_by_port, Follows, StepsChip, PacedSeek, ChipStage, Ready, Call, Does, is_step, AwaitsPoll, HasPolls, IsFreshBehind, is_of_data_port, polls_from, telling_poll, IsSound, waits_for_heads, ChipTelling as Telling, Seeks as Seeking, commands_stepped as stepped}
 use Rattle.fdc_commands.specs.Seeking as seeking
 use Rattle.fdc_chip.specs.Doing.{drained_by}
 use Rattle.fdc_chip.specs.Interrupts.{at_rest}
@@ -94,12 +94,6 @@ ready_step old new step at unpaced =
 ready_quiet : (old new : ChipState) (step : StepsChip old new) → old.stage ≡ Ready → old.pace ≡ None → interrupts_outside step.between ≡ false → new ≡ with_front step.between old
 ready_quiet old new step at unpaced down =
     ready_step old new step at unpaced ∙ ap (λ b. if b then drained (with_front step.between old) else with_front step.between old) down
-
-awaits_on : (old new : ChipState) → AwaitsPoll old → StepsChip old new → is_held old.front.adapter.controller ≡ true → AwaitsPoll new
-awaits_on old new was step held =
-    let goes = front_fresh true old.front step.between step.steps was.behind (ap not held) in
-    let is = ready_quiet old new step was.stage was.unpaced (fresh_down true step.between goes.fresh) in
-    subst AwaitsPoll (sym is) (record { stage = was.stage; count = was.count; results = was.results; unpaced = was.unpaced; behind = goes.fresh })
 
 -- ---- the results are taken over
 
@@ -252,7 +246,10 @@ awaits_kept old new keeps was = record {
 
 pub call_awaits : (call : Call) (old new : ChipState) → AwaitsPoll old → Does call old new → is_of_data_port call ≡ false → (is_step call ≡ false) ⊎ (is_held old.front.adapter.controller ≡ true) → AwaitsPoll new
 call_awaits made.Steps old new was does other (inl no_step) = absurd (false≢true (sym no_step))
-call_awaits made.Steps old new was does other (inr held) = awaits_on old new was does held
+call_awaits made.Steps old new was does other (inr held) =
+    let goes = front_fresh true old.front does.between does.steps was.behind (ap not held) in
+    let is = ready_quiet old new does was.stage was.unpaced (fresh_down true does.between goes.fresh) in
+    subst AwaitsPoll (sym is) (record { stage = was.stage; count = was.count; results = was.results; unpaced = was.unpaced; behind = goes.fresh })
 call_awaits (made.Writes port value) old new was does other free = either_way (resets port (value_behind port value))
     (λ anew. reset_awaits port value old new does anew)
     (λ quiet. awaits_kept old new (call_heads (made.Writes port value) old new (ap waits_for_heads was.stage) does refl quiet other) was)

@@ -1,6 +1,6 @@
 -- A transfer whose bytes pass in time: no byte finds the FIFO full, or is missing.
 use Rattle.std.proofs.Common.{◌≡◌, ◌⊎◌, inl, inr, ℕ, ◌+◌, ◌-◌, ◌<◌, ◌≤◌, nat_lt, nat_le, max, Bool, true, false, not, ◌&&◌, ◌||◌, ◌==◌, if◌then◌else◌, Option, Some, None, List, [], ◌∷◌, length, bit_and, refl, sym, ◌∙◌, ap, subst, arith}
-use Rattle.laws_chip.proofs.Common.{eqb-true, false≢true, nat_tests, Chrn, IsSizeCode, DriveState, Fifo, emptied, low_level, room_of, wants, worth_fetching, overrun, has_ended_seek, seek_bits, Invalid, Command, ReadData, WriteData, WriteDeleted, Results, Past, Ending, Done, BadCheck, Overrun, NoCount, IsReadingData, phase_asks, phase_told, task_asks, task_told, MayReadIn, Sent, ending_of_phase, is_overrun, is_read, is_reading, moves_bytes, overran, MayWriteIn, Long, Short, Phase, Execute, Result, Task, BeginsData, TakesAs, answered, Works, asking_told, fifo_told, taken_in, taken_out, told_count, is_executing, resets, asks, is_gated, FlowsIn, TakesWhole, ending_told, given_up, mark_of, without_seek, Fdc, Lines, AdapterState, StepsAdapter, lines_at, selected_at, st1_of, BeginsSector, Front, GivesAt, StartsIf, TakesAt, WritesFront, asks_at, asks_outside, begun_if, count_told, moving_of, passed_one, told_if, with_controller, EndsIf, EndsSector, FollowsStep, MovesOn, SeeksOn, StepsFront, goes_on, has_failed_other, has_met_other, is_unwanted, judged_if, passed_over_if, results_behind, results_failed, would_go_on, command_for, next_of, results_told, size_of, Operation, Read, Write, MovingSector, FrontStage, Through, Seeking, Moving, Telling, Transfer, ChipState, asks_chip, interrupts_chip, passes_by_channel, passes_by_port, shows_behind, StepsChip, SentTask, is_under_way, MayMove, ServesAt, sent_of, IsBegun, Call, Does, IsServing, IsSound, ServesBehind, has_command, ReadyCommand as Ready, FdcObeys as Obeys, phases_is_moving as is_moving, phases_is_over as is_over, front_judged as judged}
+use Rattle.laws_chip.proofs.Common.{eqb-true, false≢true, nat_tests, Chrn, IsSizeCode, DriveState, Fifo, emptied, low_level, room_of, wants, worth_fetching, overrun, has_ended_seek, seek_bits, Invalid, Command, ReadData, WriteData, WriteDeleted, Results, Past, Ending, Done, BadCheck, Overrun, NoCount, IsReadingData, phase_asks, phase_told, task_asks, task_told, MayReadIn, Sent, ending_of_phase, is_overrun, is_read, is_reading, moves_bytes, overran, MayWriteIn, Long, Short, Phase, Execute, Result, Task, BeginsData, TakesAs, answered, Works, asking_told, fifo_told, told_count, is_executing, resets, asks, is_gated, FlowsIn, TakesWhole, ending_told, given_up, mark_of, without_seek, Fdc, Lines, AdapterState, StepsAdapter, lines_at, selected_at, st1_of, BeginsSector, Front, StartsIf, WritesFront, asks_at, asks_outside, begun_if, count_told, moving_of, passed_one, told_if, with_controller, EndsIf, EndsSector, FollowsStep, MovesOn, SeeksOn, StepsFront, goes_on, has_failed_other, has_met_other, is_unwanted, judged_if, passed_over_if, results_behind, results_failed, would_go_on, command_for, next_of, results_told, Operation, Read, Write, MovingSector, FrontStage, Through, Seeking, Moving, Telling, Transfer, ChipState, asks_chip, interrupts_chip, passes_by_channel, passes_by_port, shows_behind, StepsChip, SentTask, is_under_way, MayMove, ServesAt, sent_of, IsBegun, Call, Does, IsServing, IsSound, ServesBehind, has_command, ReadyCommand as Ready, FdcObeys as Obeys, phases_is_moving as is_moving, phases_is_over as is_over, front_judged as judged}
 use Rattle.fdc_phases.specs.Waiting.{PhaseWaits, TaskWaits, phase_counted, task_counted}
 use Rattle.fdc_phases.specs.declared.answers.Answer.{Answer}
 use Rattle.fdc_phases.specs.declared.phases.Task.TheVariants as task
@@ -255,11 +255,6 @@ alike_fed (Moving moving) old new stays at phase asking fifo fed =
     })
 alike_fed stage old new stays at phase asking fifo fed = free_as stage new (stays ∙ at) tt
 
-port_fed : (port value : ℕ) (old new : Front) → WritesFront port value old new → (port == 0x3F5) ≡ false → resets port value ≡ false → IsFedFront old → IsFedFront new
-port_fed port value old new writes no_data quiet fed =
-    let same = port_same port value (lines_at old.adapter) old.adapter.controller new.adapter.controller (writes.others no_data).0.writes no_data quiet in
-    alike_fed old.stage old new (port_stage port value old new writes no_data quiet) refl same.phase same.asking same.fifo fed
-
 -- ---- a device step
 
 -- DRQ goes by the FIFO's rule again, and no byte came too late
@@ -455,7 +450,9 @@ makes_fed b old new (makes.Same is) under fed = same_fed old new is fed
 makes_fed b old new (makes.Takes byte takes) under fed = passes_fed old new under (takes_pass old.stage byte old new refl takes) fed
 makes_fed b old new (makes.Gives byte given gives) under fed = passes_fed old new under (gives_pass old.stage byte given old new refl gives) fed
 makes_fed b old new (makes.Counts is) under fed = counts_fed old.stage old new refl under is fed
-makes_fed b old new (makes.Writes port value writes no_data quiet) under fed = port_fed port value old new writes no_data quiet fed
+makes_fed b old new (makes.Writes port value writes no_data quiet) under fed =
+    let same = port_same port value (lines_at old.adapter) old.adapter.controller new.adapter.controller (writes.others no_data).0.writes no_data quiet in
+    alike_fed old.stage old new (port_stage port value old new writes no_data quiet) refl same.phase same.asking same.fifo fed
 makes_fed b old new (makes.Changes changes keeps) under fed =
     let same = keeps.controller in
     alike_fed old.stage old new keeps.stage refl (ap (λ (fdc : Fdc). fdc.phase) same) (ap (λ (fdc : Fdc). fdc.asking) same) (ap (λ (fdc : Fdc). fdc.fifo) same) fed

@@ -1,5 +1,5 @@
 -- Seeks whose pulses come in the time that SPECIFY sets: a device step, and the command that ends them.
-use Rattle.std.proofs.Common.{◌≡◌, ◌⊎◌, inl, inr, ℕ, zero, suc, ◌+◌, ◌-◌, ◌*◌, ◌%◌, ◌^◌, ◌<◌, ◌≤◌, max, min, nat_le, nat_lt, Bool, true, false, not, ◌&&◌, ◌||◌, ◌==◌, if◌then◌else◌, Option, Some, None, is_none, is_some, List, [], ◌∷◌, length, slice_index, slice_set, unwrap_or, bit_and, bit_or, refl, sym, ◌∙◌, ap, subst, arith}
+use Rattle.std.proofs.Common.{◌≡◌, ◌⊎◌, inl, inr, ℕ, suc, ◌+◌, ◌-◌, ◌*◌, ◌%◌, ◌^◌, ◌<◌, ◌≤◌, max, min, nat_le, nat_lt, Bool, true, false, not, ◌&&◌, ◌||◌, ◌==◌, if◌then◌else◌, Option, Some, None, is_none, is_some, List, [], ◌∷◌, length, slice_index, slice_set, unwrap_or, bit_and, bit_or, refl, sym, ◌∙◌, ap, subst, arith}
 use Rattle.laws_chip.proofs.Common.{option_map_or, mul-le-mul_right, suc-mul, and_from, and_right, eqb-false, leb-false, or_parts, or_right, nat_tests, pulses_within, seek_bits, sought, stepped_seek, with_motion, with_polls, Motion, Outward, Toward, DriveSeek, Taking, IsInRange, is_held, Rests, polled, seek_stepped, is_idle, Fdc, lines_at, Front, GivesCommand, is_ready, status_at, with_controller, StepsFront, recalibrated_at, recalibrated_outside, Through, ChipState, with_front, drained, is_moving, is_told, moves_heads, moving, pace_begun, GoesOnIf, Paces, PulsesIf, is_due, target_of, step_words, PacedSeek, ChipStage, GoesBehind, HeadsPaced, StandsBehind, most_left, pulses_left, pulses_to, GoesTo, HeadsGo, SeeksBehind, most_of, steps_left, IsSound, EndsPace as EndsAt, is_over_pace as is_over, chip_stepped as stepped, Seeks as Seeking}
 use Rattle.fdc_chip.specs.Paces.{GoesOn}
 use Rattle.laws_chip.proofs.HeadsGoing.{HasEnded, bare, ended_untold, front_steps, neighbour_left, none_drained, none_pending, rests_by_line, status_in, told_at}

@@ -1,6 +1,6 @@
 -- Device steps of a controller that executes nothing: no medium changes.
-use Rattle.std.proofs.Common.{◌≡◌, inl, inr, ◌&&◌, Bool, true, false, not, Option, Some, None, if◌then◌else◌, refl, sym, ◌∙◌, ap, subst}
-use Rattle.laws_chip.proofs.Common.{false≢true, with_polls, DriveState, Phase, Execute, Result, Works, is_executing, is_held, MovesIn, RestsIn, polled, Fdc, Taking as Command}
+use Rattle.std.proofs.Common.{◌≡◌, inl, inr, ◌&&◌, Bool, true, false, Option, Some, None, if◌then◌else◌, refl, sym, ◌∙◌, ap, subst}
+use Rattle.laws_chip.proofs.Common.{false≢true, DriveState, Phase, Execute, Result, Works, is_executing, MovesIn, RestsIn, polled, Fdc, Taking as Command}
 use Rattle.fdc_core.specs.Steps.{Moves}
 use Rattle.laws_chip.proofs.Known.{polled_phase}
 

@@ -1,6 +1,6 @@
 -- A controller that does nothing, through device steps, and once the results of seeks and polls were taken over.
-use Rattle.std.proofs.Common.{◌≡◌, inl, inr, ℕ, zero, suc, ◌-◌, ◌<◌, ◌^◌, Bool, true, false, not, ◌&&◌, ◌||◌, ◌==◌, if◌then◌else◌, Option, Some, None, [], refl, sym, ◌∙◌, ap, subst, arith, pow_pos}
-use Rattle.laws_chip.proofs.Common.{option_map_or, ended, first_pending, has_ended, neighbour, recalibrated, released, sought, stepped_seek, with_motion, with_polls, after_sense, Motion, Taking, is_held, Rests, RestsIn, Stays, polled, seek_stepped, is_idle, mark_of, Fdc, AdapterState, StepsAdapter, selected_at, after_result, without_result, Front, with_controller, FollowsStep, StepsFront, pending_outside, sensed_at, sensed_outside, Through, ChipState, with_front, drained_one, implies, is_told, kept, with_result, IsOfFour, RestsBehind, Seeks as Seeking, commands_stepped as stepped, DriveSeek as Seek}
+use Rattle.std.proofs.Common.{◌≡◌, ℕ, zero, suc, ◌-◌, ◌<◌, ◌^◌, Bool, true, false, ◌&&◌, ◌||◌, ◌==◌, if◌then◌else◌, Option, Some, None, [], refl, sym, ◌∙◌, ap, subst, arith, pow_pos}
+use Rattle.laws_chip.proofs.Common.{option_map_or, ended, first_pending, has_ended, neighbour, recalibrated, released, sought, stepped_seek, with_motion, after_sense, Motion, Taking, Rests, RestsIn, polled, seek_stepped, is_idle, mark_of, Fdc, AdapterState, StepsAdapter, after_result, without_result, Front, with_controller, FollowsStep, StepsFront, pending_outside, sensed_at, sensed_outside, Through, ChipState, with_front, drained_one, implies, is_told, kept, with_result, IsOfFour, RestsBehind, Seeks as Seeking, commands_stepped as stepped, DriveSeek as Seek}
 use Rattle.fdc_commands.specs.Seeking as seek_words
 use Rattle.fdc_commands.specs.declared.motion.Motion.TheVariants as motion
 use Rattle.laws_chip.proofs.Known.{adapter_stays, by_rests, polled_by, polled_phase}

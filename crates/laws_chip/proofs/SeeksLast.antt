@@ -1,9 +1,8 @@
 -- Heads that move come to stand, whatever calls come: each device step leaves fewer, and other calls leave no more.
 use Rattle.std.proofs.Common.{◌≡◌, ℕ, ◌+◌, ◌-◌, ◌*◌, ◌^◌, ◌<◌, ◌≤◌, max, nat_le, Bool, true, false, not, ◌&&◌, ◌||◌, ◌==◌, if◌then◌else◌, Option, Some, None, is_some, List, [], ◌∷◌, length, bit_and, bit_or, refl, sym, ◌∙◌, ap, subst, arith}
-use Rattle.laws_chip.proofs.Common.{option_map_or, eqb-true, false≢true, not-true, or_right, has_ended, is_seeking, Motion, Ended, DriveSeek, resets, IsInRange, Fdc, Front, WritesFront, interrupts_outside, status_at, StepsFront, answer_bytes, is_of_data, ChipState, with_front, code_of, AttendsIf, AttendsTo, Obeys, drained, is_moving, moves_heads, needs_heads, pace_begun, Paces, CollectsIf, ComesIf, GivesChipIf, GivesIf, ReadsAt, ReadsIf, TakesByte, TakesIf, byte_told, latched_by, is_whole, may_come, quieted_if, reset_if, value_behind, with_next, step_words, Follows, ChipAnswer, ChipOpcode, PacedSeek, Settings, ChipStage, Ready, Held, Busy, AreSeeking, HeadsGoOn, IsUsed, StaysHeld, heads_go, heads_steps, is_executed, seek_steps, Call, Does, is_of_data_port, is_reset, is_step, steps_in, steps_of, pulses_left, steps_left, IsSound, ChipTelling as Telling, Seeks as Seeking}
+use Rattle.laws_chip.proofs.Common.{option_map_or, eqb-true, false≢true, not-true, or_right, has_ended, is_seeking, Motion, Ended, DriveSeek, IsInRange, Front, interrupts_outside, status_at, StepsFront, answer_bytes, is_of_data, ChipState, with_front, code_of, AttendsIf, AttendsTo, Obeys, drained, is_moving, moves_heads, needs_heads, pace_begun, Paces, CollectsIf, ComesIf, GivesIf, ReadsAt, ReadsIf, TakesByte, byte_told, latched_by, is_whole, may_come, quieted_if, reset_if, value_behind, with_next, step_words, Follows, ChipAnswer, ChipOpcode, PacedSeek, Settings, ChipStage, Ready, Held, Busy, AreSeeking, HeadsGoOn, IsUsed, StaysHeld, heads_go, heads_steps, is_executed, seek_steps, Call, Does, is_of_data_port, is_reset, is_step, steps_in, steps_of, pulses_left, steps_left, IsSound, ChipTelling as Telling, Seeks as Seeking}
 use Rattle.fdc_chip.specs.declared.code.ChipOpcode.TheVariants as code
 use Rattle.laws_chip.specs.Calls as made
-use Rattle.laws_chip.proofs.Channels.{front_left}
 use Rattle.laws_chip.proofs.HeadsKept.{call_idle, no_port}
 use Rattle.laws_chip.proofs.HeadsLeft.{IsFewLater, IsPaced, paces_on}
 use Rattle.laws_chip.proofs.HeadsTold.{TellsEnd, drained_left, drained_same}
@@ -126,14 +125,11 @@ told_pace answer read old = by_quiet (is_of_data answer && (read == 0))
     by_quiet true = refl
     by_quiet false = refl
 
-told_few : (words n : ℕ) (answer : ChipAnswer) (read : ℕ) (old new : ChipState) → new ≡ byte_told answer read old → left_at words old ≤ n → left_at words new ≤ n
-told_few words n answer read old new is few =
-    is_few words n (byte_told answer read old) new is
-    (same_few words n old (byte_told answer read old) (told_pace answer read old) (ap (λ (front : Front). front.adapter.controller.seeks.seek) (byte_stays answer read old).front) few)
-
 read_few : (stage : ChipStage) (words n value : ℕ) (old new : ChipState) → old.stage ≡ stage → is_busy stage ≡ false → ReadsAt stage old value new → left_at words old ≤ n → left_at words new ≤ n
 read_few (Busy what) words n value old new at idle reads few = absurd (false≢true (sym idle))
-read_few (Telling answer read) words n value old new at idle (value_is, is) few = told_few words n answer read old new is few
+read_few (Telling answer read) words n value old new at idle (value_is, is) few =
+    is_few words n (byte_told answer read old) new is
+    (same_few words n old (byte_told answer read old) (told_pace answer read old) (ap (λ (front : Front). front.adapter.controller.seeks.seek) (byte_stays answer read old).front) few)
 read_few _ words n value old new at idle reads few = is_few words n old new (subst (λ b. ReadsIf b old value new) (no_port old (ap is_busy at)) reads).1 few
 
 write_few : (stage : ChipStage) (words n value : ℕ) (old new : ChipState) → old.stage ≡ stage → is_busy stage ≡ false → IsIdleAt old.front → IsInRange old.front.adapter.controller → heads_go old ≡ true → TakesByte stage value old new

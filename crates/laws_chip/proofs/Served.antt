@@ -1,6 +1,6 @@
 -- What is served, through device steps, the channel and port accesses.
 use Rattle.std.proofs.Common.{◌≡◌, ◌⊎◌, inl, inr, ℕ, ◌+◌, ◌-◌, nat_lt, Bool, true, false, not, ◌&&◌, ◌||◌, ◌==◌, if◌then◌else◌, Option, Some, None, List, [], ◌∷◌, ◌++◌, length, refl, sym, ◌∙◌, ap, subst, append-nil, arith}
-use Rattle.laws_chip.proofs.Common.{and_from, and_parts, eq-eqb, eqb-true, false≢true, IsSizeCode, content_size, has_ended_seek, Past, new_past, Ending, Done, BadCheck, Command, byte_out, taken_in, taken_out, to_memory_of, told_count, MayReadIn, Sent, gave, results_sent, told_in, WordTime, Stopped, after_time, is_executing, AreOfField, ReadMeans, ReadMeansIn, bytes_held, resets, asks, ending_told, given_up, is_idle, mark_of, without_seek, ending_of_phase, head_of, MayWriteIn, took, Short, Long, Fdc, Phase, Taking, Execute, Result, starts_given, write_tells, writes_window, AdapterState, StepsAdapter, WritesAdapter, lines_at, selected_at, BeginsSector, Front, GivesAt, GivesCommand, GivesFront, GivesMoving, GivesTransfer, SeeksFirst, Starts, StartsIf, TakesAt, TakesFront, TakesMoving, WritesFront, begun_if, count_told, is_ready, moving_of, passed_one, results_taken, taken_at, told_front, told_if, with_controller, EndsIf, EndsSector, FollowsStep, MovesOn, SeeksOn, StepsFront, goes_on, has_met_other, is_unwanted, judged_if, passed_over_if, Accounts, AreLeft, AreMoved, BeginsServing, Carries, GoesOn, History, IsFieldDone, IsLastOne, IsFree, IsMarkOf, IsOfOther, IsOfSector, IsRefused, IsTimeOf, KeepsServing, MayMove, Means, MeansJudged, Part, Passes, PassesAt, RefusesFirst, Serves, ServesAt, ServesCounted, ServesStep, ServesUnless, StepsTo, bytes_moved, has_other, has_results, hears_count, history_counted, history_ended, history_given, history_moved, history_passed, history_sought, history_stepped, history_taken, nothing_moved, passed_in, passed_out, results_ended, sector_after, sent_of, still_seeks, is_other, is_skipping, next_of, size_of, Operation, Read, Write, MovingSector, FrontStage, Through, Seeking, Moving, Telling, Transfer, front_reset_if as reset_if, front_judged as judged}
+use Rattle.laws_chip.proofs.Common.{and_from, and_parts, eq-eqb, eqb-true, false≢true, IsSizeCode, content_size, has_ended_seek, Past, new_past, Ending, Done, BadCheck, Command, byte_out, taken_in, taken_out, to_memory_of, told_count, MayReadIn, Sent, gave, results_sent, told_in, WordTime, Stopped, after_time, is_executing, AreOfField, ReadMeans, ReadMeansIn, bytes_held, resets, asks, ending_told, given_up, is_idle, mark_of, without_seek, ending_of_phase, head_of, MayWriteIn, took, Long, Fdc, Phase, Taking, Execute, Result, starts_given, write_tells, writes_window, AdapterState, StepsAdapter, WritesAdapter, lines_at, selected_at, BeginsSector, Front, GivesAt, GivesCommand, GivesFront, GivesMoving, GivesTransfer, SeeksFirst, Starts, StartsIf, TakesAt, TakesFront, TakesMoving, WritesFront, begun_if, count_told, is_ready, moving_of, passed_one, results_taken, taken_at, told_front, told_if, with_controller, EndsIf, EndsSector, FollowsStep, MovesOn, SeeksOn, StepsFront, goes_on, has_met_other, is_unwanted, judged_if, passed_over_if, Accounts, AreLeft, AreMoved, BeginsServing, Carries, GoesOn, History, IsFieldDone, IsLastOne, IsFree, IsMarkOf, IsOfOther, IsOfSector, IsRefused, IsTimeOf, KeepsServing, MayMove, Means, MeansJudged, Part, Passes, PassesAt, RefusesFirst, Serves, ServesAt, ServesCounted, ServesStep, ServesUnless, StepsTo, bytes_moved, has_other, has_results, hears_count, history_counted, history_ended, history_given, history_moved, history_passed, history_sought, history_stepped, history_taken, nothing_moved, passed_in, passed_out, results_ended, sector_after, sent_of, still_seeks, is_other, is_skipping, next_of, size_of, Operation, Read, Write, MovingSector, FrontStage, Through, Seeking, Moving, Telling, Transfer, front_reset_if as reset_if, front_judged as judged}
 use Rattle.fdc_core.specs.Tellings.{WriteMeans, WriteMeansIn}
 use Rattle.fdc_core.proofs.Meanings.{read_gives, read_tells}
 use Rattle.laws_chip.proofs.Judged.{judges}
@@ -165,12 +165,11 @@ module _ (first : Transfer) (parts : List Part) (past : Past) (counted : Bool) (
     },
   )
 
-  -- the next sector begins, for which the controller is free
-  next_on : (now : Past) (mark : Option Bool) (marked : Bool) (old new : Front) → IsFree old.adapter.controller → bytes_moved operation now ≡ bytes_moved operation past → Accounts operation met moving now mark
-      → IsFieldDone moving.skipped operation now (sent_of moving.transfer) marked → mark ≡ Some marked → goes_on moving marked ≡ true
-      → BeginsSector (next_of moving.transfer) false (has_met_other moving marked) old new
-      → GoesOn [] false first so_far (history_ended true moving.transfer marked now so_far) new
-  next_on now mark marked old new free bytes accounts done mark_is goes begins =
+  ends_if : (b : Bool) (now : Past) (mark : Option Bool) (marked : Bool) (old new : Front) → goes_on moving marked ≡ b → IsFree old.adapter.controller → bytes_moved operation now ≡ bytes_moved operation past
+      → Accounts operation met moving now mark → IsOfSector operation now (sent_of moving.transfer) → IsFieldDone moving.skipped operation now (sent_of moving.transfer) marked → mark ≡ Some marked
+      → EndsIf b moving marked old new
+      → GoesOn [] false first so_far (history_ended b moving.transfer marked now so_far) new
+  ends_if true now mark marked old new goes free bytes accounts of_sector done mark_is ends =
       let part : Part = record { at = moving.transfer; past = now; marked = marked } in
       let would = goes_would moving marked goes in
       let more = moved_more operation first parts part were here (part_moved operation met moving now mark marked same_operation would mark_is accounts done) in
@@ -178,17 +177,11 @@ module _ (first : Transfer) (parts : List Part) (past : Past) (counted : Bool) (
       let other = met_then operation met moving now mark marked same_operation mark_is accounts ∙ sym (other_more operation parts part) in
       let uncounted = sym (would_uncounted moving marked would) ∙ (counts ∙ none_told counted) in
       let fits = subst IsSizeCode (sym (next_size moving.transfer)) accounts.sized in
-      let busy = free_executes (next_of moving.transfer) (lines_at old.adapter) old.adapter.controller begins.between.controller fits free begins.takes.takes in
-      elim (begins_serve first (parts ++ part ∷ []) (next_of moving.transfer) false (has_met_other moving marked) old new more behind other begins) [
+      let busy = free_executes (next_of moving.transfer) (lines_at old.adapter) old.adapter.controller ends.between.controller fits free ends.takes.takes in
+      elim (begins_serve first (parts ++ part ∷ []) (next_of moving.transfer) false (has_met_other moving marked) old new more behind other ends) [
         | inl serves ↦ (bytes_next operation parts part past counted false bytes, uncounted, serves)
-        | inr refused ↦ not_refused (next_of moving.transfer) false (has_met_other moving marked) old new begins busy refused
+        | inr refused ↦ not_refused (next_of moving.transfer) false (has_met_other moving marked) old new ends busy refused
       ]
-
-  ends_if : (b : Bool) (now : Past) (mark : Option Bool) (marked : Bool) (old new : Front) → goes_on moving marked ≡ b → IsFree old.adapter.controller → bytes_moved operation now ≡ bytes_moved operation past
-      → Accounts operation met moving now mark → IsOfSector operation now (sent_of moving.transfer) → IsFieldDone moving.skipped operation now (sent_of moving.transfer) marked → mark ≡ Some marked
-      → EndsIf b moving marked old new
-      → GoesOn [] false first so_far (history_ended b moving.transfer marked now so_far) new
-  ends_if true now mark marked old new goes free bytes accounts of_sector done mark_is ends = next_on now mark marked old new free bytes accounts done mark_is goes ends
   ends_if false now mark marked old new goes free bytes accounts of_sector done mark_is ends =
       tells_on now mark (Done marked) new bytes accounts of_sector done goes mark_is (ap (λ front. front.stage) ends)
 

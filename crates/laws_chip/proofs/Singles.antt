@@ -1,6 +1,6 @@
 -- A READ ID or a FORMAT TRACK of the inner controller: it begins, goes on through device steps, and its results wait.
-use Rattle.std.proofs.Common.{◌≡◌, ◌⊎◌, inl, inr, ℕ, ◌+◌, ◌<◌, Bool, true, false, not, ◌&&◌, if◌then◌else◌, Some, None, [], refl, sym, ◌∙◌, ap, subst, arith}
-use Rattle.laws_chip.proofs.Common.{false≢true, Chrn, DriveState, at_index, Fifo, emptied, seek_bits, with_polls, Results, Ending, Done, Late, FormatNext, Numbers, SearchOutcome, results_of, IsFormattingTrack, IsReadingId, ending_of_phase, is_listening, Long, Phase, Taking, Execute, Result, Task, Formatting, BeginsData, FormatDoes, after_laid, ExecutesIn, ExecutesTask, StepsOn, after_searched, finished, is_held, EndsIn, IsCounted, polled, FormatsNowhere, StepsNowhere, TaskStepsNowhere, WordTime, Wrote, Stopped, given_up_if, results_of_phase, WritesIn, WritesTask, without_byte, Fdc, AdapterState, StepsAdapter, selected_at, Front, results_at, results_outside, results_taken, taken_at, with_controller, StepsFront, Through, ExecutesBehind, executes_single, is_single, CommandFormatTrack as FormatTrack, CommandReadId as ReadId, core_steps_left as steps_left, phases_no_key as no_key}
+use Rattle.std.proofs.Common.{◌≡◌, ◌⊎◌, inl, inr, ℕ, ◌+◌, ◌<◌, Bool, true, false, ◌&&◌, if◌then◌else◌, Some, None, [], refl, sym, ◌∙◌, ap, subst, arith}
+use Rattle.laws_chip.proofs.Common.{false≢true, Chrn, DriveState, at_index, Fifo, emptied, seek_bits, Results, Ending, Done, Late, FormatNext, Numbers, SearchOutcome, results_of, IsFormattingTrack, IsReadingId, ending_of_phase, is_listening, Long, Phase, Taking, Execute, Result, Task, Formatting, BeginsData, FormatDoes, after_laid, ExecutesIn, ExecutesTask, StepsOn, after_searched, finished, is_held, EndsIn, IsCounted, polled, FormatsNowhere, StepsNowhere, TaskStepsNowhere, WordTime, Wrote, Stopped, given_up_if, results_of_phase, WritesIn, WritesTask, without_byte, Fdc, AdapterState, StepsAdapter, Front, results_at, results_outside, results_taken, taken_at, with_controller, StepsFront, Through, ExecutesBehind, executes_single, is_single, CommandFormatTrack as FormatTrack, CommandReadId as ReadId, core_steps_left as steps_left, phases_no_key as no_key}
 use Rattle.fdc_stages.specs.declared.formatting.FormatNext.TheVariants as laid
 use Rattle.fdc_stages.specs.declared.searching.Search.{Search}
 use Rattle.fdc_stages.specs.Searches as searched

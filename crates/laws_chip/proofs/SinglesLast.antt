@@ -83,13 +83,6 @@ pub record StaysSingle (n : ℕ) (old new : Front) : Type 0 where
 same_left : (n m : ℕ) → n ≡ m → n + 0 ≤ m
 same_left n m same = omega arith
 
-same_single : (old new : Front) → new ≡ old → ExecutesBehind old → StaysSingle 0 old new
-same_single old new is was = record {
-  executes = subst ExecutesBehind (sym is) was;
-  left = same_left (steps_left new.adapter.controller.phase) (steps_left old.adapter.controller.phase) (ap (λ (front : Front). steps_left front.adapter.controller.phase) is);
-  formats = λ was. ap (λ (front : Front). formats front.adapter.controller.phase) is ∙ was;
-}
-
 phase_left : (old new : Front) → new.adapter.controller.phase ≡ old.adapter.controller.phase → ExecutesBehind new → StaysSingle 0 old new
 phase_left old new same executes =
     record {
@@ -109,12 +102,17 @@ still_formats : (phase : Phase) → executes_single phase ≡ true → FormatsOn
 still_formats (Execute execution) single on = on
 still_formats _ single on = absurd (false≢true single)
 
-may_single : (what : ChipTask) (old : ChipState) (between : Front) (new : ChipState) → old.front.adapter.controller.command ≡ [] → StepsFront old.front between → ExecutesBehind old.front → MayEnd what (with_front between old) new
-    → stage_kind new.stage ≡ kind_of what → StaysSingle 1 old.front new.front
-may_single what old between new whole step was may same =
+-- for a VERIFY the inner controller executes neither READ ID nor FORMAT TRACK
+not_verify : {A : Type 0} (left : ℕ) (old : ChipState) → IsSound old → old.stage ≡ Busy (task.Verify left) → ExecutesBehind old.front → A
+not_verify left old sound at was = absurd (not_through old.front (busy_at old (task.Verify left) at sound).under_way was.through)
+
+follows_single : (what : ChipTask) (old : ChipState) (between : Front) (new : ChipState) → IsSound old → old.stage ≡ Busy what → StepsFront old.front between → ExecutesBehind old.front
+    → FollowsTask what (with_front between old) new → stage_kind new.stage ≡ kind_of what → StaysSingle 1 old.front new.front
+follows_single (task.Verify left) old between new sound at step was follows same = not_verify left old sound at was
+follows_single what old between new sound at step was may same =
     let set = with_front between old in
     let left = step_fewer old.front between step was in
-    elim (executes_step old.front between step whole was).0 [
+    elim (executes_step old.front between step sound.whole was).0 [
       | inl still ↦
           let at : new ≡ set = subst (λ r. EndsAs (option_map (judged set) r) what set new) (executes_none between still) may in
           subst (λ (chip : ChipState). StaysSingle 1 old.front chip.front) (sym at)
@@ -129,19 +127,6 @@ may_single what old between new whole step was may same =
           absurd (ends_leave what results (with_front (results_taken between) old) new ends same)
     ]
 
--- for a VERIFY the inner controller executes neither READ ID nor FORMAT TRACK
-not_verify : {A : Type 0} (left : ℕ) (old : ChipState) → IsSound old → old.stage ≡ Busy (task.Verify left) → ExecutesBehind old.front → A
-not_verify left old sound at was = absurd (not_through old.front (busy_at old (task.Verify left) at sound).under_way was.through)
-
-follows_single : (what : ChipTask) (old : ChipState) (between : Front) (new : ChipState) → IsSound old → old.stage ≡ Busy what → StepsFront old.front between → ExecutesBehind old.front
-    → FollowsTask what (with_front between old) new → stage_kind new.stage ≡ kind_of what → StaysSingle 1 old.front new.front
-follows_single (task.Verify left) old between new sound at step was follows same = not_verify left old sound at was
-follows_single what old between new sound at step was may same = may_single what old between new sound.whole step was may same
-
--- the channel
-takes_single : (old : Front) (byte : Option ℕ) (new : Front) → TakesFront old byte new → ExecutesBehind old → StaysSingle 0 old new
-takes_single old byte new takes was = phase_left old new (front_takes old byte new was.through takes).1.phase (takes_executes old byte new takes was)
-
 gives_single : (byte : ℕ) (old : Front) (given : Bool) (new : Front) → GivesFront byte old given new → ExecutesBehind old → StaysSingle 0 old new
 gives_single byte old given new gives was = phase_left old new (front_gives byte old given new was.through gives).1.phase (gives_executes byte old given new gives was)
 
@@ -149,8 +134,16 @@ told_left : (phase : Phase) → steps_left (phase_told phase) ≡ steps_left pha
 told_left (Execute execution) = refl
 told_left _ = refl
 
-counts_single : (old new : Front) → new ≡ told_front old → ExecutesBehind old → StaysSingle 0 old new
-counts_single old new is was =
+-- a call that is no device step
+pub makes_single : (b : Bool) (old new : Front) → Makes b old new → ExecutesBehind old → StaysSingle 0 old new
+makes_single b old new (makes.Same is) was = record {
+  executes = subst ExecutesBehind (sym is) was;
+  left = same_left (steps_left new.adapter.controller.phase) (steps_left old.adapter.controller.phase) (ap (λ (front : Front). steps_left front.adapter.controller.phase) is);
+  formats = λ was. ap (λ (front : Front). formats front.adapter.controller.phase) is ∙ was;
+}
+makes_single b old new (makes.Takes byte takes) was = phase_left old new (front_takes old byte new was.through takes).1.phase (takes_executes old byte new takes was)
+makes_single b old new (makes.Gives byte given gives) was = gives_single byte old given new gives was
+makes_single b old new (makes.Counts is) was =
     let at : new ≡ record old { adapter = told_if true old.adapter } = subst (λ stage. new ≡ front_told stage old) was.through is in
     record {
       executes = counts_executes old new is was;
@@ -158,13 +151,6 @@ counts_single old new is was =
           (ap (λ (front : Front). steps_left front.adapter.controller.phase) at ∙ told_left old.adapter.controller.phase);
       formats = λ formatted. ap (λ (front : Front). formats front.adapter.controller.phase) at ∙ told_formats old.adapter.controller.phase formatted;
     }
-
--- a call that is no device step
-pub makes_single : (b : Bool) (old new : Front) → Makes b old new → ExecutesBehind old → StaysSingle 0 old new
-makes_single b old new (makes.Same is) was = same_single old new is was
-makes_single b old new (makes.Takes byte takes) was = takes_single old byte new takes was
-makes_single b old new (makes.Gives byte given gives) was = gives_single byte old given new gives was
-makes_single b old new (makes.Counts is) was = counts_single old new is was
 makes_single b old new (makes.Writes port value writes no_data quiet) was =
     phase_left old new (front_left port value old new writes no_data quiet).phase (port_executes port value old new writes no_data quiet was)
 makes_single b old new (makes.Changes changes keeps) was = phase_left old new (ap (λ (fdc : Fdc). fdc.phase) keeps.controller) (keeps_executes old new keeps was)

@@ -1,6 +1,6 @@
 -- An implied seek ends: each device step brings it nearer.
-use Rattle.std.proofs.Common.{◌≡◌, inl, inr, ℕ, ◌+◌, ◌-◌, ◌≤◌, nat_lt, Bool, true, false, not, ◌||◌, ◌==◌, if◌then◌else◌, Option, Some, None, refl, sym, ◌∙◌, ap, subst, arith}
-use Rattle.laws_chip.proofs.Common.{ForSome, false≢true, not-true, or_parts, nat_tests, IsMotion, Seeks, ended, has_ended, has_ended_seek, is_seeking, neighbour, recalibrated, sought, stepped_seek, with_motion, with_polls, Motion, Phase, Execute, is_executing, RestsIn, polled, seek_stepped, Fdc, AdapterState, StepsAdapter, selected_at, commands_stepped as stepped, DriveSeek as Seek}
+use Rattle.std.proofs.Common.{◌≡◌, ℕ, ◌+◌, ◌-◌, ◌≤◌, nat_lt, Bool, true, false, not, ◌||◌, ◌==◌, if◌then◌else◌, Option, Some, None, refl, sym, ◌∙◌, ap, subst, arith}
+use Rattle.laws_chip.proofs.Common.{ForSome, false≢true, not-true, nat_tests, IsMotion, Seeks, ended, has_ended, has_ended_seek, is_seeking, neighbour, recalibrated, sought, stepped_seek, with_motion, Motion, Phase, Execute, is_executing, RestsIn, polled, seek_stepped, Fdc, AdapterState, StepsAdapter, commands_stepped as stepped, DriveSeek as Seek}
 use Rattle.fdc_commands.specs.declared.motion.Motion.TheVariants as motion
 use Rattle.laws_chip.proofs.Known.{by_rests, polled_by}
 

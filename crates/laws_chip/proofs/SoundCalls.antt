@@ -255,15 +255,6 @@ port_write false port value old new quiet no_data sound out writes rest =
       seek = subst (λ (seeks : Seeking). IsOfFour seeks.seek) (sym left.seeks) was.seek;
     }
 
-writes_sound : (port value : ℕ) (old new : ChipState) → value < 256 → IsSound old → WritesChip port value old new → IsSound new
-writes_sound port value old new few sound writes = either_way (port == 0x3F5)
-    (λ here. data_write old.stage value old new refl few sound (writes.bytes (eqb-true port 0x3F5 here)))
-    (λ no_data.
-    let (front, rest) = writes.others no_data in
-    let given = value_behind port value in
-    port_write (resets port given) port given (latched_by port value old) new refl no_data (sound_set old (latched_by port value old) sound)
-    (port_lets_out port value (lines_at old.front.adapter) old.front.adapter.controller new.front.adapter.controller few (front.others no_data).0.writes no_data sound.lets_out) front rest)
-
 -- ---- media
 
 rests_kept : (old new : Front) → KeepsFront old new → RestsBehind old → RestsBehind new
@@ -273,14 +264,6 @@ rests_kept old new keeps was = record {
   seek = subst (λ (fdc : Fdc). IsOfFour fdc.seeks.seek) (sym keeps.controller) was.seek;
 }
 
-changes_sound : (old new : ChipState) → KeepsChip old new → IsSound old → IsSound new
-changes_sound old new keeps sound =
-    let controller = keeps.front.controller in
-    stays_sound old new sound
-    (record { dor = ap (λ (fdc : Fdc). fdc.dor) controller; non_dma = ap (λ (fdc : Fdc). fdc.non_dma) controller; command = ap (λ (fdc : Fdc). fdc.command) controller ∙ sound.whole })
-    (ap (λ (chip : ChipState). chip.stage) keeps.rest) (ap (λ (chip : ChipState). chip.count) keeps.rest) (ap (λ (chip : ChipState). chip.order) keeps.rest)
-    (keep_sound old.stage old.front new.front (rests_kept old.front new.front keeps.front) (λ what. keeps_busy what old.front new.front keeps.front) sound.now)
-
 -- ---- all calls
 
 pub call_sound : (call : Call) (old new : ChipState) → Does call old new → WritesByte call → IsSound old → IsSound new
@@ -289,8 +272,19 @@ call_sound (made.Takes byte) old new does few sound = takes_sound (passes_by_cha
 call_sound (made.Gives byte was) old new does few sound = gives_sound (passes_by_channel old) byte was old new refl sound does
 call_sound made.Counts old new does few sound = counts_at old.stage old new refl sound does
 call_sound (made.Reads port value) old new does few sound = reads_sound port value old new sound does
-call_sound (made.Writes port value) old new does few sound = writes_sound port value old new few sound does
-call_sound made.Changes old new does few sound = changes_sound old new does sound
+call_sound (made.Writes port value) old new does few sound = either_way (port == 0x3F5)
+    (λ here. data_write old.stage value old new refl few sound (does.bytes (eqb-true port 0x3F5 here)))
+    (λ no_data.
+    let (front, rest) = does.others no_data in
+    let given = value_behind port value in
+    port_write (resets port given) port given (latched_by port value old) new refl no_data (sound_set old (latched_by port value old) sound)
+    (port_lets_out port value (lines_at old.front.adapter) old.front.adapter.controller new.front.adapter.controller few (front.others no_data).0.writes no_data sound.lets_out) front rest)
+call_sound made.Changes old new does few sound =
+    let controller = does.front.controller in
+    stays_sound old new sound
+    (record { dor = ap (λ (fdc : Fdc). fdc.dor) controller; non_dma = ap (λ (fdc : Fdc). fdc.non_dma) controller; command = ap (λ (fdc : Fdc). fdc.command) controller ∙ sound.whole })
+    (ap (λ (chip : ChipState). chip.stage) does.rest) (ap (λ (chip : ChipState). chip.count) does.rest) (ap (λ (chip : ChipState). chip.order) does.rest)
+    (keep_sound old.stage old.front new.front (rests_kept old.front new.front does.front) (λ what. keeps_busy what old.front new.front does.front) sound.now)
 call_sound (made.Straps on) old new does few sound = subst IsSound (sym does) (sound_set old (record old { strapped = on }) sound)
 call_sound (made.StrapsSteps on) old new does few sound = subst IsSound (sym does) (sound_set old (record old { paced = on }) sound)
 

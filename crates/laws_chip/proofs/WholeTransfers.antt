@@ -1,6 +1,6 @@
 -- The last byte of a command: the inner controller is free for it, and it begins; or it is held until heads stand.
 use Rattle.std.proofs.Common.{if◌then◌else◌, ◌≡◌, ℕ, zero, suc, ◌+◌, ◌%◌, ◌<◌, nat_le, Bool, true, false, not, ◌||◌, ◌==◌, Option, Some, None, is_some, refl, sym, ◌∙◌, ap, subst}
-use Rattle.laws_chip.proofs.Common.{and_from, and_right, eqb-true, false≢true, or_parts, Front, is_ready, pending_outside, sensed_outside, ChipState, passes_by_channel, passes_by_port, with_front, code_of, parameters, Attends, AttendsIf, AttendsTo, drained, implies, is_moving, is_size, is_told, kept, moves_heads, needs_heads, transfer_sent, with_result, Paces, CollectsIf, ComesIf, GivesChipIf, GivesIf, ReadsAt, ReadsIf, TakesByte, TakesIf, WritesChip, latched_by, given_one, is_whole, may_come, reset_if, with_next, Follows, StepsChip, ChipOpcode, Specify, SenseInterrupt, DumpRegisters, Version, Perpendicular, Lock, Order, Ready, Held, BeginsUnless, Completes, CompletesTransfer, IsBegun, IsDoneFree, IsFreeBehind, IsHeldFor, IsTransferOf, completed, still_moves, Call, Does, is_of_data_port, is_reset, is_step, waits_for_heads, IsSound, RestsBehind, chip_count_told as count_told, TransferCode as Transfer}
+use Rattle.laws_chip.proofs.Common.{and_from, and_right, false≢true, or_parts, Front, is_ready, pending_outside, sensed_outside, ChipState, with_front, code_of, parameters, Attends, AttendsIf, AttendsTo, drained, implies, is_moving, is_size, is_told, kept, moves_heads, needs_heads, transfer_sent, with_result, Paces, CollectsIf, ComesIf, TakesByte, WritesChip, is_whole, may_come, with_next, Follows, StepsChip, ChipOpcode, Specify, SenseInterrupt, DumpRegisters, Version, Perpendicular, Lock, Order, Ready, Held, BeginsUnless, Completes, CompletesTransfer, IsBegun, IsDoneFree, IsFreeBehind, IsHeldFor, IsTransferOf, completed, still_moves, Call, Does, is_of_data_port, is_reset, is_step, waits_for_heads, IsSound, RestsBehind, TransferCode as Transfer}
 use Rattle.fdc_chip.specs.Doing.{drained_by}
 use Rattle.laws_chip.specs.Calls as made
 use Rattle.laws_chip.proofs.Attended.{free_stands}

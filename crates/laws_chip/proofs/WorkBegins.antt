@@ -1,6 +1,6 @@
 -- A command begins in an inner controller that is free: so many device steps at most are left of it.
 use Rattle.std.proofs.Common.{◌≡◌, inl, inr, ℕ, ◌+◌, ◌*◌, ◌≤◌, Bool, true, false, ◌&&◌, Some, [], refl, ◌∙◌, ap, subst, arith}
-use Rattle.laws_chip.proofs.Common.{and_parts, false≢true, Chrn, Numbers, BeginsData, Fdc, GivesCommand, size_of, FrontStage, Through, Seeking, Moving, Telling, Transfer, HasByteNumbers, HasByteRecords, is_under_way, most_steps, sectors_from, ServesAt, nothing_moved, ChipState, code_of, FormatsIf, Obeys, Refuses, TransfersIf, absent_key, formatting, identifying, implies, is_size, no_key, reading_one, sectors_of_track, sectors_verified, track_begun, transfer_sent, verifying, with_keys, with_last, ChipOpcode, Order, BeginsBehind, IsDoneFree, IsFreeBehind, IsWorking, most_steps_of, sectors_of, most_track_steps, IsSound}
+use Rattle.laws_chip.proofs.Common.{and_parts, false≢true, Chrn, Numbers, BeginsData, Fdc, GivesCommand, size_of, Transfer, is_under_way, most_steps, ChipState, code_of, FormatsIf, Obeys, Refuses, TransfersIf, absent_key, formatting, identifying, implies, is_size, no_key, reading_one, sectors_of_track, sectors_verified, track_begun, transfer_sent, verifying, with_keys, with_last, ChipOpcode, Order, BeginsBehind, IsDoneFree, IsFreeBehind, IsWorking, most_steps_of, sectors_of, most_track_steps, IsSound}
 use Rattle.fdc_commands.specs.declared.command.Command.TheVariants as command
 use Rattle.laws_chip.proofs.Lasted.{begun_records, first_lasts}
 use Rattle.fdc_chip.specs.declared.code.ChipOpcode.TheVariants as code
@@ -57,11 +57,6 @@ format_begins true mfm old new stands is begins =
       });
     }
 format_begins false mfm old new stands is begins = refused_begins no_key mfm old new stands begins
-
-format_starts : (mfm : Bool) (old new : ChipState) → IsFreeBehind old.front → Obeys (code.FormatTrack mfm) old new → BusyLeft 65536 new
-format_starts mfm old new free obeys =
-    let set = with_keys old.order.key.h (with_last old.order.key.h old) in
-    format_begins (mfm && is_size old.order.key.c) mfm set new (stands_free old.front free) refl obeys
 
 -- ---- ---- a command of sectors
 
@@ -127,7 +122,9 @@ is_data _ = false
 starts : (found : ChipOpcode) (old new : ChipState) → is_data found ≡ true → IsSound new → code_of old.order.code ≡ Some found → IsFreeBehind old.front → Obeys found old new → IsWorking new
     → BusyLeft (most_steps_of found old.order) new
 starts (code.ReadId mfm) old new kind sound is free obeys working = id_starts mfm old new sound is free obeys
-starts (code.FormatTrack mfm) old new kind sound is free obeys working = format_starts mfm old new free obeys
+starts (code.FormatTrack mfm) old new kind sound is free obeys working =
+    let set = with_keys old.order.key.h (with_last old.order.key.h old) in
+    format_begins (mfm && is_size old.order.key.c) mfm set new (stands_free old.front free) refl obeys
 starts (code.Transfer mfm) old new kind sound is free obeys working = transfer_starts mfm old new free obeys working
 starts (code.Verify mfm) old new kind sound is free obeys working = verify_starts mfm old new free obeys working
 starts (code.ReadTrack mfm) old new kind sound is free obeys working = track_starts mfm old new free obeys working

@@ -1,6 +1,6 @@
 -- A command that was given ends: it waits for heads, if it is held, and each of its device steps leaves fewer.
-use Rattle.std.proofs.Common.{◌≡◌, ◌⊎◌, inl, inr, ℕ, zero, suc, ◌+◌, ◌-◌, ◌<◌, ◌≤◌, true, false, not, ◌&&◌, ◌==◌, Option, Some, List, [], ◌∷◌, refl, sym, ◌∙◌, ap, subst, arith}
-use Rattle.laws_chip.proofs.Common.{and_left, and_right, eqb-true, false≢true, ChipState, passes, passes_at, passes_by_port, code_of, implies, needs_heads, is_format, GivesIf, ReadsAt, ReadsIf, TakesByte, is_by_port, ChipOpcode, Order, Held, IsHeldFor, completed, still_moves, AreWorking, IsGiven, HeadsMove, IsWorking, WaitsFor, heads_of, most_steps_of, Call, Does, is_reset, is_step, steps_in, steps_of, HeadsPaced, is_of_data_port, HeadsGo, IsSoundInRange, most_of, IsSound}
+use Rattle.std.proofs.Common.{◌≡◌, ◌⊎◌, inl, inr, ℕ, zero, suc, ◌+◌, ◌-◌, ◌<◌, ◌≤◌, true, false, ◌&&◌, ◌==◌, Option, Some, List, [], ◌∷◌, refl, sym, ◌∙◌, subst, arith}
+use Rattle.laws_chip.proofs.Common.{false≢true, ChipState, code_of, implies, needs_heads, ChipOpcode, Order, Held, IsHeldFor, completed, still_moves, AreWorking, IsGiven, HeadsMove, IsWorking, WaitsFor, heads_of, most_steps_of, Call, Does, is_reset, is_step, steps_in, steps_of, HeadsPaced, is_of_data_port, HeadsGo, IsSoundInRange, most_of, IsSound}
 use Rattle.laws_chip.specs.Bounds as bounds
 use Rattle.laws_chip.specs.Calls as made
 use Rattle.laws_chip.proofs.BusyLeft.{BusyLeft, call_left, left_positive, more_left}

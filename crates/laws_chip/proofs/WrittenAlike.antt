@@ -1,6 +1,6 @@
 -- Whatever history the calls gather, the sectors are the same, and so are the bytes that were taken of each.
 use Rattle.std.proofs.Common.{◌≡◌, inl, inr, ℕ, suc, ◌-◌, ◌==◌, Bool, true, false, Option, Some, None, List, [], ◌∷◌, ◌++◌, length, refl, sym, ◌∙◌, ap, subst}
-use Rattle.laws_chip.proofs.Common.{Disk, Results, has_ended_seek, Past, Ending, Done, gave, told_in, IsContent, took, WordTime, after_time, ending_told, mark_of, Fdc, Front, goes_on, is_unwanted, judged_if, MovingSector, FrontStage, Seeking, Moving, Transfer, AreWithin, Counts, Gather, Gives, Grows, Steps, Takes, History, Part, history_counted, history_ended, history_given, history_moved, history_sought, history_stepped, history_taken, sector_after, AreWritten, HasWindow, IsDone, IsWrittenTo, MediumPlace as Place, SectorCallsCall as Call, SectorCallsDoes as Does, WrittenIsBegun as IsBegun}
+use Rattle.laws_chip.proofs.Common.{Disk, Results, has_ended_seek, Past, Ending, Done, gave, told_in, IsContent, took, WordTime, after_time, ending_told, mark_of, Fdc, Front, goes_on, judged_if, MovingSector, FrontStage, Seeking, Moving, Transfer, AreWithin, Counts, Gather, Gives, Grows, Steps, Takes, History, Part, history_counted, history_ended, history_given, history_moved, history_sought, history_stepped, history_taken, sector_after, AreWritten, HasWindow, IsDone, IsWrittenTo, MediumPlace as Place, SectorCallsCall as Call, SectorCallsDoes as Does, WrittenIsBegun as IsBegun}
 use Rattle.laws_chip.proofs.Known.{time_counted, time_taken}
 
 -- the same sectors, and the same bytes were taken of each
