@@ -7,7 +7,7 @@ pub use Rattle.std.proofs.lemmas.List.{append-nil, ext_get_or, flat_map_more, ge
 pub use Rattle.std.specs.Option.{ForSome, option_map, option_map_or}
 pub use Rattle.drive_model.specs.Drive.{Becomes, DriveState, at_index, is_protected, rate_of}
 pub use Rattle.fdc_chip.specs.Answers.{answer_bytes, is_of_data}
-pub use Rattle.fdc_chip.specs.Chips.{ChipState, IsNewChip, KeepsChip, KeepsRest, asks_chip, interrupts_chip, is_data, passes, passes_at, passes_by_channel, passes_by_port, shows_behind, with_front}
+pub use Rattle.fdc_chip.specs.Chips.{ChipState, IsNewChip, KeepsRest, asks_chip, interrupts_chip, is_data, passes, passes_at, passes_by_channel, passes_by_port, shows_behind, with_front}
 pub use Rattle.fdc_chip.specs.Codes.{code_of, parameters}
 pub use Rattle.fdc_chip.specs.Doing.{Attends, AttendsIf, AttendsTo, Begins, BeginsReadId, FormatsIf, GivesOn, Moves, MovesIf, Obeys, Opens, Refuses, RemembersIf, Transfers, TransfersIf, absent_key, begun, configured, configured as chip_configured, configuring, drained, drained_by, drained_one, formatting, identifying, implies, is_moving, is_size, is_told, kept, moves_heads, moving, needs_heads, no_key, pace_begun, reading_one, ready, relative_target, sectors_of_track, sectors_verified, sensing, sought_if, track_begun, transfer_sent, verifying, with_keys, with_last}
 pub use Rattle.fdc_chip.specs.Ending.{Ends, EndsAddress, EndsAddressIf, EndsAs, EndsAt, EndsData, EndsIndex, EndsSent, LooksOn, MayEnd, ReadsOn, as_done, cylinder_bits, done_if, fits_selected, has_key, has_room, is_not_found, is_over, judged, looks_for_cylinder, met_key, results_judged, says_cut, sector_met, told_results, track_at, unit_of, verified, with_cylinder_passed, without_one}

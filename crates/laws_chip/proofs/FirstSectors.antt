@@ -1,7 +1,7 @@
 -- A sector of a command of several sectors begins, or the seek before it: what the beginning leaves of the inner
 -- controller. The sequencer serves a command that it is given.
 use Rattle.std.proofs.Common.{◌≡◌, ℕ, nat_le, Bool, true, false, ◌&&◌, if◌then◌else◌, [], refl, sym, ◌∙◌, ap, subst}
-use Rattle.laws_chip.proofs.Common.{and_from, Chrn, IsSizeCode, Dor, Invalid, Command, ReadData, WriteData, WriteDeleted, BeginsData, TakesAs, seeking, is_taking, is_gated, is_held, TakesWhole, is_idle, Fdc, Lines, AdapterState, lines_at, BeginsSector, Front, GivesTransfer, SeeksFirst, Starts, StartsIf, begun_if, moving_of, told_if, command_for, Operation, Read, Write, FrontStage, Through, Moving, Seeking, Transfer, is_under_way, IsFree, is_size, BeginsBehind, WaitsForHeads, ReadyCommand as Ready, FdcObeys as Obeys, FrontTransfersIf as TransfersIf, SectorCallsBegins as Begins}
+use Rattle.laws_chip.proofs.Common.{and_from, Chrn, IsSizeCode, Dor, Invalid, Command, ReadData, WriteData, WriteDeleted, BeginsData, TakesAs, seeking, is_taking, is_gated, is_held, TakesWhole, is_idle, Fdc, Lines, AdapterState, lines_at, BeginsSector, Front, GivesTransfer, Starts, StartsIf, begun_if, moving_of, told_if, command_for, Operation, Read, Write, FrontStage, Through, Moving, Seeking, Transfer, is_under_way, IsFree, is_size, BeginsBehind, WaitsForHeads, ReadyCommand as Ready, FdcObeys as Obeys, FrontTransfersIf as TransfersIf, SectorCallsBegins as Begins}
 use Rattle.laws_chip.proofs.Free.{free_executes, is_in}
 use Rattle.laws_chip.proofs.Started.{in_range}
 use Rattle.laws_chip.proofs.Whole.{begins_served}

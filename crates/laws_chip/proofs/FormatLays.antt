@@ -1,6 +1,6 @@
 -- FORMAT TRACK over a medium at speed: the sector IDs that were given are laid.
 use Rattle.std.proofs.Common.{◌≡◌, inl, inr, ℕ, zero, suc, ◌+◌, ◌%◌, ◌≤◌, Bool, true, false, not, ◌&&◌, ◌==◌, if◌then◌else◌, Option, Some, None, List, [], ◌∷◌, ◌++◌, length, refl, sym, ◌∙◌, ap, subst, arith, length-append, append-nil, append_assoc}
-use Rattle.laws_chip.proofs.Common.{and_parts, eqb-true, false≢true, IsDisk, DriveState, is_protected, rate_of, Dor, Fifo, emptied, IsAtPart, Numbers, is_first, is_next, Past, new_past, heard, kept_out, wrote, FormatNext, stepped, told_in, head_of, is_reading, rate_fits, IsFormattingOn, MayFormatIn, MayFormatTask, took, Phase, Taking, Execute, Result, Task, DataRate, Formatting, BeginsData, taken_in, to_memory_of, told_count, Outset, IsTurningIn, IsAtDrive, FormatDoes, after_laid, is_executing, asks, is_gated, polled, IsHeardTime, IsTime, KeptOut, Saw, Stopped, WordTime, Wrote, after_time, WritesIn, WritesTask, MayFormat, Fdc, in_formats, told_formats, format_tells, lays_track, drive_less, kept_on, saw_on, still_unprotected, stopped_on, wrote_on, AdapterState, StepsAdapter, drive_at, selected_at, Front, GivesAt, GivesFront, TakesAt, TakesFront, told_front, told_if, with_controller, GivesCommand, StepsFront, Through, ChipState, passes_by_channel, passes_by_port, with_front, FormatsIf, Obeys, is_size, with_keys, with_last, GivesChipIf, GivesIf, ReadsAt, ReadsIf, TakesByte, TakesIf, StepsChip, Busy, passed_in, IsFreeBehind, Call, Does, AreAt, ExecutesBehind, IsSound, executes_single, SentTask as Sent, CommandFormatTrack as FormatTrack}
+use Rattle.laws_chip.proofs.Common.{and_parts, eqb-true, false≢true, IsDisk, DriveState, is_protected, rate_of, Dor, Fifo, emptied, IsAtPart, Numbers, is_first, is_next, Past, new_past, heard, kept_out, wrote, FormatNext, stepped, told_in, head_of, is_reading, rate_fits, IsFormattingOn, MayFormatIn, MayFormatTask, took, Phase, Taking, Execute, Result, Task, Formatting, BeginsData, taken_in, to_memory_of, told_count, Outset, IsTurningIn, IsAtDrive, FormatDoes, after_laid, is_executing, asks, is_gated, polled, IsHeardTime, IsTime, KeptOut, Saw, Stopped, WordTime, Wrote, after_time, WritesIn, WritesTask, MayFormat, Fdc, in_formats, told_formats, format_tells, lays_track, drive_less, kept_on, saw_on, still_unprotected, stopped_on, wrote_on, AdapterState, StepsAdapter, drive_at, selected_at, Front, GivesAt, GivesFront, TakesAt, TakesFront, told_front, told_if, with_controller, GivesCommand, StepsFront, Through, ChipState, passes_by_channel, passes_by_port, with_front, FormatsIf, Obeys, is_size, with_keys, with_last, GivesChipIf, GivesIf, ReadsAt, ReadsIf, TakesByte, TakesIf, StepsChip, Busy, passed_in, IsFreeBehind, Call, Does, AreAt, ExecutesBehind, IsSound, executes_single, SentTask as Sent, CommandFormatTrack as FormatTrack}
 use Rattle.fdc_stages.specs.declared.formatting.FormatNext.TheVariants as next
 use Rattle.fdc_stages.specs.declared.formatting.FormatPart.{FormatPart}
 use Rattle.fdc_stages.specs.declared.formatting.FormatPart.TheVariants.{Await, Due, Lay, Barred}
@@ -138,10 +138,6 @@ record Stepped (outset : Outset) (unit : ℕ) (numbers : Numbers) (given : List 
   taken : past.taken ≡ given
   at : IsAtDrive outset past (is_executing new.phase) drive
 
-time_here : (outset : Outset) (unit head_drive : ℕ) (rate : DataRate) (time : WordTime) (drive after : DriveState) → head_drive ≡ unit → outset.head ≡ head_of unit → rate ≡ outset.rate
-    → IsTime time rate (head_of head_drive) drive after → IsTime time outset.rate outset.head drive after
-time_here outset unit head_drive rate time drive after head under same is = grind (arith, head_of)
-
 phase_steps : (outset : Outset) (unit : ℕ) (numbers : Numbers) (given : List ℕ) (past : Past) (phase : Phase) (asking : Bool) (fifo : Fifo) (polls new : Fdc) (before after : DriveState) → IsDisk outset.disk → outset.head ≡ head_of unit
     → polls.rate ≡ outset.rate → is_executing phase ≡ true → past.taken ≡ given → MayFormatIn past unit numbers phase asking fifo → IsAtDrive outset past true before → WritesIn phase asking fifo polls before after new
     → Stepped outset unit numbers given new after
@@ -160,7 +156,7 @@ phase_steps outset unit numbers given past (Execute execution) asking fifo polls
           known = may;
           taken = time_taken does.time past ∙ taken;
           at = by_time outset unit numbers past before after polls new execution.steps formatting fifo.bytes handed valid at execution.head_drive on does.time
-              (time_here outset unit execution.head_drive polls.rate does.time before after on.sent_is head rate does.is) does.does writes.step.guards may;
+              (grind (arith, head_of)) does.does writes.step.guards may;
         }
     by_task _ known writes = absurd known
 

@@ -1,7 +1,7 @@
 -- Where no command is executed and no answer is given, a call leaves the heads and all results as they are, unless it is a
 -- device step, a reset or an access of the data port.
-use Rattle.std.proofs.Common.{◌≡◌, ℕ, true, false, not, ◌&&◌, ◌==◌, refl, sym, ◌∙◌, ap, subst}
-use Rattle.laws_chip.proofs.Common.{and_left, and_right, eqb-true, false≢true, resets, is_held, Fdc, ChipState, passes, passes_at, passes_by_channel, passes_by_port, with_front, is_format, GivesChipIf, GivesIf, ReadsAt, ReadsIf, TakesByte, TakesIf, WritesChip, latched_by, reset_if, value_behind, is_by_port, ChipStage, Busy, Held, Call, Does, is_reset, is_step, is_of_data_port, waits_for_heads, chip_count_told as count_told}
+use Rattle.std.proofs.Common.{◌≡◌, true, false, not, ◌&&◌, ◌==◌, refl, sym, ◌∙◌, ap, subst}
+use Rattle.laws_chip.proofs.Common.{and_left, and_right, eqb-true, false≢true, is_held, Fdc, ChipState, passes, passes_at, passes_by_channel, passes_by_port, with_front, is_format, GivesChipIf, GivesIf, ReadsAt, ReadsIf, TakesByte, TakesIf, latched_by, reset_if, value_behind, is_by_port, ChipStage, Busy, Held, Call, Does, is_reset, is_step, is_of_data_port, waits_for_heads, chip_count_told as count_told}
 use Rattle.laws_chip.specs.Calls as made
 use Rattle.laws_chip.proofs.Channels.{IsLeft, front_left}
 use Rattle.laws_chip.proofs.PassedOn.{other_read}

@@ -1,6 +1,6 @@
 -- A transfer whose bytes pass in time: no byte finds the FIFO full, or is missing.
 use Rattle.std.proofs.Common.{◌≡◌, ◌⊎◌, inl, inr, ℕ, ◌+◌, ◌-◌, ◌<◌, ◌≤◌, nat_lt, nat_le, max, Bool, true, false, not, ◌&&◌, ◌||◌, ◌==◌, if◌then◌else◌, Option, Some, None, List, [], ◌∷◌, length, bit_and, refl, sym, ◌∙◌, ap, subst, arith}
-use Rattle.laws_chip.proofs.Common.{eqb-true, false≢true, nat_tests, Chrn, IsSizeCode, DriveState, Fifo, emptied, low_level, room_of, wants, worth_fetching, overrun, has_ended_seek, seek_bits, Invalid, Command, ReadData, WriteData, WriteDeleted, Results, Past, Ending, Done, BadCheck, Overrun, NoCount, IsReadingData, phase_asks, phase_told, task_asks, task_told, MayReadIn, Sent, ending_of_phase, is_overrun, is_read, is_reading, moves_bytes, overran, MayWriteIn, Long, Short, Phase, Execute, Result, Task, BeginsData, TakesAs, answered, Works, asking_told, fifo_told, told_count, is_executing, resets, asks, is_gated, FlowsIn, TakesWhole, ending_told, given_up, mark_of, without_seek, Fdc, Lines, AdapterState, StepsAdapter, lines_at, selected_at, st1_of, BeginsSector, Front, StartsIf, WritesFront, asks_at, asks_outside, begun_if, count_told, moving_of, passed_one, told_if, with_controller, EndsIf, EndsSector, FollowsStep, MovesOn, SeeksOn, StepsFront, goes_on, has_failed_other, has_met_other, is_unwanted, judged_if, passed_over_if, results_behind, results_failed, would_go_on, command_for, next_of, results_told, Operation, Read, Write, MovingSector, FrontStage, Through, Seeking, Moving, Telling, Transfer, ChipState, asks_chip, interrupts_chip, passes_by_channel, passes_by_port, shows_behind, StepsChip, SentTask, is_under_way, MayMove, ServesAt, sent_of, IsBegun, Call, Does, IsServing, IsSound, ServesBehind, has_command, ReadyCommand as Ready, FdcObeys as Obeys, phases_is_moving as is_moving, phases_is_over as is_over, front_judged as judged}
+use Rattle.laws_chip.proofs.Common.{eqb-true, false≢true, nat_tests, Chrn, IsSizeCode, DriveState, Fifo, emptied, low_level, room_of, wants, worth_fetching, overrun, has_ended_seek, seek_bits, Invalid, Command, ReadData, WriteData, WriteDeleted, Results, Past, Ending, Done, BadCheck, Overrun, NoCount, IsReadingData, phase_asks, phase_told, task_asks, task_told, MayReadIn, Sent, ending_of_phase, is_overrun, is_read, is_reading, moves_bytes, overran, MayWriteIn, Long, Short, Phase, Execute, Result, Task, BeginsData, TakesAs, answered, Works, asking_told, fifo_told, told_count, is_executing, asks, is_gated, FlowsIn, TakesWhole, ending_told, given_up, mark_of, without_seek, Fdc, Lines, AdapterState, StepsAdapter, lines_at, selected_at, st1_of, BeginsSector, Front, StartsIf, asks_at, asks_outside, begun_if, count_told, moving_of, passed_one, told_if, with_controller, EndsIf, EndsSector, FollowsStep, MovesOn, SeeksOn, StepsFront, goes_on, has_failed_other, has_met_other, is_unwanted, judged_if, passed_over_if, results_behind, results_failed, would_go_on, command_for, next_of, results_told, Operation, Read, Write, MovingSector, FrontStage, Through, Seeking, Moving, Telling, Transfer, ChipState, asks_chip, interrupts_chip, passes_by_channel, passes_by_port, shows_behind, StepsChip, SentTask, is_under_way, MayMove, ServesAt, sent_of, IsBegun, Call, Does, IsServing, IsSound, ServesBehind, has_command, ReadyCommand as Ready, FdcObeys as Obeys, phases_is_moving as is_moving, phases_is_over as is_over, front_judged as judged}
 use Rattle.fdc_phases.specs.Waiting.{PhaseWaits, TaskWaits, phase_counted, task_counted}
 use Rattle.fdc_phases.specs.declared.answers.Answer.{Answer}
 use Rattle.fdc_phases.specs.declared.phases.Task.TheVariants as task

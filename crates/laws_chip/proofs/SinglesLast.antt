@@ -1,6 +1,6 @@
 -- A READ ID or a FORMAT TRACK of the inner controller ends: each device step leaves fewer.
-use Rattle.std.proofs.Common.{◌≡◌, inl, inr, ℕ, ◌+◌, ◌-◌, ◌<◌, ◌≤◌, Bool, true, false, not, ◌&&◌, ◌==◌, Option, option_map, List, [], ◌∷◌, bit_and, refl, sym, ◌∙◌, ap, subst, arith}
-use Rattle.laws_chip.proofs.Common.{eqb-false, false≢true, missing_mark, Results, phase_told, Phase, Execute, IsCounted, Fdc, Front, GivesFront, TakesFront, front_told, told_front, told_if, results_taken, StepsFront, ChipState, with_front, is_size, Ends, EndsAddress, EndsAddressIf, EndsAt, EndsAs, EndsData, EndsIndex, EndsSent, MayEnd, is_over, judged, looks_for_cylinder, verified, without_one, Follows, FollowsTask, Place, Index, Address, Data, ChipStage, Busy, ChipTask, Track, Call, Does, steps_in, steps_of, AreAt, ExecutesBehind, IsSound, executes_single, has_command, core_steps_left as steps_left}
+use Rattle.std.proofs.Common.{◌≡◌, inl, inr, ℕ, ◌+◌, ◌-◌, ◌<◌, ◌≤◌, Bool, true, false, not, ◌&&◌, ◌==◌, option_map, List, [], ◌∷◌, bit_and, refl, sym, ◌∙◌, ap, subst, arith}
+use Rattle.laws_chip.proofs.Common.{eqb-false, false≢true, missing_mark, Results, phase_told, Phase, Execute, IsCounted, Fdc, Front, GivesFront, front_told, told_if, results_taken, StepsFront, ChipState, with_front, is_size, Ends, EndsAddress, EndsAddressIf, EndsAt, EndsAs, EndsData, EndsIndex, EndsSent, is_over, judged, looks_for_cylinder, verified, without_one, Follows, FollowsTask, Place, Index, Address, Data, ChipStage, Busy, ChipTask, Track, Call, Does, steps_in, steps_of, AreAt, ExecutesBehind, IsSound, executes_single, has_command, core_steps_left as steps_left}
 use Rattle.fdc_chip.specs.declared.stage.ChipTask.TheVariants as task
 use Rattle.laws_chip.specs.Calls as made
 use Rattle.laws_chip.proofs.Channels.{counts_executes, front_gives, front_takes, gives_executes, keeps_executes, port_executes, front_left, takes_executes}

@@ -1,7 +1,7 @@
 -- A VERIFY is a READ DATA of the sequencer, whose bytes go nowhere, and it ends as that READ DATA does. So does a
 -- transfer.
 use Rattle.std.proofs.Common.{◌≡◌, ℕ, zero, suc, ◌+◌, ◌*◌, ◌<◌, Bool, true, false, ◌==◌, if◌then◌else◌, Option, Some, None, List, [], ◌∷◌, ◌++◌, refl, sym, ◌∙◌, ap, subst}
-use Rattle.laws_chip.proofs.Common.{false≢true, Results, IsInRange, Front, GivesTransfer, TakesAt, front_told, told_front, results_taken, size_of, FrontStage, Through, Seeking, Moving, Telling, Transfer, HasByteNumbers, is_under_way, most_steps, ChipState, with_front, Obeys, TransfersIf, implies, is_size, sectors_verified, transfer_sent, verifying, with_last, EndsAs, EndsSent, looks_for_cylinder, results_judged, verified, Follows, StepsChip, Swallows, SwallowsAs, VerifyCode, ChipStage, Busy, BeginsBehind, IsBegun, IsFreeBehind, AreServed, Call, Does, steps_in, steps_of, AreVerified, IsVerifying, has_command}
+use Rattle.laws_chip.proofs.Common.{false≢true, Results, IsInRange, Front, GivesTransfer, TakesAt, front_told, told_front, results_taken, size_of, FrontStage, Through, Seeking, Moving, Telling, Transfer, HasByteNumbers, is_under_way, most_steps, ChipState, with_front, Obeys, TransfersIf, implies, is_size, sectors_verified, transfer_sent, verifying, with_last, EndsAs, EndsSent, looks_for_cylinder, results_judged, verified, Follows, Swallows, SwallowsAs, VerifyCode, ChipStage, Busy, BeginsBehind, IsBegun, IsFreeBehind, AreServed, Call, Does, steps_in, steps_of, AreVerified, IsVerifying, has_command}
 use Rattle.laws_chip.specs.SectorCalls as behind
 use Rattle.laws_chip.specs.SectorLasting as lasting
 use Rattle.laws_chip.proofs.Called.{both_within}
