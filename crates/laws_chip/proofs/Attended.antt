@@ -1,8 +1,7 @@
 -- A whole command of a sound chip: it is done, begun or held, and the chip stays sound.
 use Rattle.std.proofs.Common.{◌≡◌, inl, inr, ℕ, ◌*◌, ◌<◌, ◌%◌, Bool, true, false, ◌&&◌, ◌==◌, if◌then◌else◌, Option, Some, None, [], is_some, bit_and, slice_index, refl, sym, ◌∙◌, ap, subst, arith}
-use Rattle.laws_chip.proofs.Common.{and_parts, or_parts, pulses_within, seek_bits, with_motion, Command, Motion, Outward, Toward, is_idle, Fdc, Front, GivesCommand, GivesTransfer, with_controller, recalibrated_at, recalibrated_outside, size_of, ChipState, KeepsRest, code_of, AttendsIf, AttendsTo, Begins, BeginsReadId, FormatsIf, GivesOn, MovesIf, Obeys, Transfers, TransfersIf, absent_key, configured, configuring, drained, formatting, identifying, implies, is_moving, is_size, moves_heads, moving, needs_heads, no_key, reading_one, ready, relative_target, sectors_verified, track_begun, transfer_sent, verifying, with_keys, with_last, cylinder_of, ChipOpcode, ReadTrack, Recalibrate, ReadId, FormatTrack, Seek, RelativeSeek, Configure, Verify, Order, Ready, ChipTask, IsOfFour, ExecutesBehind, IsBusyWith, IsSound, RestsBehind, ServesBehind}
+use Rattle.laws_chip.proofs.Common.{and_parts, or_parts, pulses_within, seek_bits, with_motion, Command, Motion, Outward, Toward, is_idle, Fdc, Front, GivesCommand, GivesTransfer, with_controller, recalibrated_at, recalibrated_outside, size_of, ChipState, KeepsRest, code_of, AttendsIf, AttendsTo, Begins, BeginsReadId, FormatsIf, GivesOn, MovesIf, Obeys, Transfers, TransfersIf, absent_key, configured, configuring, drained, formatting, identifying, implies, is_moving, is_size, moves_heads, moving, needs_heads, no_key, reading_one, ready, relative_target, sectors_verified, track_begun, transfer_sent, verifying, with_keys, with_last, cylinder_of, ChipOpcode, ReadTrack, Recalibrate, ReadId, FormatTrack, Seek, RelativeSeek, Configure, Verify, Order, Ready, ChipTask, IsOfFour, ExecutesBehind, IsBusyWith, IsSound, RestsBehind, ServesBehind, TransferCode as Transfer}
 use Rattle.fdc_commands.specs.declared.command.Command.TheVariants as command
-use Rattle.fdc_chip.specs.declared.code.ChipOpcode.TheVariants.{Transfer}
 use Rattle.fdc_chip.specs.declared.stage.ChipTask.TheVariants as task
 use Rattle.laws_chip.proofs.CommandsBegun.{IsSent, begins_sent, configured_stands, sought_sent}
 use Rattle.laws_chip.proofs.FirstSectors.{IsBase}
@@ -43,9 +42,6 @@ free_stands chip basis rests stands = record {
   by_dma = basis.by_dma;
 }
 
-few_four : (n : ℕ) → n % 4 < 4
-few_four n = omega arith
-
 -- the heads move, and the chip stays sound
 moved_sound : (old new : ChipState) → IsBasis old → KeepsRest (ready old) new → RestsBehind new.front → IsBase old.front.adapter.controller new.front.adapter.controller → IsSound new
 moved_sound old new basis rest rests base =
@@ -60,7 +56,7 @@ seek_rests command unit motion start new stands obeyed is = (
   record {
     through = obeyed.through;
     takes = ap (λ (fdc : Fdc). fdc.phase) is ∙ stands.takes;
-    seek = subst (λ (fdc : Fdc). IsOfFour fdc.seeks.seek) (sym is) (few_four unit);
+    seek = subst (λ (fdc : Fdc). IsOfFour fdc.seeks.seek) (sym is) (omega arith);
   },
   record { dor = ap (λ (fdc : Fdc). fdc.dor) is; non_dma = ap (λ (fdc : Fdc). fdc.non_dma) is; command = ap (λ (fdc : Fdc). fdc.command) is },
 )
@@ -79,7 +75,7 @@ within_rests : (b : Bool) (unit pulses : ℕ) (front : Front) → Stands front
     → (let fdc = front.adapter.controller in let new = (if b then record fdc { seeks = with_motion fdc.seeks (unit % 4) (Outward (pulses_within pulses)) } else fdc) in
     RestsBehind (record front { adapter = with_controller new front.adapter }) × IsBase fdc new)
 within_rests true unit pulses front stands = (
-  record { through = stands.through; takes = stands.takes; seek = few_four unit },
+  record { through = stands.through; takes = stands.takes; seek = (omega arith) },
   record { dor = refl; non_dma = refl; command = stands.none },
 )
 within_rests false unit pulses front stands =

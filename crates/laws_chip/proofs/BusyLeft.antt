@@ -1,18 +1,17 @@
 -- How many device steps are left of a command that is executed: each call leaves fewer, by the device step that it is.
-use Rattle.std.proofs.Common.{◌≡◌, ◌⊎◌, inl, inr, ℕ, ◌+◌, ◌-◌, ◌*◌, ◌<◌, ◌≤◌, Bool, true, false, not, ◌&&◌, ◌==◌, Option, Some, None, option_map, [], ◌∷◌, bit_and, if◌then◌else◌, refl, sym, ◌∙◌, ap, subst, arith}
-use Rattle.laws_chip.proofs.Common.{and_right, false≢true, Chrn, missing_mark, Results, Front, results_taken, StepsFront, is_under_way, ChipState, with_front, is_size, EndsAddress, EndsAddressIf, EndsAs, EndsAt, EndsData, EndsIndex, EndsSent, MayEnd, as_done, done_if, has_key, has_room, is_not_found, is_over, judged, looks_for_cylinder, results_judged, says_cut, verified, without_one, Follows, StepsChip, Place, Index, Address, Data, Busy, ChipTask, Track, has_command, Call, Does, IsServing, is_reset, is_step, steps_of, is_read_id, IsTracking, IsVerifying, ExecutesBehind, IsSound, ServesBehind}
-use Rattle.fdc_core.specs.Steps.{steps_left}
+use Rattle.std.proofs.Common.{◌≡◌, ◌⊎◌, inl, inr, ℕ, ◌+◌, ◌-◌, ◌*◌, ◌<◌, ◌≤◌, Bool, true, false, ◌&&◌, ◌==◌, Option, Some, None, option_map, [], ◌∷◌, if◌then◌else◌, refl, sym, ◌∙◌, ap, subst, arith}
+use Rattle.laws_chip.proofs.Common.{and_right, false≢true, Chrn, Results, Front, results_taken, StepsFront, is_under_way, ChipState, with_front, EndsAs, EndsSent, MayEnd, as_done, done_if, has_key, has_room, is_not_found, judged, looks_for_cylinder, results_judged, says_cut, verified, Follows, StepsChip, Place, Index, Address, Data, Busy, ChipTask, Track, has_command, Call, Does, IsServing, is_reset, is_step, steps_of, is_read_id, IsVerifying, ExecutesBehind, IsSound, ServesBehind, core_steps_left as steps_left}
 use Rattle.laws_chip.specs.SectorCalls as behind
 use Rattle.laws_chip.proofs.Lasted.{Lasts, call_lasts, calls_last}
 use Rattle.fdc_chip.specs.declared.stage.ChipTask.TheVariants as task
 use Rattle.laws_chip.specs.Calls as made
 use Rattle.laws_chip.proofs.FormatsEnd.{FormatsOn, formats, formats_step}
-use Rattle.laws_chip.proofs.NextStages.{KeepsTask, call_keeps, works_quiet, is_change}
-use Rattle.laws_chip.proofs.PassedOn.{all_passed, call_serving, none_wait}
+use Rattle.laws_chip.proofs.NextStages.{KeepsTask, call_keeps, call_serving, works_quiet, is_change}
+use Rattle.laws_chip.proofs.PassedOn.{all_passed, none_wait}
 use Rattle.laws_chip.proofs.ServedSteps.{serves_step, tells_shown}
 use Rattle.laws_chip.proofs.Singles.{WaitsBehind, executes_none, executes_step, waits_shown}
-use Rattle.laws_chip.proofs.SinglesLast.{StaysSingle, kind_of, left_most, left_some, single_call, stage_kind, left_on}
-use Rattle.laws_chip.proofs.SoundParts.{busy_at, is_busy}
+use Rattle.laws_chip.proofs.SinglesLast.{StaysSingle, kind_of, left_most, left_some, single_call, stage_kind}
+use Rattle.laws_chip.proofs.SoundParts.{busy_at, is_busy, serves_of}
 use Rattle.laws_chip.proofs.TracksLast.{Leaves, LeavesAt, call_leaves, leaves_some, some_here, none_of}
 use Rattle.laws_chip.proofs.UnderWay.{clash, either_way, not_through}
 use Rattle.laws_chip.proofs.VerifiesLast.{IsWithin, call_within}
@@ -57,12 +56,6 @@ pub record BusyLeft (n : ℕ) (chip : ChipState) : Type 0 where
 told_none : {A : Type 0} (new : ChipState) → has_command new.stage ≡ true → has_command new.stage ≡ false → A
 told_none new works over = clash (has_command new.stage) over works
 
-serves_of : (chip : ChipState) → IsSound chip → chip.stage ≡ Busy task.Sent → is_under_way chip.front.stage ≡ true → ServesBehind chip.front
-serves_of chip sound at under = elim (busy_at chip task.Sent at sound) [
-  | inl serves ↦ serves
-  | inr executes ↦ absurd (not_through chip.front under executes.through)
-]
-
 served_on : (here steps n : ℕ) → 1 ≤ here → steps ≤ 1 → here + 65536 ≤ n → here - steps + 65536 ≤ n - steps
 served_on here steps n some one few = omega arith
 
@@ -72,18 +65,14 @@ looked_on now here steps n most some one few = omega arith
 one_step : 1 ≤ 1
 one_step = omega arith
 
--- READ ID looks which cylinder passes
-sought_left : (n : ℕ) (results : Results) (old new : ChipState) → ServesBehind old.front → ServedLeft n old → new.stage ≡ Busy (task.Sought results) → BusyLeft (n - 1) new
-sought_left n results old new serves was at =
+ended_left : (b : Bool) (n : ℕ) (results : Results) (old set new : ChipState) → ServesBehind old.front → ServedLeft n old → has_command new.stage ≡ true → EndsSent b results set new → BusyLeft (n - 1) new
+ended_left true n results old set new serves was works (gives, rest) =
     let phase = new.front.adapter.controller.phase in
     record {
       task = task.Sought results;
-      at = at;
+      at = (ap (λ (chip : ChipState). chip.stage) rest);
       left = record { few = looked_on (steps_left phase) was.here 1 n (left_most phase) (some_here was.here old.front serves was.lasts) one_step was.few };
     }
-
-ended_left : (b : Bool) (n : ℕ) (results : Results) (old set new : ChipState) → ServesBehind old.front → ServedLeft n old → has_command new.stage ≡ true → EndsSent b results set new → BusyLeft (n - 1) new
-ended_left true n results old set new serves was works (gives, rest) = sought_left n results old new serves was (ap (λ (chip : ChipState). chip.stage) rest)
 ended_left false n results old set new serves was works is = told_none new works (ap (λ (chip : ChipState). has_command chip.stage) is)
 
 -- the sequencer's calls leave fewer
@@ -106,7 +95,7 @@ single_left : (call : Call) (what : ChipTask) (n : ℕ) (old new : ChipState) �
     → stage_kind new.stage ≡ kind_of what → is_busy new.stage ≡ true → StaysSingle (steps_of call) old.front new.front × (steps_left new.front.adapter.controller.phase ≤ n - steps_of call)
 single_left call what n old new sound at was few does same still =
     let on = single_call call what old new sound at was does still same in
-    (on, left_on (steps_left old.front.adapter.controller.phase) (steps_left new.front.adapter.controller.phase) (steps_of call) n on.left few)
+    (on, (omega arith))
 
 never_on : (old new : ChipState) (steps : ℕ) → StaysSingle steps old.front new.front → new.order ≡ old.order → NeverLooks old → NeverLooks new
 never_on old new steps on order (inl is) = inl (ap is_read_id order ∙ is)
@@ -218,56 +207,24 @@ verify_step n left old new step sound still at was works =
 
 -- ---- ---- READ TRACK
 
-tracks_as : (track : Track) (new : ChipState) → new.stage ≡ Busy (task.Track track) → IsTracking new
-tracks_as track new at = record { track = track; reads = at }
-
-index_tracks : (b : Bool) (track : Track) (old new : ChipState) → has_command new.stage ≡ true → EndsIndex b track old new → IsTracking new
-index_tracks true track old new works is = told_none new works (ap (λ (chip : ChipState). has_command chip.stage) is)
-index_tracks false track old new works (gives, rest) = tracks_as _ new (ap (λ (chip : ChipState). chip.stage) rest)
-
-sector_tracks : (b : Bool) (results : Results) (track : Track) (old new : ChipState) → has_command new.stage ≡ true → EndsAddressIf b results track old new → IsTracking new
-sector_tracks true results track old new works (gives, rest) = tracks_as _ new (ap (λ (chip : ChipState). chip.stage) rest)
-sector_tracks false results track old new works is = told_none new works (ap (λ (chip : ChipState). has_command chip.stage) is)
-
-address_tracks : (b : Bool) (results : Results) (track : Track) (old new : ChipState) → has_command new.stage ≡ true → EndsAddress b results track old new → IsTracking new
-address_tracks true results track old new works is = told_none new works (ap (λ (chip : ChipState). has_command chip.stage) is)
-address_tracks false results track old new works ends = sector_tracks ((results.st1.0 == 0) && is_size track.key.n) results track old new works ends
-
-data_tracks : (b : Bool) (track : Track) (old new : ChipState) → has_command new.stage ≡ true → EndsData b track old new → IsTracking new
-data_tracks true track old new works is = told_none new works (ap (λ (chip : ChipState). has_command chip.stage) is)
-data_tracks false track old new works (gives, rest) = tracks_as _ new (ap (λ (chip : ChipState). chip.stage) rest)
-
-place_tracks : (place : Place) (track : Track) (results : Results) (old new : ChipState) → has_command new.stage ≡ true → EndsAt place track results old new → IsTracking new
-place_tracks Index track results old new works ends = index_tracks (not (bit_and results.st1.0 missing_mark == 0)) track old new works ends
-place_tracks Address track results old new works ends = address_tracks track.counted results track old new works ends
-place_tracks Data track results old new works ends = let over = without_one results track in data_tracks (is_over results over) over old new works ends
-
-track_ends : (waiting : Option Results) (track : Track) (set new : ChipState) → set.stage ≡ Busy (task.Track track) → has_command new.stage ≡ true → EndsAs waiting (task.Track track) set new → IsTracking new
-track_ends (Some results) track set new at works ends = place_tracks track.place track results (with_front (results_taken set.front) set) new works ends
-track_ends None track set new at works is = tracks_as track new (ap (λ (chip : ChipState). chip.stage) is ∙ at)
-
 pub leaves_left : (n : ℕ) (new : ChipState) → Leaves n new → BusyLeft n new
 leaves_left n new leaves = record { task = task.Track leaves.track; at = leaves.at; left = leaves }
-
-track_step : (n : ℕ) (track : Track) (old new : ChipState) (step : StepsChip old new) → IsSound old → IsSound new → old.stage ≡ Busy (task.Track track) → Leaves n old → has_command new.stage ≡ true → BusyLeft (n - 1) new
-track_step n track old new step sound still at was works =
-    let tracks = track_ends (results_judged (with_front step.between old)) track (with_front step.between old) new at works (subst (λ stage. Follows stage (with_front step.between old) new) at step.follows) in
-    leaves_left (n - 1) new (call_leaves made.Steps n old new sound still was step tracks)
 
 step_left : (what : ChipTask) (n : ℕ) (old new : ChipState) (step : StepsChip old new) → IsSound old → IsSound new → old.stage ≡ Busy what → TaskLeft what n old → has_command new.stage ≡ true → BusyLeft (n - 1) new
 step_left task.Sent n old new step sound still at left works = sent_step n old new step sound at left works
 step_left (task.Sought first) n old new step sound still at left works = sought_step n first old new step sound at left works
 step_left (task.Refused unit key mfm) n old new step sound still at left works = refused_step n unit key mfm old new step sound at left works
 step_left (task.Verify rest) n old new step sound still at left works = verify_step n rest old new step sound still at left works
-step_left (task.Track track) n old new step sound still at left works = track_step n track old new step sound still at left works
+step_left (task.Track track) n old new step sound still at left works = leaves_left (n - 1) new (call_leaves made.Steps n old new sound still left step works)
 
 -- ---- another call
 
 none_one : (steps : ℕ) → steps ≡ 0 → steps ≤ 1
 none_one steps none = omega arith
 
-served_call : (call : Call) (n : ℕ) (old new : ChipState) → IsSound old → old.stage ≡ Busy task.Sent → ServedLeft n old → Does call old new → is_step call ≡ false → is_reset call ≡ false → BusyLeft (n - steps_of call) new
-served_call call n old new sound at was does other quiet =
+other_left : (call : Call) (what : ChipTask) (n : ℕ) (old new : ChipState) → IsSound old → IsSound new → old.stage ≡ Busy what → TaskLeft what n old → Does call old new → is_step call ≡ false → is_reset call ≡ false → KeepsTask (is_change call) what old new
+    → BusyLeft (n - steps_of call) new
+other_left call task.Sent n old new sound still at (inl was) does other quiet keeps =
     let before : IsServing old = record { sent = at; under_way = was.under } in
     let after = call_serving call old new before does other quiet in
     let passed = all_passed (call ∷ []) old new (new, does, after, refl) before in
@@ -278,10 +235,6 @@ served_call call n old new sound at was does other quiet =
       at = after.sent;
       left = inl (served_within n (steps_of call) old new (serves_of old sound at was.under) was (none_one (steps_of call) (none_of call other)) after.under_way within);
     }
-
-other_left : (call : Call) (what : ChipTask) (n : ℕ) (old new : ChipState) → IsSound old → IsSound new → old.stage ≡ Busy what → TaskLeft what n old → Does call old new → is_step call ≡ false → is_reset call ≡ false → KeepsTask (is_change call) what old new
-    → BusyLeft (n - steps_of call) new
-other_left call task.Sent n old new sound still at (inl was) does other quiet keeps = served_call call n old new sound at was does other quiet
 other_left call task.Sent n old new sound still at (inr was) does other quiet keeps =
     record { task = task.Sent; at = keeps.stage; left = inr (single_on call n old new sound at was does keeps.stage keeps.order) }
 other_left call (task.Sought first) n old new sound still at was does other quiet keeps =
@@ -293,8 +246,7 @@ other_left call (task.Refused unit key mfm) n old new sound still at was does ot
 other_left call (task.Verify left) n old new sound still at was does other quiet keeps =
     verify_on call n left left old new sound still at was does (none_one (steps_of call) (none_of call other)) keeps.stage
 other_left call (task.Track track) n old new sound still at was does other quiet keeps =
-    let (counted, stage) = keeps.stage in
-    leaves_left (n - steps_of call) new (call_leaves call n old new sound still was does (tracks_as (record track { counted = counted }) new stage))
+    leaves_left (n - steps_of call) new (call_leaves call n old new sound still was does (ap has_command keeps.stage.1))
 
 -- ---- any call after which a command is under way
 
@@ -311,9 +263,6 @@ call_left call n old new sound still was does works = either_way (is_step call)
 
 -- ---- some device step is left
 
-served_some : (here n : ℕ) → 1 ≤ here → here + 65536 ≤ n → 0 < n
-served_some here n some few = omega arith
-
 last_some : (now n : ℕ) → 1 ≤ now → now ≤ n → 0 < n
 last_some now n some few = omega arith
 
@@ -321,9 +270,9 @@ executes_some : (n : ℕ) (chip : ChipState) → ExecutesBehind chip.front → s
 executes_some n chip was few = let phase = chip.front.adapter.controller.phase in last_some (steps_left phase) n (left_some phase was.executes was.counted) few
 
 task_some : (what : ChipTask) (n : ℕ) (chip : ChipState) → IsSound chip → chip.stage ≡ Busy what → TaskLeft what n chip → 0 < n
-task_some task.Sent n chip sound at (inl was) = served_some was.here n (some_here was.here chip.front (serves_of chip sound at was.under) was.lasts) was.few
+task_some task.Sent n chip sound at (inl was) = omega arith
 task_some task.Sent n chip sound at (inr was) = executes_some n chip was.executes was.few
-task_some (task.Verify left) n chip sound at was = served_some was.here n (some_here was.here chip.front (busy_at chip (task.Verify left) at sound) was.lasts) was.few
+task_some (task.Verify left) n chip sound at was = omega arith
 task_some (task.Track track) n chip sound at was = leaves_some was.track.place n was.track.left chip.front (busy_at chip (task.Track was.track) was.at sound) was.some was.leaves
 task_some what n chip sound at was = executes_some n chip (busy_at chip what at sound) was.few
 
@@ -350,9 +299,6 @@ more_leaves Data n m left front more (here, lasts, few) = (here, lasts, more_few
 more_served : (n m : ℕ) (chip : ChipState) → n ≤ m → ServedLeft n chip → ServedLeft m chip
 more_served n m chip more was = record { under = was.under; here = was.here; lasts = was.lasts; few = more_few (was.here + 65536) n m more was.few }
 
-more_last : (n m : ℕ) (chip : ChipState) → n ≤ m → LastLeft n chip → LastLeft m chip
-more_last n m chip more was = record { few = more_few (steps_left chip.front.adapter.controller.phase) n m more was.few }
-
 more_task : (what : ChipTask) (n m : ℕ) (chip : ChipState) → n ≤ m → TaskLeft what n chip → TaskLeft what m chip
 more_task task.Sent n m chip more (inl was) = inl (more_served n m chip more was)
 more_task task.Sent n m chip more (inr was) =
@@ -360,7 +306,7 @@ more_task task.Sent n m chip more (inr was) =
 more_task (task.Verify left) n m chip more was = more_served n m chip more was
 more_task (task.Track track) n m chip more was =
     record { track = was.track; at = was.at; some = was.some; leaves = more_leaves was.track.place n m was.track.left chip.front more was.leaves }
-more_task _ n m chip more was = more_last n m chip more was
+more_task _ n m chip more was = record { few = more_few (steps_left chip.front.adapter.controller.phase) n m more was.few }
 
 pub more_left : (n m : ℕ) (chip : ChipState) → n ≤ m → BusyLeft n chip → BusyLeft m chip
 more_left n m chip more was = record { task = was.task; at = was.at; left = more_task was.task n m chip more was.left }

@@ -1,7 +1,6 @@
 -- What is served, through calls one after the other.
 use Rattle.std.proofs.Common.{◌≡◌, inl, inr, ℕ, zero, suc, ◌&&◌, Bool, true, false, ◌||◌, List, [], ◌∷◌, ◌++◌, replicate, refl, sym, ◌∙◌, ap, subst, append_assoc}
-use Rattle.laws_chip.proofs.Common.{AreWithin, Behind, Changes, Counts, Gives, Grows, Steps, Takes, is_count, is_counted, passed_in_all, resets, mark_of, Front, KeepsFront, FollowsStep, StepsFront, GoesOn, History, KeepsServing, Serves, ServesAt, ServesUnless, all_bytes, hears_count, history_counted, history_given, history_stepped, history_taken, Operation, Through, Transfer}
-use Rattle.laws_chip.specs.SectorCalls.{Call, Does, Writes, passed_by}
+use Rattle.laws_chip.proofs.Common.{AreWithin, Behind, Changes, Counts, Gives, Grows, Steps, Takes, is_count, is_counted, passed_in_all, resets, mark_of, Front, KeepsFront, FollowsStep, StepsFront, GoesOn, History, KeepsServing, Serves, ServesAt, ServesUnless, all_bytes, hears_count, history_counted, history_given, history_stepped, history_taken, Operation, Through, Transfer, SectorCallsCall as Call, SectorCallsDoes as Does, SectorCallsWrites as Writes, chip_passed_by as passed_by}
 use Rattle.fdc_sequencer.specs.Moves.{RunsFrontWith}
 use Rattle.laws_chip.proofs.Courses.{none_more}
 use Rattle.laws_chip.proofs.Given.{ignored, served_on}

@@ -1,15 +1,15 @@
 -- What the inner controller executes, through the channel, the terminal count, ports and media.
-use Rattle.std.proofs.Common.{◌≡◌, ◌⊎◌, inl, inr, ℕ, ◌-◌, Bool, true, false, ◌==◌, if◌then◌else◌, Option, Some, None, [], refl, sym, ◌∙◌, ap, subst}
-use Rattle.laws_chip.proofs.Common.{eqb-true, false≢true, seek_bits, phase_told, rate_chosen, Phase, Taking, Execute, Task, taken_in, taken_out, told_count, Writes, dor_resets, dsr_resets, resets, is_held, reset, IsCounted, Fdc, Lines, lines_at, Front, GivesAt, GivesFront, KeepsFront, TakesAt, TakesFront, WritesFront, count_told, passed_one, told_front, told_if, MovingSector, FrontStage, Through, Seeking, Moving, Telling, is_under_way, KeepsServing, ServesUnless, history_counted, history_given, history_taken, Place, Address, ChipTask, ExecutesBehind, IsBusyAt, IsBusyWith, ServesBehind, WaitsForHeads, executes_single, is_single}
+use Rattle.std.proofs.Common.{◌≡◌, ◌⊎◌, inl, inr, ℕ, ◌-◌, Bool, true, false, ◌==◌, if◌then◌else◌, Option, [], refl, sym, ◌∙◌, ap, subst}
+use Rattle.laws_chip.proofs.Common.{false≢true, seek_bits, phase_told, Phase, Taking, Execute, Task, told_count, Writes, resets, is_held, reset, IsCounted, Fdc, Lines, lines_at, Front, GivesFront, KeepsFront, TakesAt, TakesFront, WritesFront, count_told, passed_one, told_front, told_if, MovingSector, FrontStage, Through, Seeking, Moving, Telling, is_under_way, KeepsServing, ServesUnless, history_counted, history_given, history_taken, Place, Address, ChipTask, ExecutesBehind, IsBusyAt, IsBusyWith, ServesBehind, WaitsForHeads, executes_single, is_single}
 use Rattle.fdc_phases.specs.declared.phases.Task.TheVariants as task
-use Rattle.fdc_sequencer.specs.Adapters.{Gives, Takes}
 use Rattle.laws_chip.proofs.Called.{media_serve}
 use Rattle.laws_chip.proofs.Served.{counts_serve, gives_serve, takes_serve, writes_serve}
 use Rattle.fdc_chip.specs.declared.stage.ChipTask.TheVariants as chip
 use Rattle.laws_chip.proofs.FirstSectors.{IsBase}
+use Rattle.laws_chip.proofs.Known.{port_sets}
 use Rattle.laws_chip.proofs.ServedSteps.{TellsBehind}
 use Rattle.laws_chip.proofs.Singles.{WaitsBehind}
-use Rattle.laws_chip.proofs.UnderWay.{clash, counts_under, either_way, gives_under, port_stage, takes_under, writes_under}
+use Rattle.laws_chip.proofs.UnderWay.{BytePasses, Own, OfSector, Quiet, counts_under, gives_pass, pass_under, port_stage, takes_pass, writes_under}
 
 -- the results of what was executed are there
 abbrev pub IsOverBehind : Front → Type 0
@@ -36,23 +36,6 @@ pub record IsAlike (old new : Fdc) : Type 0 where
   pub dor : new.dor ≡ old.dor
   pub non_dma : new.non_dma ≡ old.non_dma
   pub command : new.command ≡ old.command
-
-alike_same : (fdc : Fdc) → IsAlike fdc fdc
-alike_same fdc = record { phase = refl; seeks = refl; dor = refl; non_dma = refl; command = refl }
-
-alike_as : (old set new : Fdc) → IsAlike old set → new ≡ set → IsAlike old new
-alike_as old set new alike is = subst (IsAlike old) (sym is) alike
-
-alike_base : (old new : Fdc) → old.command ≡ [] → IsAlike old new → IsBase old new
-alike_base old new none alike = record { dor = alike.dor; non_dma = alike.non_dma; command = alike.command ∙ none }
-
-adapter_takes : (old : Fdc) (byte : Option ℕ) (new : Fdc) → Takes old byte new → IsAlike old new
-adapter_takes old (Some byte) new (up, byte_is, is) = alike_as old (taken_out old) new (record { phase = refl; seeks = refl; dor = refl; non_dma = refl; command = refl }) is
-adapter_takes old None new (quiet, is) = alike_as old old new (alike_same old) is
-
-adapter_gives : (byte : ℕ) (old : Fdc) (was : Bool) (new : Fdc) → Gives byte old was new → IsAlike old new
-adapter_gives byte old true new (up, is) = alike_as old (taken_in byte old) new (record { phase = refl; seeks = refl; dor = refl; non_dma = refl; command = refl }) is
-adapter_gives byte old false new (quiet, is) = alike_as old old new (alike_same old) is
 
 told_base : (old : Fdc) → old.command ≡ [] → IsBase old (told_count old)
 told_base old none = record { dor = refl; non_dma = refl; command = none }
@@ -100,15 +83,19 @@ waits_told old was = record { through = was.through; ending = was.ending; result
 
 -- ---- bytes
 
+front_pass : (old new : Front) → old.stage ≡ Through → BytePasses old new → (new.stage ≡ old.stage) × IsAlike old.adapter.controller new.adapter.controller
+front_pass old new through (Quiet is) =
+    subst (λ (front : Front). (front.stage ≡ old.stage) × IsAlike old.adapter.controller front.adapter.controller) (sym is) (refl, record { phase = refl; seeks = refl; dor = refl; non_dma = refl; command = refl })
+front_pass old new through (Own fdc at passed is) =
+    subst (λ (front : Front). (front.stage ≡ old.stage) × IsAlike old.adapter.controller front.adapter.controller) (sym is)
+    (refl, record { phase = passed.phase; seeks = passed.seeks; dor = passed.dor; non_dma = passed.non_dma; command = passed.command })
+front_pass old new through (OfSector moving fdc at passed is) = absurd (cc (through, at))
+
 pub front_takes : (old : Front) (byte : Option ℕ) (new : Front) → old.stage ≡ Through → TakesFront old byte new → (new.stage ≡ old.stage) × IsAlike old.adapter.controller new.adapter.controller
-front_takes old byte new through takes =
-    let (adapter, is) = subst (λ stage. TakesAt stage old byte new) through takes in
-    (ap (λ front. front.stage) is, adapter_takes old.adapter.controller byte new.adapter.controller adapter)
+front_takes old byte new through takes = front_pass old new through (takes_pass old.stage byte old new refl takes)
 
 pub front_gives : (byte : ℕ) (old : Front) (was : Bool) (new : Front) → old.stage ≡ Through → GivesFront byte old was new → (new.stage ≡ old.stage) × IsAlike old.adapter.controller new.adapter.controller
-front_gives byte old was new through gives =
-    let (adapter, is) = subst (λ stage. GivesAt stage byte old was new) through gives in
-    (ap (λ front. front.stage) is, adapter_gives byte old.adapter.controller was new.adapter.controller adapter)
+front_gives byte old was new through gives = front_pass old new through (gives_pass old.stage byte was old new refl gives)
 
 passed_base : (moving : MovingSector) (fdc : Fdc) (old : Front) → IsBase old.adapter.controller fdc → IsBase old.adapter.controller (passed_one moving fdc old).adapter.controller
 passed_base moving fdc old base = by_last (moving.left - 1 == 0)
@@ -120,23 +107,13 @@ passed_base moving fdc old base = by_last (moving.left - 1 == 0)
 same_base : (old new : Front) → new ≡ old → old.adapter.controller.command ≡ [] → IsBase old.adapter.controller new.adapter.controller
 same_base old new is none = subst (λ (front : Front). IsBase old.adapter.controller front.adapter.controller) (sym is) (record { dor = refl; non_dma = refl; command = none })
 
-takes_base : (stage : FrontStage) (byte : Option ℕ) (old new : Front) → old.adapter.controller.command ≡ [] → TakesAt stage old byte new → IsBase old.adapter.controller new.adapter.controller
-takes_base Through byte old new none (adapter, is) = alike_base old.adapter.controller new.adapter.controller none (adapter_takes old.adapter.controller byte new.adapter.controller adapter)
-takes_base (Seeking transfer counted) byte old new none (nothing, is) = same_base old new is none
-takes_base (Telling results) byte old new none (nothing, is) = same_base old new is none
-takes_base (Moving moving) None old new none (quiet, is) = same_base old new is none
-takes_base (Moving moving) (Some byte) old new none (up, byte_is, is) =
+pass_base : (old new : Front) → old.adapter.controller.command ≡ [] → BytePasses old new → IsBase old.adapter.controller new.adapter.controller
+pass_base old new none (Quiet is) = same_base old new is none
+pass_base old new none (Own fdc at passed is) =
+    subst (λ (front : Front). IsBase old.adapter.controller front.adapter.controller) (sym is) (record { dor = passed.dor; non_dma = passed.non_dma; command = passed.command ∙ none })
+pass_base old new none (OfSector moving fdc at passed is) =
     subst (λ (front : Front). IsBase old.adapter.controller front.adapter.controller) (sym is)
-    (passed_base moving (taken_out old.adapter.controller) old (record { dor = refl; non_dma = refl; command = none }))
-
-gives_base : (stage : FrontStage) (byte : ℕ) (was : Bool) (old new : Front) → old.adapter.controller.command ≡ [] → GivesAt stage byte old was new → IsBase old.adapter.controller new.adapter.controller
-gives_base Through byte was old new none (adapter, is) = alike_base old.adapter.controller new.adapter.controller none (adapter_gives byte old.adapter.controller was new.adapter.controller adapter)
-gives_base (Seeking transfer counted) byte was old new none (nothing, is) = same_base old new is none
-gives_base (Telling results) byte was old new none (nothing, is) = same_base old new is none
-gives_base (Moving moving) byte false old new none (quiet, is) = same_base old new is none
-gives_base (Moving moving) byte true old new none (up, is) =
-    subst (λ (front : Front). IsBase old.adapter.controller front.adapter.controller) (sym is)
-    (passed_base moving (taken_in byte old.adapter.controller) old (record { dor = refl; non_dma = refl; command = none }))
+    (passed_base moving fdc old (record { dor = passed.dor; non_dma = passed.non_dma; command = passed.command ∙ none }))
 
 counts_base : (stage : FrontStage) (old new : Front) → old.adapter.controller.command ≡ [] → new ≡ count_told stage old → IsBase old.adapter.controller new.adapter.controller
 counts_base (Seeking transfer counted) old new none is =
@@ -151,19 +128,10 @@ waits_same old new is waits = subst (λ (front : Front). WaitsForHeads front.sta
 moving_waits : (moving : MovingSector) (new : Front) → new.stage ≡ Moving moving → WaitsForHeads new.stage new.adapter.controller.phase
 moving_waits moving new is = subst (λ stage. WaitsForHeads stage new.adapter.controller.phase) (sym is) tt
 
-takes_waits : (stage : FrontStage) (byte : Option ℕ) (old new : Front) → old.stage ≡ stage → WaitsForHeads old.stage old.adapter.controller.phase → TakesAt stage old byte new → WaitsForHeads new.stage new.adapter.controller.phase
-takes_waits Through byte old new at waits (adapter, is) = subst (λ stage. WaitsForHeads stage new.adapter.controller.phase) (sym (ap (λ (front : Front). front.stage) is ∙ at)) tt
-takes_waits (Seeking transfer counted) byte old new at waits (nothing, is) = waits_same old new is waits
-takes_waits (Telling results) byte old new at waits (nothing, is) = waits_same old new is waits
-takes_waits (Moving moving) None old new at waits (quiet, is) = waits_same old new is waits
-takes_waits (Moving moving) (Some byte) old new at waits (up, byte_is, is) = moving_waits (record moving { left = moving.left - 1 }) new (ap (λ (front : Front). front.stage) is)
-
-gives_waits : (stage : FrontStage) (byte : ℕ) (was : Bool) (old new : Front) → old.stage ≡ stage → WaitsForHeads old.stage old.adapter.controller.phase → GivesAt stage byte old was new → WaitsForHeads new.stage new.adapter.controller.phase
-gives_waits Through byte was old new at waits (adapter, is) = subst (λ stage. WaitsForHeads stage new.adapter.controller.phase) (sym (ap (λ (front : Front). front.stage) is ∙ at)) tt
-gives_waits (Seeking transfer counted) byte was old new at waits (nothing, is) = waits_same old new is waits
-gives_waits (Telling results) byte was old new at waits (nothing, is) = waits_same old new is waits
-gives_waits (Moving moving) byte false old new at waits (quiet, is) = waits_same old new is waits
-gives_waits (Moving moving) byte true old new at waits (up, is) = moving_waits (record moving { left = moving.left - 1 }) new (ap (λ (front : Front). front.stage) is)
+pass_waits : (old new : Front) → WaitsForHeads old.stage old.adapter.controller.phase → BytePasses old new → WaitsForHeads new.stage new.adapter.controller.phase
+pass_waits old new waits (Quiet is) = waits_same old new is waits
+pass_waits old new waits (Own fdc at passed is) = subst (λ stage. WaitsForHeads stage new.adapter.controller.phase) (sym (ap (λ (front : Front). front.stage) is ∙ at)) tt
+pass_waits old new waits (OfSector moving fdc at passed is) = moving_waits (record moving { left = moving.left - 1 }) new (ap (λ (front : Front). front.stage) is)
 
 counts_waits : (stage : FrontStage) (old new : Front) → old.stage ≡ stage → WaitsForHeads old.stage old.adapter.controller.phase → new ≡ count_told stage old → WaitsForHeads new.stage new.adapter.controller.phase
 counts_waits Through old new at waits is = subst (λ stage. WaitsForHeads stage new.adapter.controller.phase) (sym (ap (λ (front : Front). front.stage) is ∙ at)) tt
@@ -177,11 +145,11 @@ counts_waits (Telling results) old new at waits is = waits_same old new is waits
 
 takes_serves : (old : Front) (byte : Option ℕ) (new : Front) → TakesFront old byte new → ServesBehind old → ServesBehind new
 takes_serves old byte new takes was = record {
-  under_way = takes_under old.stage byte old new refl was.under_way takes;
+  under_way = pass_under old new (takes_pass old.stage byte old new refl takes) was.under_way;
   first = was.first;
   history = history_taken old.stage byte was.history;
   serves = (takes_serve old byte new takes was.first was.history was.serves).2;
-  waits = takes_waits old.stage byte old new refl was.waits takes;
+  waits = pass_waits old new was.waits (takes_pass old.stage byte old new refl takes);
 }
 
 pub takes_executes : (old : Front) (byte : Option ℕ) (new : Front) → TakesFront old byte new → ExecutesBehind old → ExecutesBehind new
@@ -192,11 +160,11 @@ takes_busy what old byte new takes busy = keep_with what old new (takes_serves o
 
 gives_serves : (byte : ℕ) (old : Front) (given : Bool) (new : Front) → GivesFront byte old given new → ServesBehind old → ServesBehind new
 gives_serves byte old given new gives was = record {
-  under_way = gives_under old.stage byte given old new refl was.under_way gives;
+  under_way = pass_under old new (gives_pass old.stage byte given old new refl gives) was.under_way;
   first = was.first;
   history = history_given old.stage byte given was.history;
   serves = (gives_serve byte old given new gives was.first was.history was.serves).2;
-  waits = gives_waits old.stage byte given old new refl was.waits gives;
+  waits = pass_waits old new was.waits (gives_pass old.stage byte given old new refl gives);
 }
 
 pub gives_executes : (byte : ℕ) (old : Front) (given : Bool) (new : Front) → GivesFront byte old given new → ExecutesBehind old → ExecutesBehind new
@@ -223,10 +191,10 @@ pub counts_busy : (what : ChipTask) (old new : Front) → new ≡ told_front old
 counts_busy what old new is busy = keep_with what old new (counts_serves old new is) (counts_executes old new is) busy
 
 pub takes_front_base : (old : Front) (byte : Option ℕ) (new : Front) → old.adapter.controller.command ≡ [] → TakesFront old byte new → IsBase old.adapter.controller new.adapter.controller
-takes_front_base old byte new none takes = takes_base old.stage byte old new none takes
+takes_front_base old byte new none takes = pass_base old new none (takes_pass old.stage byte old new refl takes)
 
 pub gives_front_base : (byte : ℕ) (old : Front) (was : Bool) (new : Front) → old.adapter.controller.command ≡ [] → GivesFront byte old was new → IsBase old.adapter.controller new.adapter.controller
-gives_front_base byte old was new none gives = gives_base old.stage byte was old new none gives
+gives_front_base byte old was new none gives = pass_base old new none (gives_pass old.stage byte was old new refl gives)
 
 pub counts_front_base : (old new : Front) → old.adapter.controller.command ≡ [] → new ≡ told_front old → IsBase old.adapter.controller new.adapter.controller
 counts_front_base old new none is = counts_base old.stage old new none is
@@ -258,33 +226,19 @@ pub record IsLeft (old new : Fdc) : Type 0 where
   pub interrupt : new.interrupt ≡ old.interrupt
   pub free : is_held new ≡ true → is_held old ≡ true
 
-left_as : (old set new : Fdc) → IsLeft old set → new ≡ set → IsLeft old new
-left_as old set new left is = subst (IsLeft old) (sym is) left
-
-unreset : (b : Bool) (old set : Fdc) → b ≡ false → IsLeft old set → IsLeft old (if b then reset set else set)
-unreset true old set is left = absurd (false≢true (sym is))
-unreset false old set is left = left
-
--- DOR without a reset lets the controller go
-dor_free : (value : ℕ) (old : Fdc) → dor_resets value ≡ false → is_held (record old { dor = record { 0 = value } }) ≡ true → is_held old ≡ true
-dor_free value old no_reset held = clash (dor_resets value) no_reset held
-
 pub port_left : (port value : ℕ) (lines : Lines) (old new : Fdc) → Writes port value lines old new → (port == 0x3F5) ≡ false → resets port value ≡ false → IsLeft old new
-port_left port value lines old new writes no_byte no_reset = either_way (port == 0x3F2)
-    (λ output.
-    let quiet : dor_resets value ≡ false = sym (ap (λ b. if b then dor_resets value else (if port == 0x3F4 then dsr_resets value else false)) output) ∙ no_reset in
-    left_as old _ new (unreset (dor_resets value) old (record old { dor = record { 0 = value } }) quiet (record { phase = refl; seeks = refl; non_dma = refl; command = refl; poll = refl; interrupt = refl; free = dor_free value old quiet }))
-    (writes.output (eqb-true port 0x3F2 output)))
-    (λ no_output. either_way (port == 0x3F4)
-    (λ select.
-    let quiet : dsr_resets value ≡ false =
-    sym (ap (λ b. if b then dsr_resets value else false) select)
-    ∙ (sym (ap (λ b. if b then dor_resets value else (if port == 0x3F4 then dsr_resets value else false)) no_output) ∙ no_reset) in
-    left_as old _ new (unreset (dsr_resets value) old (record old { rate = rate_chosen value }) quiet (record { phase = refl; seeks = refl; non_dma = refl; command = refl; poll = refl; interrupt = refl; free = λ held. held }))
-    (writes.select (eqb-true port 0x3F4 select)))
-    (λ no_select. either_way (port == 0x3F7)
-    (λ control. left_as old _ new (record { phase = refl; seeks = refl; non_dma = refl; command = refl; poll = refl; interrupt = refl; free = λ held. held }) (writes.control (eqb-true port 0x3F7 control)))
-    (λ no_control. left_as old _ new (record { phase = refl; seeks = refl; non_dma = refl; command = refl; poll = refl; interrupt = refl; free = λ held. held }) (writes.others no_output no_select no_byte no_control))))
+port_left port value lines old new writes no_byte no_reset =
+    let sets = port_sets port value lines old new writes no_byte in
+    let same = sets.same in
+    subst (IsLeft old) (sym (sets.is ∙ ap (λ b. if b then reset sets.set else sets.set) no_reset)) (record {
+      phase = same.phase;
+      seeks = same.seeks;
+      non_dma = same.non_dma;
+      command = same.command;
+      poll = same.poll;
+      interrupt = same.interrupt;
+      free = sets.free no_reset;
+    })
 
 pub front_left : (port value : ℕ) (old new : Front) → WritesFront port value old new → (port == 0x3F5) ≡ false → resets port value ≡ false → IsLeft old.adapter.controller new.adapter.controller
 front_left port value old new writes no_byte no_reset =
@@ -314,8 +268,7 @@ port_executes port value old new writes no_byte no_reset was =
     }
 
 pub port_busy : (what : ChipTask) (port value : ℕ) (old new : Front) → WritesFront port value old new → (port == 0x3F5) ≡ false → resets port value ≡ false → IsBusyWith what old → IsBusyWith what new
-port_busy what port value old new writes no_byte no_reset busy =
-    keep_with what old new (port_serves port value old new writes no_byte no_reset) (port_executes port value old new writes no_byte no_reset) busy
+port_busy what port value old new writes no_byte no_reset busy = search (keep_with, port_serves, port_executes)
 
 -- ---- media
 

@@ -1,7 +1,7 @@
 -- How the chip begins a command in the inner controller: the inner controller is free for it, what LOCK kept is given
 -- again, and the command is given.
 use Rattle.std.proofs.Common.{◌≡◌, ℕ, ◌<◌, Bool, true, false, not, ◌||◌, ◌==◌, Option, Some, List, [], ◌∷◌, ◌++◌, bit_and, refl, sym, ◌∙◌, ap, subst}
-use Rattle.laws_chip.proofs.Common.{agree_below_at, eqb-true, Results, seek_bits, is_held, Fdc, Front, GivesTransfer, Transfer, ChipState, code_of, Begins, Obeys, RemembersIf, TransfersIf, begun, configuring, implies, is_size, sought_if, transfer_sent, with_last, StepsChip, ChipOpcode, TransferCode, Busy, ChipTask, IsBegun, IsFreeBehind, IsServed, spelled_opcode, AreServed, Call}
+use Rattle.laws_chip.proofs.Common.{agree_below_at, eqb-true, Results, seek_bits, is_held, Fdc, Front, GivesTransfer, Transfer, ChipState, code_of, Begins, Obeys, RemembersIf, TransfersIf, begun, configuring, implies, is_size, sought_if, transfer_sent, with_last, StepsChip, ChipOpcode, TransferCode, Busy, ChipTask, IsBegun, IsFreeBehind, IsServed, spelled_opcode, AreServed, Call, SentTask as Sent}
 use Rattle.fdc_commands.specs.declared.command.Command.TheVariants.{Configure}
 use Rattle.fdc_core.specs.Commands.{configured}
 use Rattle.fdc_sequencer.specs.Opcodes.{opcode_of}
@@ -9,7 +9,6 @@ use Rattle.fdc_sequencer.specs.declared.stage.FrontStage.TheVariants as behind
 use Rattle.laws_chip.specs.SectorCalls as call
 use Rattle.laws_chip.proofs.Called.{both_within}
 use Rattle.laws_chip.proofs.Whole.{command_served}
-use Rattle.fdc_chip.specs.declared.stage.ChipTask.TheVariants.{Sent}
 use Rattle.laws_chip.proofs.FirstSectors.{IsBase, first_begins}
 use Rattle.laws_chip.proofs.PassedOn.{all_passed}
 use Rattle.laws_chip.proofs.Standing.{IsObeyed, Stands, given_obeyed, stands_free}

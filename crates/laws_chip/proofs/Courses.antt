@@ -98,8 +98,7 @@ accounts_on (Read wanted skip) met moving past now mark then_mark (inl (none, em
       clean = λ skips other. bytes ∙ empty;
       told = same.told;
     }
-accounts_on (Read wanted skip) met moving past now mark then_mark (inr stays) bytes counted was =
-    subst (Accounts (Read wanted skip) met moving now) (sym stays) (same_accounts (Read wanted skip) met moving past now mark bytes counted was)
+accounts_on (Read wanted skip) met moving past now mark then_mark (inr stays) bytes counted was = grind (arith, same_accounts)
 accounts_on (Write deleted) met moving past now mark then_mark goes bytes counted was =
     let same = same_accounts (Write deleted) met moving past now mark bytes counted was in
     record {

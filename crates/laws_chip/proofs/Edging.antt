@@ -1,13 +1,10 @@
 -- INT after the calls of a chip.
-use Rattle.std.proofs.Common.{◌≡◌, ℕ, ◌+◌, Bool, true, false, not, ◌&&◌, ◌||◌, ◌==◌, nat_le, nat_lt, if◌then◌else◌, Option, Some, None, is_some, length, slice_index, refl, sym, ◌∙◌, ap, subst}
-use Rattle.laws_chip.proofs.Common.{option_map_or, and_from, and_left, and_parts, and_right, eqb-true, false≢true, Results, to_memory_of, asks, Fdc, Front, TakesAt, asks_at, asks_outside, interrupts_outside, told_front, with_controller, FrontStage, answer_bytes, is_of_data, ChipState, KeepsRest, interrupts_chip, is_data, passes, passes_at, passes_by_channel, passes_by_port, shows_behind, with_front, Opens, RemembersIf, begun, sensing, Interrupting, status_of, is_format, GivesChipIf, ReadsAt, ReadsChip, ReadsIf, TakesIf, byte_told, counted_if, given_one, quieted_if, told_chip, is_by_port, ChipAnswer, ChipStage, Ready, Busy, ChipTask, Track, Call, Does}
+use Rattle.std.proofs.Common.{◌≡◌, ℕ, ◌+◌, Bool, true, false, not, ◌&&◌, ◌||◌, ◌==◌, nat_lt, if◌then◌else◌, Option, Some, None, is_some, slice_index, refl, sym, ◌∙◌, ap, subst}
+use Rattle.laws_chip.proofs.Common.{option_map_or, and_from, and_left, and_parts, and_right, eqb-true, false≢true, Results, to_memory_of, asks, Fdc, Front, TakesAt, asks_at, asks_outside, interrupts_outside, told_front, with_controller, FrontStage, ChipState, KeepsRest, interrupts_chip, is_data, passes, passes_at, passes_by_channel, passes_by_port, shows_behind, with_front, Opens, RemembersIf, begun, sensing, Interrupting, status_of, is_format, GivesChipIf, ReadsAt, ReadsChip, ReadsIf, TakesIf, byte_told, counted_if, given_one, quieted_if, told_chip, is_by_port, ChipAnswer, ChipStage, Ready, Busy, ChipTask, Track, Call, Does, chip_count_told as count_told, ChipTelling as Telling, AdaptersTakes as Takes}
 use Rattle.std.specs.Prelude.{option_map, slice_set}
-use Rattle.fdc_sequencer.specs.Adapters.{Takes}
 use Rattle.fdc_sequencer.specs.declared.stage.FrontStage.TheVariants as behind
 use Rattle.fdc_chip.specs.Interrupts.{first_pending, sensed}
-use Rattle.fdc_chip.specs.Ports.{count_told}
 use Rattle.fdc_chip.specs.declared.answer.ChipAnswer.TheVariants as answer
-use Rattle.fdc_chip.specs.declared.stage.ChipStage.TheVariants.{Telling}
 use Rattle.fdc_chip.specs.declared.stage.ChipTask.TheVariants as task
 use Rattle.laws_chip.specs.Calls as call
 use Rattle.laws_chip.specs.Edges.{EndsAnswer, is_of_channel}
@@ -194,8 +191,7 @@ answer_read false first told read old new tells is down up =
     absurd (false≢true (rises first (Telling told (read + 1)) old new is refl (answer_down told read old tells down) up))
 
 data_read : (stage : ChipStage) (old : ChipState) (value : ℕ) (new : ChipState) → old.stage ≡ stage → ReadsAt stage old value new → interrupts_chip old ≡ false → interrupts_chip new ≡ true → EndsAnswer old new
-data_read (Telling told read) old value new at (value_is, is) down up =
-    answer_read (nat_le (length (answer_bytes told)) (read + 1)) (is_of_data told && read == 0) told read old new at is down up
+data_read (Telling told read) old value new at (value_is, is) down up = search answer_read
 data_read _ old value new at reads down up = port_read (passes_by_port old) old value new refl reads down up
 
 pub read_raises : (port value : ℕ) (old new : ChipState) → ReadsChip port old value new → interrupts_chip old ≡ false → interrupts_chip new ≡ true → EndsAnswer old new

@@ -1,12 +1,8 @@
 -- A sector of a command of several sectors begins, or the seek before it: what the beginning leaves of the inner
 -- controller. The sequencer serves a command that it is given.
 use Rattle.std.proofs.Common.{◌≡◌, ℕ, nat_le, Bool, true, false, ◌&&◌, if◌then◌else◌, [], refl, sym, ◌∙◌, ap, subst}
-use Rattle.laws_chip.proofs.Common.{and_from, le-leb, Chrn, IsSizeCode, Dor, Invalid, Command, ReadData, WriteData, WriteDeleted, BeginsData, TakesAs, seeking, is_taking, is_gated, is_held, TakesWhole, is_idle, Fdc, Lines, AdapterState, lines_at, BeginsSector, Front, GivesTransfer, SeeksFirst, Starts, StartsIf, begun_if, moving_of, told_if, command_for, Operation, Read, Write, FrontStage, Through, Moving, Seeking, Transfer, is_under_way, IsFree, is_size, BeginsBehind, WaitsForHeads}
-use Rattle.fdc_commands.specs.declared.bytes.Accepted.TheVariants.{Ready}
-use Rattle.fdc_core.specs.Commands.{Obeys}
-use Rattle.fdc_sequencer.specs.Fronts.{TransfersIf}
-use Rattle.laws_chip.specs.SectorCalls.{Begins}
-use Rattle.laws_chip.proofs.Free.{free_executes}
+use Rattle.laws_chip.proofs.Common.{and_from, Chrn, IsSizeCode, Dor, Invalid, Command, ReadData, WriteData, WriteDeleted, BeginsData, TakesAs, seeking, is_taking, is_gated, is_held, TakesWhole, is_idle, Fdc, Lines, AdapterState, lines_at, BeginsSector, Front, GivesTransfer, Starts, StartsIf, begun_if, moving_of, told_if, command_for, Operation, Read, Write, FrontStage, Through, Moving, Seeking, Transfer, is_under_way, IsFree, is_size, BeginsBehind, WaitsForHeads, ReadyCommand as Ready, FdcObeys as Obeys, FrontTransfersIf as TransfersIf, SectorCallsBegins as Begins}
+use Rattle.laws_chip.proofs.Free.{free_executes, is_in}
 use Rattle.laws_chip.proofs.Started.{in_range}
 use Rattle.laws_chip.proofs.Whole.{begins_served}
 use Rattle.laws_chip.proofs.Standing.{Stands, stands_ready, stands_taking}
@@ -34,9 +30,6 @@ base_told true old between base = record { dor = base.dor; non_dma = base.non_dm
 base_told false old between base = base
 
 -- ---- a sector
-
-is_in : (n : ℕ) → IsSizeCode n → (nat_le 1 n && nat_le n 6) ≡ true
-is_in n (some, few) = and_from (nat_le 1 n) (nat_le n 6) (le-leb 1 n some) (le-leb n 6 few)
 
 module _ (head_drive : ℕ) (key : Chrn) (last_sector gap length_code : ℕ) (lines : Lines) (old new : Fdc) (sized : IsSizeCode key.n) (free : IsFree old) where
   abbrev without : Fdc
@@ -94,8 +87,8 @@ sector_carried at counted passed_over old new sized free begins =
 
 -- ---- or the heads go to its cylinder
 
-seeks_carried : (first : Transfer) (old new : Front) → Stands old → SeeksFirst first old new → IsCarried old new
-seeks_carried first old new stands seeks =
+starts_carried : (b : Bool) (first : Transfer) (old new : Front) → IsSizeCode first.key.n → Stands old → StartsIf b first old new → IsCarried old new
+starts_carried true first old new sized stands seeks =
     let fdc = old.adapter.controller in
     let between = seeks.between in
     let is : between.controller ≡ seeking first.head_drive first.key.c (record fdc { command = [] }) = seeks.takes.takes.0 stands.rests in
@@ -105,9 +98,6 @@ seeks_carried first old new stands seeks =
     carried_at (Seeking first false) old new (ap (λ front. front.stage) same) refl
     (ap (λ (front : Front). front.adapter.controller.phase) same ∙ (ap (λ (fdc : Fdc). fdc.phase) is ∙ stands.takes))
     (subst (λ (front : Front). IsBase fdc front.adapter.controller) (sym same) (base_as fdc _ between.controller (record { dor = refl; non_dma = refl; command = refl }) is))
-
-starts_carried : (b : Bool) (first : Transfer) (old new : Front) → IsSizeCode first.key.n → Stands old → StartsIf b first old new → IsCarried old new
-starts_carried true first old new sized stands seeks = seeks_carried first old new stands seeks
 starts_carried false first old new sized stands begins = sector_carried first false false old new sized (record { rests = stands.rests; by_dma = stands.by_dma }) begins
 
 -- ---- a command that is given

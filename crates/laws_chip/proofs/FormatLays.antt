@@ -1,7 +1,6 @@
 -- FORMAT TRACK over a medium at speed: the sector IDs that were given are laid.
-use Rattle.std.proofs.Common.{◌≡◌, inl, inr, ℕ, zero, suc, ◌+◌, ◌%◌, ◌≤◌, Bool, true, false, not, ◌&&◌, ◌==◌, if◌then◌else◌, Option, Some, None, List, [], ◌∷◌, ◌++◌, length, refl, sym, ◌∙◌, ap, subst, arith, length-append}
-use Rattle.laws_chip.proofs.Common.{and_parts, eqb-true, false≢true, IsDisk, DriveState, is_protected, rate_of, Dor, Fifo, emptied, with_polls, IsAtPart, Numbers, is_first, is_next, Past, new_past, heard, kept_out, wrote, FormatNext, IsFormattingTrack, task_asks, stepped, told_in, head_of, is_reading, rate_fits, IsFormattingOn, MayFormatIn, MayFormatTask, took, Phase, Taking, Execute, Result, Task, DataRate, Formatting, BeginsData, taken_in, to_memory_of, told_count, Outset, IsTurningIn, IsAtDrive, FormatDoes, after_laid, is_executing, asks, is_gated, is_held, polled, IsHeardTime, IsTime, KeptOut, Saw, Stopped, WordTime, Wrote, after_time, WritesIn, WritesTask, MayFormat, Fdc, in_formats, told_formats, format_tells, lays_track, drive_less, kept_on, saw_on, still_unprotected, stopped_on, wrote_on, AdapterState, StepsAdapter, drive_at, selected_at, Front, GivesAt, GivesFront, TakesAt, TakesFront, told_front, told_if, with_controller, GivesCommand, StepsFront, Through, ChipState, passes_by_channel, passes_by_port, with_front, FormatsIf, Obeys, is_size, with_keys, with_last, GivesChipIf, GivesIf, ReadsAt, ReadsIf, TakesByte, TakesIf, StepsChip, Busy, passed_in, IsFreeBehind, Call, Does, AreAt, ExecutesBehind, IsSound, executes_single}
-use Rattle.fdc_commands.specs.declared.command.Command.TheVariants.{FormatTrack}
+use Rattle.std.proofs.Common.{◌≡◌, inl, inr, ℕ, zero, suc, ◌+◌, ◌%◌, ◌≤◌, Bool, true, false, not, ◌&&◌, ◌==◌, if◌then◌else◌, Option, Some, None, List, [], ◌∷◌, ◌++◌, length, refl, sym, ◌∙◌, ap, subst, arith, length-append, append-nil, append_assoc}
+use Rattle.laws_chip.proofs.Common.{and_parts, eqb-true, false≢true, IsDisk, DriveState, is_protected, rate_of, Dor, Fifo, emptied, IsAtPart, Numbers, is_first, is_next, Past, new_past, heard, kept_out, wrote, FormatNext, stepped, told_in, head_of, is_reading, rate_fits, IsFormattingOn, MayFormatIn, MayFormatTask, took, Phase, Taking, Execute, Result, Task, Formatting, BeginsData, taken_in, to_memory_of, told_count, Outset, IsTurningIn, IsAtDrive, FormatDoes, after_laid, is_executing, asks, is_gated, polled, IsHeardTime, IsTime, KeptOut, Saw, Stopped, WordTime, Wrote, after_time, WritesIn, WritesTask, MayFormat, Fdc, in_formats, told_formats, format_tells, lays_track, drive_less, kept_on, saw_on, still_unprotected, stopped_on, wrote_on, AdapterState, StepsAdapter, drive_at, selected_at, Front, GivesAt, GivesFront, TakesAt, TakesFront, told_front, told_if, with_controller, GivesCommand, StepsFront, Through, ChipState, passes_by_channel, passes_by_port, with_front, FormatsIf, Obeys, is_size, with_keys, with_last, GivesChipIf, GivesIf, ReadsAt, ReadsIf, TakesByte, TakesIf, StepsChip, Busy, passed_in, IsFreeBehind, Call, Does, AreAt, ExecutesBehind, IsSound, executes_single, SentTask as Sent, CommandFormatTrack as FormatTrack}
 use Rattle.fdc_stages.specs.declared.formatting.FormatNext.TheVariants as next
 use Rattle.fdc_stages.specs.declared.formatting.FormatPart.{FormatPart}
 use Rattle.fdc_stages.specs.declared.formatting.FormatPart.TheVariants.{Await, Due, Lay, Barred}
@@ -10,14 +9,14 @@ use Rattle.fdc_phases.specs.declared.phases.Task.TheVariants as task
 use Rattle.fdc_sequencer.specs.Fronts as fronts
 use Rattle.fdc_chip.specs.Ports as ports
 use Rattle.fdc_chip.specs.declared.code.ChipOpcode.TheVariants as code
-use Rattle.fdc_chip.specs.declared.stage.ChipTask.TheVariants.{Sent}
 use Rattle.laws_chip.proofs.LateWriting.{window_none}
 use Rattle.laws_chip.specs.Calls as made
 use Rattle.laws_chip.specs.FormatTracks.{GiveAll, GivesAs, GivesByte, IsFormatBegun, LaysKeys, LetDrives, TurnsAtSpeed, lets_drives, numbers_of}
 use Rattle.laws_chip.proofs.Channels.{counts_executes, gives_executes}
 use Rattle.laws_chip.proofs.CommandsBegun.{begins_sent}
 use Rattle.laws_chip.proofs.PassedOn.{no_results, other_read, step_same}
-use Rattle.laws_chip.proofs.Rests.{adapter_stays, through_step}
+use Rattle.laws_chip.proofs.Known.{adapter_stays, polled_rate, time_taken}
+use Rattle.laws_chip.proofs.Rests.{through_step}
 use Rattle.laws_chip.proofs.Singles.{executes_step, format_executes, waits_shown}
 use Rattle.laws_chip.proofs.SoundCalls.{call_sound}
 use Rattle.laws_chip.proofs.Standing.{format_obeyed, stands_free}
@@ -139,29 +138,6 @@ record Stepped (outset : Outset) (unit : ℕ) (numbers : Numbers) (given : List 
   taken : past.taken ≡ given
   at : IsAtDrive outset past (is_executing new.phase) drive
 
-taken_same : (time : WordTime) (past : Past) → (after_time time past).taken ≡ past.taken
-taken_same (Saw index word) past = by_index index
-  where
-    by_index : (index : Bool) → (heard index word (stepped past)).taken ≡ past.taken
-    by_index true = refl
-    by_index false = refl
-taken_same (KeptOut index word) past = by_index index
-  where
-    by_index : (index : Bool) → (kept_out index word (stepped past)).taken ≡ past.taken
-    by_index true = refl
-    by_index false = refl
-taken_same (Wrote opened closed index word) past = by_index index
-  where
-    by_index : (index : Bool) → (wrote index word (stepped past)).taken ≡ past.taken
-    by_index true = refl
-    by_index false = refl
-taken_same Stopped past = refl
-
-time_here : (outset : Outset) (unit head_drive : ℕ) (rate : DataRate) (time : WordTime) (drive after : DriveState) → head_drive ≡ unit → outset.head ≡ head_of unit → rate ≡ outset.rate
-    → IsTime time rate (head_of head_drive) drive after → IsTime time outset.rate outset.head drive after
-time_here outset unit head_drive rate time drive after head under same is =
-    subst (λ h. IsTime time outset.rate h drive after) (ap head_of head ∙ sym under) (subst (λ r. IsTime time r (head_of head_drive) drive after) same is)
-
 phase_steps : (outset : Outset) (unit : ℕ) (numbers : Numbers) (given : List ℕ) (past : Past) (phase : Phase) (asking : Bool) (fifo : Fifo) (polls new : Fdc) (before after : DriveState) → IsDisk outset.disk → outset.head ≡ head_of unit
     → polls.rate ≡ outset.rate → is_executing phase ≡ true → past.taken ≡ given → MayFormatIn past unit numbers phase asking fifo → IsAtDrive outset past true before → WritesIn phase asking fifo polls before after new
     → Stepped outset unit numbers given new after
@@ -178,18 +154,11 @@ phase_steps outset unit numbers given past (Execute execution) asking fifo polls
         record {
           past = after_time does.time past;
           known = may;
-          taken = taken_same does.time past ∙ taken;
+          taken = time_taken does.time past ∙ taken;
           at = by_time outset unit numbers past before after polls new execution.steps formatting fifo.bytes handed valid at execution.head_drive on does.time
-              (time_here outset unit execution.head_drive polls.rate does.time before after on.sent_is head rate does.is) does.does writes.step.guards may;
+              (grind (arith, head_of)) does.does writes.step.guards may;
         }
     by_task _ known writes = absurd known
-
-polled_rate : (old : Fdc) → (polled old).rate ≡ old.rate
-polled_rate old = by_poll (old.poll_due && not (is_held old))
-  where
-    by_poll : (b : Bool) → (if b then record old { poll_due = false; interrupt = true; seeks = with_polls old.seeks } else old).rate ≡ old.rate
-    by_poll true = refl
-    by_poll false = refl
 
 known_busy : (front : Front) → ExecutesBehind front → is_executing front.adapter.controller.phase ≡ true
 known_busy front executes = by_phase front.adapter.controller.phase executes.executes
@@ -266,13 +235,9 @@ module _ (outset : Outset) (bay unit : ℕ) (numbers : Numbers) where
   gives_going : (given : List ℕ) (byte : ℕ) (taken : Bool) (old new : Front) → GivesFront byte old taken new → Going given old → Going (given ++ passed_in taken byte) new
   gives_going given byte taken old new gives was = by_taken taken gives (subst (λ s. GivesAt s byte old taken new) was.executes.through gives)
     where
-      nothing : (xs : List ℕ) → xs ++ [] ≡ xs
-      nothing [] = refl
-      nothing (x ∷ xs) = ap (λ rest. x ∷ rest) (nothing xs)
-
       by_taken : (taken : Bool) → GivesFront byte old taken new → GivesAt Through byte old taken new → Going (given ++ passed_in taken byte) new
       by_taken false gives ((quiet, same), is) =
-          subst (λ bytes. Going bytes new) (sym (nothing given)) (same_going given old new (is ∙ ap (λ (c : Fdc). record old { adapter = with_controller c old.adapter }) same) was)
+          subst (λ bytes. Going bytes new) (sym (append-nil given)) (same_going given old new (is ∙ ap (λ (c : Fdc). record old { adapter = with_controller c old.adapter }) same) was)
       by_taken true gives ((up, same), is) =
           let fdc = old.adapter.controller in
           let asking = (and_parts (is_gated fdc) fdc.asking (and_parts (asks fdc) (not (to_memory_of fdc)) up).0).1 in
@@ -313,11 +278,7 @@ module _ (outset : Outset) (bay unit : ℕ) (numbers : Numbers) where
   Given call old new given = (bytes : List ℕ) × GivesAs call old new bytes × Going (given ++ bytes) new.front
 
   no_more : (given : List ℕ) (front : Front) → Going given front → Going (given ++ []) front
-  no_more given front was = subst (λ bytes. Going bytes front) (sym (nothing given)) was
-    where
-      nothing : (xs : List ℕ) → xs ++ [] ≡ xs
-      nothing [] = refl
-      nothing (x ∷ xs) = ap (λ rest. x ∷ rest) (nothing xs)
+  no_more given front was = subst (λ bytes. Going bytes front) (sym (append-nil given)) was
 
   takes_on : (b : Bool) (given : List ℕ) (byte : Option ℕ) (old new : ChipState) → TakesIf b old byte new → Going given old.front → Going given new.front
   takes_on true given byte old new (takes, rest) was = takes_going given byte old.front new.front takes was
@@ -386,10 +347,6 @@ module _ (outset : Outset) (bay unit : ℕ) (numbers : Numbers) where
     give : GiveAll (Busy Sent) calls old new at bytes
     going : Going (given ++ bytes) new.front
 
-  joined : (xs ys zs : List ℕ) → (xs ++ ys) ++ zs ≡ xs ++ (ys ++ zs)
-  joined [] ys zs = refl
-  joined (x ∷ xs) ys zs = ap (λ rest. x ∷ rest) (joined xs ys zs)
-
   calls_on : (calls : List Call) (given : List ℕ) (old new : ChipState) (at : AreAt (Busy Sent) calls old new) → bay ≤ 1 → IsDisk outset.disk → outset.head ≡ head_of unit → LetDrives calls → IsSound old → old.stage ≡ Busy Sent
       → Going given old.front → AllGiven given calls old new at
   calls_on [] given old new same few valid head lets sound stage was =
@@ -397,13 +354,9 @@ module _ (outset : Outset) (bay unit : ℕ) (numbers : Numbers) where
   calls_on (call ∷ calls) given old new (between, does, byte, stays, rest) few valid head (lets, more) sound stage was =
       let (first, gave, going) = call_on call given old between few valid head lets sound stage stays does was in
       let all = calls_on calls (given ++ first) between new rest few valid head more (call_sound call old between does byte sound) stays going in
-      record { bytes = first ++ all.bytes; give = (first, all.bytes, gave, all.give, refl); going = subst (λ bytes. Going bytes new.front) (joined given first all.bytes) all.going }
+      record { bytes = first ++ all.bytes; give = (first, all.bytes, gave, all.give, refl); going = rw (← append_assoc) all.going }
 
 -- ---- ---- how the FORMAT begins
-
-begun_known : (unit : ℕ) (numbers : Numbers) (chosen : Task) (on : Bool) (threshold : ℕ) → IsFormattingTrack unit numbers chosen
-    → MayFormatIn new_past unit numbers (Execute (record { head_drive = unit; steps = 0; task = chosen })) (task_asks chosen false (emptied on threshold)) (emptied on threshold)
-begun_known unit numbers chosen on threshold is = is (emptied on threshold) false refl
 
 begun_going : (outset : Outset) (bay unit : ℕ) (numbers : Numbers) (chip : ChipState) → IsFormatBegun unit numbers chip → TurnsAtSpeed outset bay unit chip → IsFormattingAt outset bay unit numbers [] chip.front × (chip.stage ≡ Busy Sent)
 begun_going outset bay unit numbers chip is turns =
@@ -417,7 +370,7 @@ begun_going outset bay unit numbers chip is turns =
       record {
         executes = (format_executes unit numbers.n numbers.sectors numbers.gap3 numbers.fill sent.set chip.front sent.stands obeyed).0;
         past = new_past;
-        known = subst (MayFormat new_past unit numbers) (sym begins.3) (begun_known unit numbers begins.0 fdc.fifo.on fdc.fifo.threshold begins.1);
+        known = subst (MayFormat new_past unit numbers) (sym begins.3) (begins.1 (emptied fdc.fifo.on fdc.fifo.threshold) false refl);
         taken = refl;
         at = (window_none outset new_past true drive turns.disk turning (λ _. turns.speed)).at;
         selects = turns.selects;

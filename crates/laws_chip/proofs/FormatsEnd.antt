@@ -1,10 +1,9 @@
 -- A FORMAT TRACK of the inner controller goes on through device steps, and never reports a sector that isn't found.
 use Rattle.std.proofs.Common.{◌≡◌, inl, inr, ℕ, ◌+◌, Bool, true, false, Option, refl, sym, ap, subst}
-use Rattle.laws_chip.proofs.Common.{false≢true, Chrn, DriveState, Fifo, emptied, Ending, NoSector, Late, FormatNext, EndsWell, FailsWell, Numbers, IsFormattingTrack, phase_told, Long, Phase, Execute, Result, Task, Formatting, FormatDoes, after_laid, finished, polled, FormatsNowhere, StepsNowhere, TaskStepsNowhere, WordTime, Wrote, Stopped, WritesIn, WritesTask, Stops, without_byte, Fdc, AdapterState, StepsAdapter, selected_at, Front, StepsFront, Through, is_not_found}
+use Rattle.laws_chip.proofs.Common.{false≢true, Chrn, DriveState, Fifo, emptied, Ending, NoSector, Late, FormatNext, EndsWell, FailsWell, Numbers, IsFormattingTrack, phase_told, Long, Phase, Execute, Result, Task, Formatting, FormatDoes, after_laid, finished, polled, FormatsNowhere, StepsNowhere, TaskStepsNowhere, WordTime, Wrote, Stopped, WritesIn, WritesTask, Stops, without_byte, Fdc, AdapterState, StepsAdapter, Front, StepsFront, Through, is_not_found, phases_no_key as no_key}
 use Rattle.fdc_stages.specs.declared.formatting.FormatNext.TheVariants as laid
-use Rattle.fdc_phases.specs.Answers.{no_key}
 use Rattle.fdc_phases.specs.declared.phases.Task.TheVariants as task
-use Rattle.laws_chip.proofs.Known.{which_drive}
+use Rattle.laws_chip.proofs.Known.{at_drive}
 use Rattle.laws_chip.proofs.Rests.{through_step}
 
 -- the controller executes a FORMAT TRACK
@@ -72,8 +71,7 @@ format_on _ head_drive steps formatting old before new (due, does) =
 
 nowhere_on : (head_drive steps : ℕ) (formatting : Formatting) (old new : Fdc) → FormatsNowhere head_drive steps formatting old new → FormatsOn new.phase
 nowhere_on head_drive steps formatting old new (inl (last, is)) = phase_as _ new (ends_formats Late head_drive no_key old refl) is
-nowhere_on head_drive steps formatting old new (inr (few, (next, hears, is))) =
-    phase_as _ new (laid_on head_drive (steps + 1) formatting next old (fails_other next hears.1)) is
+nowhere_on head_drive steps formatting old new (inr (few, (next, hears, is))) = search (phase_as, laid_on, fails_other)
 
 module _ (polls new : Fdc) where
   task_on : (begins : Task) (head_drive steps : ℕ) (asking : Bool) (fifo : Fifo) (before after : DriveState) → is_format begins ≡ true
@@ -97,11 +95,8 @@ module _ (polls new : Fdc) where
 adapter_on : (old new : AdapterState) → StepsAdapter old new → formats old.controller.phase ≡ true → FormatsOn new.controller.phase
 adapter_on old new steps is =
     let fdc = old.controller in
-    elim (which_drive (selected_at old)) [
-      | inl at ↦ phase_on (polled fdc) new.controller fdc.phase fdc.asking fdc.fifo old.first new.first is (steps.at_first at).0.writes
-      | inr (inl at) ↦ phase_on (polled fdc) new.controller fdc.phase fdc.asking fdc.fifo old.second new.second is (steps.at_second at).0.writes
-      | inr (inr at) ↦ phase_alone (polled fdc) new.controller fdc.phase is (steps.at_none at).0.nowhere
-    ]
+    at_drive old new steps (λ before after works. phase_on (polled fdc) new.controller fdc.phase fdc.asking fdc.fifo before after is works.writes)
+    (λ alone. phase_alone (polled fdc) new.controller fdc.phase is alone.nowhere)
 
 pub formats_step : (old new : Front) → StepsFront old new → old.stage ≡ Through → formats old.adapter.controller.phase ≡ true → FormatsOn new.adapter.controller.phase
 formats_step old new step through is =

@@ -1,13 +1,8 @@
 -- Which command for a sector is refused: none, if the controller is free for it. What keeps the controller free.
-use Rattle.std.proofs.Common.{◌≡◌, inl, inr, ℕ, zero, suc, ◌+◌, nat_le, Bool, true, false, not, ◌&&◌, ◌==◌, if◌then◌else◌, Option, Some, None, List, length, refl, sym, ◌∙◌, ap, subst, slice_set}
-use Rattle.laws_chip.proofs.Common.{and_from, false≢true, le-leb, Chrn, IsSizeCode, DriveState, at_index, Fifo, has_ended_seek, seek_bits, with_polls, without_ended, Invalid, Command, ReadData, WriteData, WriteDeleted, Past, ReadOutcome, needs_byte, Ending, Overrun, WriteNext, On, MayReadIn, MayReadTask, Sent, ending_of, is_listening, MayWriteIn, MayWriteTask, Phase, Taking, Execute, Result, Task, ReadTask, WriteTask, Reading, Writing, BeginsData, TakesAs, ExecutesIn, ExecutesTask, StepsOn, is_executing, Writes, resets, after_heard, at_stage, gone_on_reading, is_full, over_or_on, pushed, finished, is_held, polled, StepsNowhere, TaskStepsNowhere, WritesNowhere, WordTime, Saw, KeptOut, Wrote, Stopped, TakesWhole, ending_told, given_up, given_up_if, without_seek, WritesIn, WritesTask, WriteDoes, after_next, without_byte, Fdc, Lines, AdapterState, StepsAdapter, selected_at, command_for, command_of, next_cylinder, next_of, next_record, other_head, Operation, Read, Write, Transfer, IsFree, MayMove, sector_after}
-use Rattle.fdc_commands.specs.Seeking.{Seeking}
-use Rattle.fdc_commands.specs.declared.motion.Seek.{Seek}
-use Rattle.fdc_commands.specs.declared.bytes.Accepted.TheVariants.{Ready}
+use Rattle.std.proofs.Common.{◌≡◌, inl, inr, ℕ, zero, suc, ◌+◌, nat_le, Bool, true, false, ◌&&◌, ◌==◌, if◌then◌else◌, Option, Some, None, List, length, refl, sym, ◌∙◌, ap, subst, slice_set}
+use Rattle.laws_chip.proofs.Common.{and_from, false≢true, le-leb, Chrn, IsSizeCode, DriveState, at_index, Fifo, has_ended_seek, seek_bits, without_ended, Invalid, Command, ReadData, WriteData, WriteDeleted, Past, ReadOutcome, needs_byte, Ending, Overrun, WriteNext, On, MayReadIn, MayReadTask, Sent, ending_of, is_listening, MayWriteIn, MayWriteTask, Phase, Taking, Execute, Result, Task, ReadTask, WriteTask, Reading, Writing, BeginsData, TakesAs, ExecutesIn, ExecutesTask, StepsOn, is_executing, Writes, resets, after_heard, at_stage, gone_on_reading, is_full, over_or_on, pushed, finished, polled, StepsNowhere, TaskStepsNowhere, WritesNowhere, WordTime, Saw, KeptOut, Wrote, Stopped, TakesWhole, ending_told, given_up, given_up_if, without_seek, WritesIn, WritesTask, WriteDoes, after_next, without_byte, Fdc, Lines, AdapterState, StepsAdapter, command_for, command_of, next_cylinder, next_of, next_record, other_head, Operation, Read, Write, Transfer, IsFree, MayMove, sector_after, Seeks as Seeking, ReadyCommand as Ready, DriveSeek as Seek, FdcObeys as Obeys, WriteNextEnded as Ended}
 use Rattle.fdc_stages.specs.Readings as heard
-use Rattle.fdc_stages.specs.declared.writing.WriteNext.TheVariants.{Ended}
-use Rattle.fdc_core.specs.Commands.{Obeys}
-use Rattle.laws_chip.proofs.Known.{port_same, which_drive}
+use Rattle.laws_chip.proofs.Known.{adapter_stays, at_drive, polled_by, port_same}
 use Rattle.laws_chip.proofs.Started.{without_bytes}
 
 -- ---- a device step leaves the seeks, while a command for a sector is executed
@@ -35,7 +30,7 @@ next_seeks : (head_drive steps : ℕ) (writing : Writing) (next : WriteNext) (ol
 next_seeks head_drive steps writing (On stage) old = refl
 next_seeks head_drive steps writing (Ended ending) old = refl
 
-without_seeks : (needs : Bool) (old : Fdc) → (without_byte needs old).seeks ≡ old.seeks
+pub without_seeks : (needs : Bool) (old : Fdc) → (without_byte needs old).seeks ≡ old.seeks
 without_seeks true old = refl
 without_seeks false old = refl
 
@@ -90,43 +85,25 @@ step_seeks : (operation : Operation) (past : Past) (sent : Sent) (old new : Adap
     → new.controller.seeks ≡ (polled old.controller).seeks
 step_seeks (Read wanted skip) past sent old new steps busy was =
     let fdc = old.controller in
-    elim (which_drive (selected_at old)) [
-      | inl at ↦ let works = (steps.at_first at).0 in
-          read_seeks past sent fdc.phase fdc.asking fdc.fifo.bytes (at_index old.first) works.reads.word (polled fdc) new.controller busy works.reads.follows.executes was
-      | inr (inl at) ↦ let works = (steps.at_second at).0 in
-          read_seeks past sent fdc.phase fdc.asking fdc.fifo.bytes (at_index old.second) works.reads.word (polled fdc) new.controller busy works.reads.follows.executes was
-      | inr (inr at) ↦ read_seeks past sent fdc.phase fdc.asking fdc.fifo.bytes false 0 (polled fdc) new.controller busy (steps.at_none at).0.reads.executes was
-    ]
+    let seeks = read_seeks past sent fdc.phase fdc.asking fdc.fifo.bytes in
+    at_drive old new steps (λ before after works. seeks (at_index before) works.reads.word (polled fdc) new.controller busy works.reads.follows.executes was)
+    (λ alone. seeks false 0 (polled fdc) new.controller busy alone.reads.executes was)
 step_seeks (Write deleted) past sent old new steps busy was =
     let fdc = old.controller in
-    elim (which_drive (selected_at old)) [
-      | inl at ↦ write_seeks deleted past sent fdc.phase fdc.asking fdc.fifo (polled fdc) old.first new.first new.controller busy (steps.at_first at).0.writes was
-      | inr (inl at) ↦ write_seeks deleted past sent fdc.phase fdc.asking fdc.fifo (polled fdc) old.second new.second new.controller busy (steps.at_second at).0.writes was
-      | inr (inr at) ↦ nowhere_seeks deleted past sent fdc.phase fdc.asking fdc.fifo (polled fdc) new.controller busy (steps.at_none at).0.nowhere was
-    ]
-
--- the poll changes no seek
-polled_seek : (b : Bool) (old : Fdc) → (if b then record old { poll_due = false; interrupt = true; seeks = with_polls old.seeks } else old).seeks.seek ≡ old.seeks.seek
-polled_seek true old = refl
-polled_seek false old = refl
-
-same_bits : (old new : Seeking) → new.seek ≡ old.seek → seek_bits new ≡ seek_bits old
-same_bits old new same = ap (λ seek. seek_bits (record old { seek = seek })) same
+    at_drive old new steps
+    (λ before after works. write_seeks deleted past sent fdc.phase fdc.asking fdc.fifo (polled fdc) before after new.controller busy works.writes was)
+    (λ alone. nowhere_seeks deleted past sent fdc.phase fdc.asking fdc.fifo (polled fdc) new.controller busy alone.nowhere was)
 
 -- SPECIFY's ND stays
 pub step_dma : (old new : AdapterState) → StepsAdapter old new → new.controller.non_dma ≡ old.controller.non_dma
-step_dma old new steps = elim (which_drive (selected_at old)) [
-  | inl at ↦ (steps.at_first at).0.stays.non_dma
-  | inr (inl at) ↦ (steps.at_second at).0.stays.non_dma
-  | inr (inr at) ↦ (steps.at_none at).0.stays.non_dma
-]
+step_dma old new steps = (adapter_stays old new steps).non_dma
 
 pub step_free : (operation : Operation) (past : Past) (sent : Sent) (old new : AdapterState) → StepsAdapter old new → is_executing old.controller.phase ≡ true → MayMove operation past sent old.controller
     → IsFree old.controller → IsFree new.controller
 step_free operation past sent old new steps busy was free =
     let fdc = old.controller in
-    let same = ap (λ seeks. seeks.seek) (step_seeks operation past sent old new steps busy was) ∙ polled_seek (fdc.poll_due && not (is_held fdc)) fdc in
-    record { rests = same_bits fdc.seeks new.controller.seeks same ∙ free.rests; by_dma = step_dma old new steps ∙ free.by_dma }
+    let same = ap (λ seeks. seeks.seek) (step_seeks operation past sent old new steps busy was) ∙ polled_by (λ (polls : Fdc). polls.seeks.seek ≡ fdc.seeks.seek) fdc refl refl in
+    record { rests = (ap (λ seek. seek_bits (record fdc.seeks { seek = seek })) same) ∙ free.rests; by_dma = step_dma old new steps ∙ free.by_dma }
 
 -- ---- the results are given up, and ports
 
@@ -159,7 +136,7 @@ sought_free old ended clear =
 
 -- ---- a command is executed
 
-is_in : (n : ℕ) → IsSizeCode n → (nat_le 1 n && nat_le n 6) ≡ true
+pub is_in : (n : ℕ) → IsSizeCode n → (nat_le 1 n && nat_le n 6) ≡ true
 is_in n (some, few) = and_from (nat_le 1 n) (nat_le n 6) (le-leb 1 n some) (le-leb n 6 few)
 
 module _ (head_drive : ℕ) (key : Chrn) (last_sector gap length_code : ℕ) (lines : Lines) (old new : Fdc) (sized : IsSizeCode key.n) (free : IsFree old) where

@@ -1,8 +1,7 @@
 -- How a command is given: only where the controller takes one, and not while one of several sectors is served.
 use Rattle.std.proofs.Common.{◌≡◌, true, ap, refl, subst}
-use Rattle.laws_chip.proofs.Common.{false≢true, Command, is_idle, Fdc, CommandsIf, Front, GivesTransfer, Starts, is_ready, is_ready_at, taken_at, FrontStage, Through, Telling, Transfer, Reads, History, Serves, ServesAt}
-use Rattle.fdc_sequencer.specs.Fronts.{TransfersIf}
-use Rattle.laws_chip.specs.SectorCalls.{Call, Commands, Does, Ends, Transfers}
+use Rattle.laws_chip.proofs.Common.{false≢true, Command, is_idle, Fdc, CommandsIf, Front, GivesTransfer, Starts, is_ready, is_ready_at, taken_at, FrontStage, Through, Telling, Transfer, Reads, History, Serves, ServesAt, FrontTransfersIf as TransfersIf, SectorCallsCall as Call, SectorCallsDoes as Does}
+use Rattle.laws_chip.specs.SectorCalls.{Commands, Ends, Transfers}
 
 -- ---- a command starts
 

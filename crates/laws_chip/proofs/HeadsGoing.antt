@@ -1,14 +1,13 @@
 -- Seeks that give a pulse in each device step: they go on, and end by INT.
-use Rattle.std.proofs.Common.{◌≡◌, ◌⊎◌, inl, inr, ℕ, zero, suc, ◌+◌, ◌-◌, ◌≤◌, nat_lt, Bool, true, false, not, ◌&&◌, ◌||◌, ◌==◌, if◌then◌else◌, Option, Some, None, List, [], ◌∷◌, length, slice_index, slice_set, unwrap_or, refl, sym, ◌∙◌, ap, subst, arith}
-use Rattle.laws_chip.proofs.Common.{option_map_or, and_from, or_parts, or_right, nat_tests, DriveState, Dor, ended, has_ended, is_seeking, neighbour, recalibrated, sought, stepped_seek, with_motion, with_polls, Motion, Outward, Toward, Ended, DriveSeek, Taking, is_gated, is_held, Rests, polled, seek_stepped, Fdc, AdapterState, StepsAdapter, lines_at, selected_at, Front, interrupts_at, interrupts_outside, StepsFront, Through, ChipState, interrupts_chip, with_front, drained, drained_one, is_told, moves_heads, Interrupting, with_result, StepsChip, PacedSeek, ChipStage, Ready, EndsBySignal, GoesTo, HeadsGo, HeadsStand, SeeksBehind, status_at_end, steps_left, IsSound}
+use Rattle.std.proofs.Common.{◌≡◌, ◌⊎◌, inl, inr, ℕ, suc, ◌+◌, ◌-◌, ◌≤◌, nat_lt, Bool, true, false, not, ◌&&◌, ◌||◌, ◌==◌, if◌then◌else◌, Option, Some, None, List, [], ◌∷◌, length, slice_index, slice_set, unwrap_or, refl, sym, ◌∙◌, ap, subst, arith}
+use Rattle.laws_chip.proofs.Common.{option_map_or, and_from, or_right, nat_tests, DriveState, Dor, ended, has_ended, is_seeking, neighbour, recalibrated, sought, stepped_seek, with_motion, with_polls, Motion, Outward, Toward, Ended, DriveSeek, Taking, is_gated, is_held, Rests, polled, seek_stepped, Fdc, AdapterState, StepsAdapter, lines_at, selected_at, Front, interrupts_at, interrupts_outside, StepsFront, Through, ChipState, interrupts_chip, with_front, drained, drained_one, is_told, moves_heads, Interrupting, with_result, StepsChip, PacedSeek, ChipStage, Ready, EndsBySignal, GoesTo, HeadsGo, HeadsStand, SeeksBehind, status_at_end, steps_left, IsSound, Seeks as Seeking, commands_stepped as stepped}
 use Rattle.std.specs.Prelude.{bit_and}
 use Rattle.fdc_registers.specs.St0.{seek_end}
-use Rattle.fdc_commands.specs.Seeking.{Seeking, stepped}
 use Rattle.fdc_core.specs.Drives.Lines.{absent_lines, lines_of_drive, lines_of_selected}
 use Rattle.fdc_chip.specs.Doing.{drained_by}
-use Rattle.laws_chip.proofs.Known.{which_drive}
+use Rattle.laws_chip.proofs.Known.{adapter_stays, which_drive}
 use Rattle.laws_chip.proofs.Polled.{and_true, build, built, ready_interrupts, ready_step}
-use Rattle.laws_chip.proofs.Rests.{adapter_stays, taking_stays, through_step}
+use Rattle.laws_chip.proofs.Rests.{taking_stays, through_step}
 
 -- ---- the motion in a device step
 
@@ -16,9 +15,6 @@ pub neighbour_left : (cylinder target : ℕ) (b : Bool) → nat_lt cylinder targ
     → steps_left (Toward (if b then cylinder + 1 else cylinder - 1) target) + 1 ≤ steps_left (Toward cylinder target)
 neighbour_left cylinder target true is differs = grind (arith, nat_tests)
 neighbour_left cylinder target false is differs = grind (arith, nat_tests)
-
-outward_left : (pulses left : ℕ) → (pulses == 0) ≡ false → pulses + 1 ≤ left + 1 → pulses - 1 + 1 ≤ left
-outward_left pulses left some few = grind (arith, nat_tests)
 
 -- the seek goes on, one step nearer, or ends
 abbrev OnOrEnds : ℕ → ℕ → Option ℕ → Bool → Seeking → Seeking → Type 0
@@ -31,7 +27,7 @@ motion_steps left drive None (Outward pulses) track0 old goes few = by_last (tra
     by_last : (b : Bool) → (track0 || (pulses == 0)) ≡ b
         → OnOrEnds left drive None track0 old (if b then ended old drive 0 (recalibrated drive track0) else with_motion old drive (Outward (pulses - 1)))
     by_last true is = inr refl
-    by_last false is = inl (Outward (pulses - 1), refl, tt, outward_left pulses left (or_parts track0 (pulses == 0) is).1 few)
+    by_last false is = inl (Outward (pulses - 1), refl, tt, (grind (arith, nat_tests)))
 motion_steps left drive (Some target) (Toward cylinder to) track0 old goes few = by_there (cylinder == to) refl
   where
     by_there : (b : Bool) → (cylinder == to) ≡ b
@@ -118,9 +114,6 @@ pub record HasEnded (drive status target : ℕ) (cylinders : List ℕ) (front : 
 abbrev pub status_in : Option ℕ → ℕ → Front → ℕ
 status_in goal drive old = status_at_end goal drive (lines_at old.adapter).track0
 
-held_as : (old new : Fdc) → new.dor ≡ old.dor → is_held new ≡ is_held old
-held_as old new dor = ap (λ (d : Dor). is_held (record old { dor = d })) dor
-
 pub front_steps : (left drive : ℕ) (goal : Option ℕ) (old new : Front) → StepsFront old new → SeeksBehind (left + 1) drive goal old
     → SeeksBehind left drive goal new ⊎ HasEnded drive (status_in goal drive old) (unwrap_or goal 0) old.adapter.controller.seeks.cylinders new
 front_steps left drive goal old new step was =
@@ -128,7 +121,7 @@ front_steps left drive goal old new step was =
     let is = through_step old new step was.through in
     let steps = fdc_steps left drive goal was.motion (lines_at old.adapter).track0 fdc step.between.controller was.takes was.polled was.seek was.goes was.within (rests_by_line old.adapter step.between step.steps) in
     let idle = steps.idle in
-    let free = held_as fdc step.between.controller idle.dor ∙ was.free in
+    let free = (ap (λ (d : Dor). is_held (record fdc { dor = d })) idle.dor) ∙ was.free in
     subst (λ (front : Front). SeeksBehind left drive goal front ⊎ HasEnded drive (status_in goal drive old) (unwrap_or goal 0) fdc.seeks.cylinders front) (sym is) (elim steps.seeks [
       | inl (on, seeks, goes, within) ↦ inl (record {
         through = was.through;
@@ -228,11 +221,8 @@ untold_drained drive status cylinders chip few free untold =
 
 -- the cylinder number that is reported is where the heads went
 pub told_at : (drive target : ℕ) (cylinders : List ℕ) → drive ≤ 3 → length cylinders ≡ 4 → slice_index (slice_set cylinders drive target) drive ≡ target
-told_at zero target (a ∷ b ∷ c ∷ d ∷ []) few four = refl
-told_at (suc zero) target (a ∷ b ∷ c ∷ d ∷ []) few four = refl
-told_at (suc (suc zero)) target (a ∷ b ∷ c ∷ d ∷ []) few four = refl
-told_at (suc (suc (suc zero))) target (a ∷ b ∷ c ∷ d ∷ []) few four = refl
 told_at (suc (suc (suc (suc drive)))) target (a ∷ b ∷ c ∷ d ∷ []) few four = absurd (omega arith)
+told_at _ target (a ∷ b ∷ c ∷ d ∷ []) few four = refl
 told_at drive target _ few four = absurd (omega arith)
 
 pub stood_stands : (status cylinder : ℕ) (cylinders : List ℕ) (chip : ChipState) → is_held chip.front.adapter.controller ≡ false → HeadsStand (stood status cylinder cylinders chip).front

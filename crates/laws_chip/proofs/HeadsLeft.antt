@@ -1,8 +1,7 @@
 -- How many device steps heads still move at most: each device step leaves fewer, also while pulses come in the time that
 -- SPECIFY sets.
 use Rattle.std.proofs.Common.{◌≡◌, ℕ, suc, ◌+◌, ◌-◌, ◌*◌, ◌%◌, ◌^◌, ◌<◌, ◌≤◌, max, nat_le, nat_lt, Bool, true, false, not, ◌&&◌, ◌==◌, if◌then◌else◌, Option, Some, None, List, [], length, bit_and, bit_or, refl, sym, ◌∙◌, ap, subst, arith}
-use Rattle.laws_chip.proofs.Common.{option_map_or, mul-le-mul_right, suc-mul, and_from, and_parts, false≢true, leb-false, leb-true, not-true, nat_tests, has_ended_seek, pulses_within, seek_bits, with_motion, Motion, Outward, Ended, DriveSeek, is_held, is_idle, Fdc, Front, GivesCommand, is_ready, is_ready_at, status_at, with_controller, StepsFront, recalibrated_at, recalibrated_outside, ChipState, with_front, drained, drained_by, moves_heads, moving, GoesOnIf, Paces, PulsesIf, is_due, step_words, PacedSeek, Settings, heads_steps, seek_steps, pulses_left, steps_left, IsSound, RestsBehind}
-use Rattle.fdc_chip.specs.Paces.{EndsAt, is_over, stepped}
+use Rattle.laws_chip.proofs.Common.{option_map_or, mul-le-mul_right, suc-mul, and_from, and_parts, false≢true, leb-false, leb-true, not-true, nat_tests, has_ended_seek, pulses_within, seek_bits, with_motion, Motion, Outward, Ended, DriveSeek, is_held, is_idle, Fdc, Front, GivesCommand, is_ready, is_ready_at, status_at, with_controller, StepsFront, recalibrated_at, recalibrated_outside, ChipState, with_front, drained, drained_by, moves_heads, moving, GoesOnIf, Paces, PulsesIf, is_due, step_words, PacedSeek, Settings, heads_steps, seek_steps, pulses_left, steps_left, IsSound, RestsBehind, EndsPace as EndsAt, is_over_pace as is_over, chip_stepped as stepped}
 use Rattle.laws_chip.proofs.FirstSectors.{base_held}
 use Rattle.laws_chip.proofs.HeadsGoing.{none_pending}
 use Rattle.laws_chip.proofs.HeadsTold.{TellsEnd, drained_left, drained_runs, front_nearer, runs_tells}
@@ -39,9 +38,6 @@ moves_some front idle runs moves = by_seek front.adapter.controller.seeks.seek r
 
 -- ---- ---- numbers
 
-one_less : (now was n : ℕ) → now ≤ was - 1 → was ≤ n → now ≤ n - 1
-one_less now was n fewer few = omega arith
-
 still_less : (now mid was : ℕ) → now ≤ mid → mid ≤ was - 1 → now ≤ was - 1
 still_less now mid was one two = omega arith
 
@@ -60,9 +56,6 @@ pulse_on pulses before words next wait was now n fewer some few all =
 
 end_on : (all wait was now n : ℕ) → now ≤ 256 → max wait was + (all + 257) ≤ n → now ≤ n - 1
 end_on all wait was now n few within = omega arith
-
-more_than : (all : ℕ) → 257 ≤ all + 257
-more_than all = omega arith
 
 -- ---- ---- the inner controller after the results were taken over
 
@@ -210,7 +203,7 @@ goes_paced false words n pace old chip new was due some few later is = by_wait (
         (moves_some chip.front was.idle was.runs moves) was.left few)
     by_wait false more = freed_calm words (n - 1) pace old chip new was is
         (wait_on (pulses_left pace * (max words 256 + 1) + 257) pace.wait (seek_steps old.adapter.controller.seeks.seek) (seek_steps chip.front.adapter.controller.seeks.seek) n (leb-false pace.wait 1 more)
-        was.left few (more_than (pulses_left pace * (max words 256 + 1))))
+        was.left few (omega arith))
 
 -- ---- a device step of a chip that isn't busy
 
@@ -250,7 +243,7 @@ module _ (words n : ℕ) (old : ChipState) (between : Front) (new : ChipState) (
         tells = near.tells;
         four = near.four;
         within = subst (λ (p : Option PacedSeek). heads_steps words p between.adapter.controller.seeks.seek ≤ n - 1) (sym at)
-            (one_less (seek_steps between.adapter.controller.seeks.seek) (seek_steps old.front.adapter.controller.seeks.seek) n near.left before);
+            (omega arith);
       })
   by_pace (Some pace) at goes =
       let before = subst (λ (p : Option PacedSeek). heads_steps words p old.front.adapter.controller.seeks.seek ≤ n) at few in

@@ -1,10 +1,11 @@
 -- A seek that has ended has its result in the inner controller, until the result is taken over. The heads that move
 -- come nearer with each device step.
-use Rattle.std.proofs.Common.{◌≡◌, ℕ, zero, suc, ◌+◌, ◌-◌, ◌<◌, ◌≤◌, nat_lt, Bool, true, false, not, ◌&&◌, ◌||◌, ◌==◌, if◌then◌else◌, Option, Some, None, is_some, option_map, List, [], length, slice_index, slice_index_or, slice_set, refl, sym, ◌∙◌, ap, subst, arith}
-use Rattle.laws_chip.proofs.Common.{option_map_or, and_right, eqb-false, false≢true, or_parts, nat_tests, get_or-set_other, get_or-set_same, length-set, after_sense, ended, first_pending, has_ended, has_ended_seek, neighbour, recalibrated, released, sensed, sought, stepped_seek, with_motion, with_polls, Motion, Outward, Toward, Ended, DriveSeek, is_held, polled, seek_stepped, Fdc, lines_at, after_result, without_result, Front, with_controller, StepsFront, pending_outside, sensed_at, sensed_outside, ChipState, with_front, drained, drained_one, IsOfFour, seek_steps, steps_left, RestsBehind}
-use Rattle.fdc_commands.specs.Seeking.{Seeking, status_of, stepped, without_result as without_one}
+use Rattle.std.proofs.Common.{◌≡◌, ℕ, suc, ◌+◌, ◌-◌, ◌<◌, ◌≤◌, nat_lt, Bool, true, false, ◌&&◌, ◌||◌, ◌==◌, if◌then◌else◌, Option, Some, None, is_some, option_map, List, [], length, slice_index, slice_index_or, slice_set, refl, sym, ◌∙◌, ap, subst, arith}
+use Rattle.laws_chip.proofs.Common.{option_map_or, and_right, eqb-false, false≢true, nat_tests, get_or-set_other, get_or-set_same, length-set, after_sense, ended, first_pending, has_ended, has_ended_seek, neighbour, recalibrated, released, sensed, sought, stepped_seek, with_motion, with_polls, Motion, Outward, Toward, Ended, DriveSeek, polled, seek_stepped, Fdc, lines_at, after_result, without_result, Front, with_controller, StepsFront, pending_outside, sensed_at, sensed_outside, ChipState, with_front, drained, drained_one, IsOfFour, seek_steps, steps_left, RestsBehind, Seeks as Seeking, commands_stepped as stepped}
+use Rattle.fdc_commands.specs.Seeking.{status_of, without_result as without_one}
 use Rattle.fdc_chip.specs.Doing.{drained_by}
 use Rattle.laws_chip.proofs.HeadsGoing.{neighbour_left, none_pending, rests_by_line}
+use Rattle.laws_chip.proofs.Known.{polled_by}
 use Rattle.laws_chip.proofs.Rests.{taking_stays, through_step}
 use Rattle.laws_chip.proofs.SeeksBegun.{IsIdleAt, all_taken, idle_takes, one_taken}
 use Rattle.laws_chip.proofs.WholeTransfers.{kept_front}
@@ -61,12 +62,6 @@ sense_runs s runs = by_first (first_pending s)
     by_first None = refl
     by_first (Some drive) = by_seek drive s.seek runs
 
-at_most : (n : ℕ) → n ≤ n
-at_most n = omega arith
-
-none_most : (n : ℕ) → 0 ≤ n
-none_most n = omega arith
-
 less_still : (a b c : ℕ) → a ≤ b → b ≤ c → a ≤ c
 less_still a b c one two = omega arith
 
@@ -74,15 +69,15 @@ sense_left : (s : Seeking) → seek_steps (after_sense s).seek ≤ seek_steps s.
 sense_left s = by_first (first_pending s)
   where
     by_seek : (drive : ℕ) (seek : Option DriveSeek) → seek_steps (released drive seek) ≤ seek_steps seek
-    by_seek drive None = at_most 0
+    by_seek drive None = omega arith
     by_seek drive (Some seek) = by_drive ((seek.drive == drive) && has_ended seek.motion)
       where
         by_drive : (b : Bool) → seek_steps (if b then None else Some seek) ≤ steps_left seek.motion
-        by_drive true = none_most (steps_left seek.motion)
-        by_drive false = at_most (steps_left seek.motion)
+        by_drive true = omega arith
+        by_drive false = omega arith
 
     by_first : (first : Option ℕ) → seek_steps (option_map_or (without_one s) first s).seek ≤ seek_steps s.seek
-    by_first None = at_most (seek_steps s.seek)
+    by_first None = omega arith
     by_first (Some drive) = by_seek drive s.seek
 
 -- ---- ---- all results are taken over
@@ -143,11 +138,8 @@ none_runs None has = refl
 none_runs (Some seek) has = by_end (has_ended seek.motion) refl
   where
     by_drive : (drive : ℕ) → is_some (slice_index_or none_pending drive None) ≡ true → ⊥
-    by_drive zero is = false≢true is
-    by_drive (suc zero) is = false≢true is
-    by_drive (suc (suc zero)) is = false≢true is
-    by_drive (suc (suc (suc zero))) is = false≢true is
     by_drive (suc (suc (suc (suc drive)))) is = false≢true is
+    by_drive _ is = false≢true is
 
     by_end : (b : Bool) → has_ended seek.motion ≡ b → b ≡ false
     by_end true over = absurd (by_drive seek.drive (has over))
@@ -177,7 +169,7 @@ ended_nearer : (old : Seeking) (drive cylinder status : ℕ) → length old.pend
 ended_nearer old drive cylinder status four few = record {
   tells = λ over. ap is_some (get_or-set_same old.pending drive (Some status) None (in_list drive (length old.pending) four few));
   four = length-set old.pending drive (Some status) ∙ four;
-  left = none_most (seek_steps old.seek - 1);
+  left = omega arith;
 }
   where
     in_list : (drive n : ℕ) → n ≡ 4 → drive < 4 → drive < n
@@ -190,9 +182,6 @@ on_nearer old drive was on four runs fewer seek = record {
   left = subst (λ (s : Option DriveSeek). steps_left on ≤ seek_steps s - 1) (sym seek) fewer;
 }
 
-outward_fewer : (pulses : ℕ) → (pulses == 0) ≡ false → pulses - 1 + 1 ≤ pulses + 1 - 1
-outward_fewer pulses some = grind (arith, nat_tests)
-
 toward_fewer : (now was : ℕ) → now + 1 ≤ was → now ≤ was - 1
 toward_fewer now was fewer = omega arith
 
@@ -201,7 +190,7 @@ motion_nearer old drive (Outward pulses) track0 four few seek tells = by_last (t
   where
     by_last : (b : Bool) → (track0 || (pulses == 0)) ≡ b → IsNearer old (if b then ended old drive 0 (recalibrated drive track0) else with_motion old drive (Outward (pulses - 1)))
     by_last true is = ended_nearer old drive 0 (recalibrated drive track0) four few
-    by_last false is = on_nearer old drive (Outward pulses) (Outward (pulses - 1)) four refl (outward_fewer pulses (or_parts track0 (pulses == 0) is).1) seek
+    by_last false is = on_nearer old drive (Outward pulses) (Outward (pulses - 1)) four refl (grind (arith, nat_tests)) seek
 motion_nearer old drive (Toward cylinder target) track0 four few seek tells = by_there (cylinder == target) refl
   where
     by_there : (b : Bool) → (cylinder == target) ≡ b → IsNearer old (if b then ended old drive target (sought drive) else with_motion old drive (Toward (neighbour cylinder target) target))
@@ -210,7 +199,7 @@ motion_nearer old drive (Toward cylinder target) track0 four few seek tells = by
         let next : Motion = Toward (neighbour cylinder target) target in
         on_nearer old drive (Toward cylinder target) next four refl
         (toward_fewer (steps_left next) (steps_left (Toward cylinder target)) (neighbour_left cylinder target (nat_lt cylinder target) refl is)) seek
-motion_nearer old drive Ended track0 four few seek tells = record { tells = tells; four = four; left = subst (λ (s : Option DriveSeek). seek_steps s ≤ seek_steps s - 1) (sym seek) (none_most (0 - 1)) }
+motion_nearer old drive Ended track0 four few seek tells = record { tells = tells; four = four; left = subst (λ (s : Option DriveSeek). seek_steps s ≤ seek_steps s - 1) (sym seek) (omega arith) }
 
 stepped_nearer : (track0 : Bool) (old : Seeking) → length old.pending ≡ 4 → IsOfFour old.seek → TellsEnd old → IsNearer old (stepped old track0)
 stepped_nearer track0 old four few tells = by_seek old.seek refl
@@ -218,7 +207,7 @@ stepped_nearer track0 old four few tells = by_seek old.seek refl
     by_seek : (seek : Option DriveSeek) → old.seek ≡ seek → IsNearer old (stepped old track0)
     by_seek None is =
         let same : stepped old track0 ≡ old = ap (λ (s : Option DriveSeek). option_map_or (λ (d : DriveSeek). stepped_seek old d.drive d.motion track0) s old) is in
-        subst (IsNearer old) (sym same) (record { tells = tells; four = four; left = subst (λ (s : Option DriveSeek). seek_steps s ≤ seek_steps s - 1) (sym is) (none_most (0 - 1)) })
+        subst (IsNearer old) (sym same) (record { tells = tells; four = four; left = subst (λ (s : Option DriveSeek). seek_steps s ≤ seek_steps s - 1) (sym is) (omega arith) })
     by_seek (Some seek) is =
         let at : stepped old track0 ≡ stepped_seek old seek.drive seek.motion track0 = ap (λ (s : Option DriveSeek). option_map_or (λ (d : DriveSeek). stepped_seek old d.drive d.motion track0) s old) is in
         subst (IsNearer old) (sym at) (motion_nearer old seek.drive seek.motion track0 four (subst IsOfFour is few) is tells)
@@ -241,11 +230,8 @@ polls_tell old few = by_seek old.seek few
     by_seek (Some seek) few = λ over. by_drive seek.drive few
 
 polled_tells : (old : Fdc) → length old.seeks.pending ≡ 4 → IsOfFour old.seeks.seek → TellsEnd old.seeks → IsPolled old.seeks (polled old).seeks
-polled_tells old four few tells = by_poll (old.poll_due && not (is_held old))
-  where
-    by_poll : (b : Bool) → IsPolled old.seeks (if b then record old { poll_due = false; interrupt = true; seeks = with_polls old.seeks } else old).seeks
-    by_poll true = record { four = refl; seek = refl; tells = polls_tell old.seeks few }
-    by_poll false = record { four = four; seek = refl; tells = tells }
+polled_tells old four few tells =
+    polled_by (λ (fdc : Fdc). IsPolled old.seeks fdc.seeks) old (record { four = four; seek = refl; tells = tells }) (record { four = refl; seek = refl; tells = polls_tell old.seeks few })
 
 fdc_nearer : (track0 : Bool) (old : Fdc) → length old.seeks.pending ≡ 4 → IsOfFour old.seeks.seek → TellsEnd old.seeks → IsNearer old.seeks (seek_stepped track0 (polled old)).seeks
 fdc_nearer track0 old four few tells =

@@ -1,8 +1,6 @@
 -- A held command waits for heads, whatever seek they make: each device step leaves fewer, and other calls leave as many.
-use Rattle.std.proofs.Common.{◌≡◌, ◌⊎◌, inl, inr, ℕ, ◌+◌, ◌-◌, ◌*◌, ◌≤◌, max, Bool, true, false, ◌||◌, Option, Some, None, is_some, [], length, refl, sym, ◌∙◌, ap, subst, arith}
-use Rattle.laws_chip.proofs.Common.{and_from, has_ended_seek, DriveSeek, IsInRange, Fdc, ChipState, with_front, code_of, AttendsIf, drained, implies, is_moving, moves_heads, needs_heads, GoesOnIf, Paces, PulsesIf, is_due, step_words, StepsChip, ChipOpcode, Order, PacedSeek, Settings, Held, IsDoneFree, IsHeldFor, HeadsMove, heads_of, heads_steps, seek_steps, Call, Does, is_reset, is_step, pulses_left, is_of_data_port, IsSound, RestsBehind, waits_for_heads}
-use Rattle.fdc_commands.specs.Seeking.{Seeking}
-use Rattle.fdc_chip.specs.Paces.{EndsAt, is_over}
+use Rattle.std.proofs.Common.{◌≡◌, ◌⊎◌, inl, inr, ℕ, ◌+◌, ◌-◌, ◌*◌, ◌≤◌, Bool, true, false, ◌||◌, Option, Some, None, is_some, [], length, refl, sym, ◌∙◌, ap, subst, arith}
+use Rattle.laws_chip.proofs.Common.{and_from, has_ended_seek, DriveSeek, IsInRange, Fdc, ChipState, with_front, code_of, AttendsIf, drained, implies, is_moving, moves_heads, needs_heads, GoesOnIf, Paces, PulsesIf, is_due, step_words, StepsChip, ChipOpcode, Order, PacedSeek, Settings, Held, IsDoneFree, IsHeldFor, HeadsMove, heads_of, heads_steps, seek_steps, Call, Does, is_reset, is_step, is_of_data_port, IsSound, RestsBehind, waits_for_heads, EndsPace as EndsAt, is_over_pace as is_over, Seeks as Seeking}
 use Rattle.laws_chip.proofs.HeadsLeft.{IsFewLater, IsPaced, drained_settings, moves_some, paces_on}
 use Rattle.laws_chip.proofs.HeadsTold.{drained_left, drained_runs, drained_same, runs_tells}
 use Rattle.laws_chip.proofs.Rests.{drained_rests}
@@ -21,20 +19,11 @@ range_steps fdc range = by_seek fdc.seeks.seek refl
     by_seek None is = omega arith
     by_seek (Some seek) is = motion_within seek.motion (range.seeks.motion seek is)
 
-less_max : (all wait now was n : ℕ) → now ≤ was → max wait was + all ≤ n → max wait now + all ≤ n
-less_max all wait now was n few within = omega arith
-
-less_steps : (now was n : ℕ) → now ≤ was → was ≤ n → now ≤ n
-less_steps now was n few within = omega arith
-
 -- a seek of fewer device steps leaves fewer
 pub heads_less : (words n : ℕ) (pace : Option PacedSeek) (now was : Option DriveSeek) → seek_steps now ≤ seek_steps was → heads_steps words pace was ≤ n → heads_steps words pace now ≤ n
-heads_less words n None now was few within = less_steps (seek_steps now) (seek_steps was) n few within
+heads_less words n None now was few within = omega arith
 heads_less words n (Some pace) now was few within =
-    less_max (pulses_left pace * (max words 256 + 1) + 257) pace.wait (seek_steps now) (seek_steps was) n few within
-
-pace_some : (all wait now : ℕ) → 1 ≤ max wait now + (all + 257)
-pace_some all wait now = omega arith
+    (omega arith)
 
 -- ---- calls that leave the heads as they are
 
@@ -44,15 +33,12 @@ heads_are old new keeps =
     ∙ (ap (λ (p : Option PacedSeek). heads_steps (step_words old.settings) p new.front.adapter.controller.seeks.seek) keeps.pace
     ∙ ap (λ (s : Seeking). heads_steps (step_words old.settings) old.pace s.seek) keeps.left.seeks)
 
-keeps_move : (left : ℕ) (old new : ChipState) → KeepsHeads old new → HeadsMove left old → HeadsMove left new
-keeps_move left old new keeps was = record {
-  runs = ap has_ended_seek keeps.left.seeks ∙ was.runs;
-  some = subst (λ n. 1 ≤ n) (sym (heads_are old new keeps)) was.some;
-  within = subst (λ n. n ≤ left) (sym (heads_are old new keeps)) was.within;
-}
-
 pub move_call : (left : ℕ) (call : Call) (old new : ChipState) → old.stage ≡ Held → Does call old new → is_step call ≡ false → is_reset call ≡ false → is_of_data_port call ≡ false → HeadsMove left old → HeadsMove left new
-move_call left call old new at does no_step quiet other was = keeps_move left old new (call_heads call old new (ap waits_for_heads at) does no_step quiet other) was
+move_call left call old new at does no_step quiet other was = record {
+  runs = ap has_ended_seek (call_heads call old new (ap waits_for_heads at) does no_step quiet other).left.seeks ∙ was.runs;
+  some = subst (λ n. 1 ≤ n) (sym (heads_are old new (call_heads call old new (ap waits_for_heads at) does no_step quiet other))) was.some;
+  within = subst (λ n. n ≤ left) (sym (heads_are old new (call_heads call old new (ap waits_for_heads at) does no_step quiet other))) was.within;
+}
 
 -- ---- pulses leave the settings
 
@@ -82,7 +68,7 @@ heads_some chip idle runs moves = by_pace chip.pace refl moves
         subst (λ (p : Option PacedSeek). 1 ≤ heads_steps (step_words chip.settings) p chip.front.adapter.controller.seeks.seek) (sym at) (moves_some chip.front idle runs moves)
     by_pace (Some pace) at moves =
         subst (λ (p : Option PacedSeek). 1 ≤ heads_steps (step_words chip.settings) p chip.front.adapter.controller.seeks.seek) (sym at)
-        (pace_some (pulses_left pace * (max (step_words chip.settings) 256 + 1)) pace.wait (seek_steps chip.front.adapter.controller.seeks.seek))
+        (omega arith)
 
 pub taken_idle : (chip : ChipState) → IsIdleAt chip.front → length chip.front.adapter.controller.seeks.pending ≡ 4 → IsIdleAt (drained chip).front
 taken_idle chip idle four = (all_taken chip idle four).taken.idle

@@ -1,16 +1,13 @@
 -- READ ID over a medium that stays in: what it heard, and the sector ID that it reports.
 use Rattle.std.proofs.Common.{◌≡◌, ◌⊎◌, inl, inr, ℕ, zero, suc, ◌+◌, ◌*◌, ◌<◌, ◌≤◌, Bool, true, false, not, ◌&&◌, ◌||◌, ◌==◌, Option, Some, List, [], ◌∷◌, bit_and, refl, sym, ◌∙◌, ap, subst, arith}
-use Rattle.laws_chip.proofs.Common.{agree_below_at, false≢true, eqb-true, Chrn, IsAddressAt, IsDisk, Becomes, DriveState, at_index, Results, HasAddress, HasIdentified, Past, new_past, heard, Ending, Done, NoMark, NoSector, Late, results_of, IsReadingId, phase_told, MayReadIdIn, MayReadIdTask, key_met, stepped, head_of, is_listening, Long, Phase, Execute, Result, Task, DataRate, BeginsData, Works, SeesTask, SeesUnder, SeesWord, after_step, is_executing, resets, MovesIn, MovesTask, let_pass, polled, Fdc, IsHeardFrom, address_heard, address_late, turn_heard, AdapterState, StepsAdapter, drive_at, selected_at, Front, GivesAt, GivesCommand, GivesFront, TakesAt, TakesFront, WritesFront, count_told, results_outside, results_taken, told_front, told_if, StepsFront, Read, Transfer, IsAt, TurnsOn, ChipState, with_front, code_of, Obeys, identifying, is_format, EndsAs, EndsSent, MayEnd, is_not_found, looks_for_cylinder, told_results, Follows, StepsChip, ChipOpcode, Order, ChipStage, Busy, IsFreeBehind, Call, Does, is_step, IsIdBegun, StaysUnder, TurnsOnBy, is_read_id, AreAt, ExecutesBehind, IsSound, executes_single, Tells, has_command}
-use Rattle.fdc_commands.specs.declared.command.Command.TheVariants.{ReadId}
+use Rattle.laws_chip.proofs.Common.{agree_below_at, false≢true, eqb-true, Chrn, IsAddressAt, IsDisk, Becomes, DriveState, at_index, Results, HasAddress, HasIdentified, Past, new_past, heard, Ending, Done, NoMark, NoSector, Late, results_of, phase_told, MayReadIdIn, MayReadIdTask, key_met, stepped, head_of, is_listening, Long, Phase, Execute, Result, Task, DataRate, BeginsData, Works, SeesTask, SeesUnder, SeesWord, after_step, is_executing, MovesIn, MovesTask, let_pass, polled, Fdc, IsHeardFrom, address_heard, address_late, turn_heard, AdapterState, StepsAdapter, drive_at, selected_at, Front, GivesAt, GivesCommand, TakesAt, count_told, results_outside, results_taken, told_if, StepsFront, Read, Transfer, IsAt, TurnsOn, ChipState, with_front, code_of, Obeys, identifying, is_format, EndsAs, EndsSent, MayEnd, is_not_found, looks_for_cylinder, told_results, Follows, StepsChip, ChipOpcode, Order, ChipStage, Busy, IsFreeBehind, Call, Does, is_step, IsIdBegun, StaysUnder, TurnsOnBy, is_read_id, AreAt, ExecutesBehind, IsSound, executes_single, Tells, has_command, ChipTelling as Telling, SentTask as Sent, CommandReadId as ReadId, MediumPlace as Place}
 use Rattle.fdc_phases.specs.declared.phases.Task.TheVariants as phase_task
-use Rattle.laws_chip.specs.Media.{Place, track_at}
+use Rattle.laws_chip.specs.Media.{track_at}
 use Rattle.laws_chip.proofs.LateHearing.{hearing_led}
 use Rattle.laws_chip.proofs.Medium.{IsHearingAt, adapter_turns, fresh_hearing, kept_hearing, outset_at}
-use Rattle.laws_chip.proofs.Resting.{polled_phase}
+use Rattle.laws_chip.proofs.Known.{polled_phase}
 use Rattle.fdc_chip.specs.declared.answer.ChipAnswer.TheVariants as answer
 use Rattle.fdc_chip.specs.declared.code.ChipOpcode.TheVariants as code
-use Rattle.fdc_chip.specs.declared.stage.ChipStage.TheVariants.{Telling}
-use Rattle.fdc_chip.specs.declared.stage.ChipTask.TheVariants.{Sent}
 use Rattle.laws_chip.specs.Calls as made
 use Rattle.laws_chip.proofs.Tellings.{judged_other}
 use Rattle.laws_chip.proofs.Channels.{counts_executes, front_gives, front_left, front_takes, gives_executes, keeps_executes, port_executes, takes_executes}
@@ -45,10 +42,6 @@ record Identifying (place : Place) (unit : ℕ) (chip : ChipState) : Type 0 wher
   known : MayReadIdIn past unit chip.front.adapter.controller.phase
   hearing : IsHearingAt place (id_at unit) past (drive_at chip.front.adapter place.bay)
 
--- READ ID begins
-begun_known : (unit : ℕ) (chosen : Task) → IsReadingId unit chosen → MayReadIdIn new_past unit (Execute (record { head_drive = unit; steps = 0; task = chosen }))
-begun_known unit chosen is = is
-
 begun_identifies : (place : Place) (unit : ℕ) (chip : ChipState) → IsIdBegun unit chip → IsAt place chip.front → Identifying place unit chip
 begun_identifies place unit chip is at =
     let sent = begins_sent Sent (GivesCommand (identifying unit)) is.set chip (stands_free is.set.front is.free) is.begins in
@@ -59,7 +52,7 @@ begun_identifies place unit chip is at =
       order = is.order;
       executes = (id_executes unit sent.set chip.front sent.stands obeyed).0;
       past = new_past;
-      known = subst (λ (fdc : Fdc). MayReadIdIn new_past unit fdc.phase) (sym begins.3) (begun_known unit begins.0 begins.1);
+      known = subst (λ (fdc : Fdc). MayReadIdIn new_past unit fdc.phase) (sym begins.3) (begins.1);
       hearing = fresh_hearing place chip.front (id_at unit) new_past at refl;
     }
 
@@ -182,25 +175,12 @@ same_keeps : (place : Place) (old new : Front) → new ≡ old → ExecutesBehin
 same_keeps place old new is was = subst (KeepsId place old) (sym is)
     (record { executes = was; known = λ past unit known. known; turns = λ at. turns_as place (drive_at old.adapter place.bay) (drive_at old.adapter place.bay) refl })
 
-takes_keeps : (place : Place) (old : Front) (byte : Option ℕ) (new : Front) → TakesFront old byte new → ExecutesBehind old → KeepsId place old new
-takes_keeps place old byte new takes was =
-    let (stage, alike) = front_takes old byte new was.through takes in
-    let is = (subst (λ s. TakesAt s old byte new) was.through takes).1 in
-    record {
-      executes = takes_executes old byte new takes was;
-      known = known_as old.adapter.controller.phase new.adapter.controller.phase alike.phase;
-      turns = λ at. turns_as place (drive_at old.adapter place.bay) (drive_at new.adapter place.bay) (ap (λ (front : Front). drive_at front.adapter place.bay) is);
-    }
-
-gives_keeps : (place : Place) (byte : ℕ) (old : Front) (given : Bool) (new : Front) → GivesFront byte old given new → ExecutesBehind old → KeepsId place old new
-gives_keeps place byte old given new gives was =
-    let (stage, alike) = front_gives byte old given new was.through gives in
-    let is = (subst (λ s. GivesAt s byte old given new) was.through gives).1 in
-    record {
-      executes = gives_executes byte old given new gives was;
-      known = known_as old.adapter.controller.phase new.adapter.controller.phase alike.phase;
-      turns = λ at. turns_as place (drive_at old.adapter place.bay) (drive_at new.adapter place.bay) (ap (λ (front : Front). drive_at front.adapter place.bay) is);
-    }
+alike_keeps : (place : Place) (old new : Front) → ExecutesBehind new → new.adapter.controller.phase ≡ old.adapter.controller.phase → drive_at new.adapter place.bay ≡ drive_at old.adapter place.bay → KeepsId place old new
+alike_keeps place old new executes phase drive = record {
+  executes = executes;
+  known = known_as old.adapter.controller.phase new.adapter.controller.phase phase;
+  turns = λ at. turns_as place (drive_at old.adapter place.bay) (drive_at new.adapter place.bay) drive;
+}
 
 told_known : (phase : Phase) (past : Past) (unit : ℕ) → MayReadIdIn past unit phase → MayReadIdIn past unit (phase_told phase)
 told_known (Execute execution) past unit known = by_task execution.task known
@@ -210,28 +190,26 @@ told_known (Execute execution) past unit known = by_task execution.task known
     by_task _ known = absurd known
 told_known _ past unit known = known
 
-counts_keep : (place : Place) (old new : Front) → new ≡ told_front old → ExecutesBehind old → KeepsId place old new
-counts_keep place old new is was =
+makes_id : (b : Bool) (place : Place) (old new : Front) → (b ≡ true → TurnsOn (drive_at old.adapter place.bay) (drive_at new.adapter place.bay)) → Makes b old new → ExecutesBehind old → KeepsId place old new
+makes_id b place old new turns (makes.Same is) was = same_keeps place old new is was
+makes_id b place old new turns (makes.Takes byte takes) was =
+    alike_keeps place old new (takes_executes old byte new takes was) (front_takes old byte new was.through takes).1.phase
+    (ap (λ (front : Front). drive_at front.adapter place.bay) (subst (λ s. TakesAt s old byte new) was.through takes).1)
+makes_id b place old new turns (makes.Gives byte given gives) was =
+    alike_keeps place old new (gives_executes byte old given new gives was) (front_gives byte old given new was.through gives).1.phase
+    (ap (λ (front : Front). drive_at front.adapter place.bay) (subst (λ s. GivesAt s byte old given new) was.through gives).1)
+makes_id b place old new turns (makes.Counts is) was =
     let at : new ≡ record old { adapter = told_if true old.adapter } = subst (λ stage. new ≡ count_told stage old) was.through is in
     record {
       executes = counts_executes old new is was;
       known = λ past unit known. subst (λ (front : Front). MayReadIdIn past unit front.adapter.controller.phase) (sym at) (told_known old.adapter.controller.phase past unit known);
       turns = λ there. turns_as place (drive_at old.adapter place.bay) (drive_at new.adapter place.bay) (ap (λ (front : Front). drive_at front.adapter place.bay) at);
     }
-
-port_keeps : (place : Place) (port value : ℕ) (old new : Front) → WritesFront port value old new → (port == 0x3F5) ≡ false → resets port value ≡ false → ExecutesBehind old → KeepsId place old new
-port_keeps place port value old new writes no_data quiet was = record {
+makes_id b place old new turns (makes.Writes port value writes no_data quiet) was = record {
   executes = port_executes port value old new writes no_data quiet was;
   known = known_as old.adapter.controller.phase new.adapter.controller.phase (front_left port value old new writes no_data quiet).phase;
   turns = λ at. adapter_turns place (id_at 0) false false refl port value place.bay old.adapter new.adapter (writes.others no_data).0 at.motor;
 }
-
-makes_id : (b : Bool) (place : Place) (old new : Front) → (b ≡ true → TurnsOn (drive_at old.adapter place.bay) (drive_at new.adapter place.bay)) → Makes b old new → ExecutesBehind old → KeepsId place old new
-makes_id b place old new turns (makes.Same is) was = same_keeps place old new is was
-makes_id b place old new turns (makes.Takes byte takes) was = takes_keeps place old byte new takes was
-makes_id b place old new turns (makes.Gives byte given gives) was = gives_keeps place byte old given new gives was
-makes_id b place old new turns (makes.Counts is) was = counts_keep place old new is was
-makes_id b place old new turns (makes.Writes port value writes no_data quiet) was = port_keeps place port value old new writes no_data quiet was
 makes_id b place old new turns (makes.Changes changes keeps) was = record {
   executes = keeps_executes old new keeps was;
   known = known_as old.adapter.controller.phase new.adapter.controller.phase (ap (λ (fdc : Fdc). fdc.phase) keeps.controller);
@@ -312,9 +290,6 @@ key_on_track place unit past key drive (from, since, led, began) has =
       | inr hears ↦ on_track track from led.late key hears.heard late
     ]
 
-same_answer : (one other : Results) → Telling (answer.Results one) 0 ≡ Telling (answer.Results other) 0 → one ≡ other
-same_answer one other is = cc
-
 pub id_tells : (place : Place) (unit : ℕ) (calls : List Call) (begun last new : ChipState) (results : Results) (at : AreAt (Busy Sent) calls begun last) → IsSound begun → IsIdBegun unit begun
     → StaysUnder place (Busy Sent) calls begun last at → StepsChip last new → Tells results new → results.st1.0 ≡ 0 → (spot : ℕ) × IsAddressAt (track_at place (head_of unit)) spot results.key
 id_tells place unit calls begun last new results at sound is under step tells none =
@@ -323,7 +298,7 @@ id_tells place unit calls begun last new results at sound is under step tells no
       | inl (same, executes) ↦ absurd (false≢true (sym (ap is_telling (ap (λ (chip : ChipState). chip.stage) same ∙ was.stage)) ∙ ap is_telling tells.stage))
       | inr told ↦
           let more = step_hears place unit last step.between step.steps was there in
-          let same : told.results ≡ results = same_answer told.results results (sym told.told ∙ tells.stage) in
+          let same : told.results ≡ results = cc in
           let (are, has) = subst (MayReadIdIn more.past unit) told.at more.known in
           let found = found_key unit more.past told.ending told.results are has (ap (λ (r : Results). r.st1.0) same ∙ none) in
           key_on_track place unit more.past results.key (drive_at step.between.adapter place.bay) more.hearing (subst (λ (r : Results). HasAddress more.past r.key) same found)

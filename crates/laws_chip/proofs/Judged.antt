@@ -1,8 +1,7 @@
 -- What the ending of a sector's command says, as the front judges it: the CRC of a field that is passed over doesn't
 -- count.
 use Rattle.std.proofs.Common.{◌≡◌, inl, inr, Bool, true, false, if◌then◌else◌, Option, Some, length, refl, sym, ◌∙◌, ap, subst, arith}
-use Rattle.laws_chip.proofs.Common.{false≢true, Chrn, IsSizeCode, HasDataField, Past, FindsSector, Ending, Done, BadCheck, Sent, ending_told, Fdc, is_other, is_skipping, other_mark, Operation, Read, Write, MovingSector, Accounts, AreLeft, FindsBadField, FindsField, HasBadField, HasFieldIn, IsFieldDone, IsMarkOf, IsOfOther, Means, MeansJudged, bytes_moved, sent_of}
-use Rattle.fdc_sequencer.specs.Moves.{judged}
+use Rattle.laws_chip.proofs.Common.{false≢true, Chrn, IsSizeCode, HasDataField, Past, FindsSector, Ending, Done, BadCheck, Sent, ending_told, Fdc, is_other, is_skipping, other_mark, Operation, Read, Write, MovingSector, Accounts, AreLeft, FindsBadField, FindsField, HasBadField, HasFieldIn, IsFieldDone, IsMarkOf, IsOfOther, Means, MeansJudged, bytes_moved, sent_of, front_judged as judged}
 use Rattle.laws_chip.proofs.Courses.{no_bytes}
 use Rattle.laws_chip.proofs.Known.{BadGoes, clash, either_way}
 use Rattle.laws_chip.proofs.Marks.{mark_then, then_bad, then_done}

@@ -1,12 +1,9 @@
 -- What is known of the controller's own command for a sector, through device steps, transfers, the terminal count and
 -- port accesses.
 use Rattle.std.proofs.Common.{◌≡◌, ◌⊎◌, inl, inr, ℕ, zero, suc, ◌+◌, ◌≤◌, Bool, true, false, not, ◌&&◌, ◌==◌, if◌then◌else◌, Option, List, [], ◌∷◌, ◌++◌, refl, sym, ◌∙◌, ap, subst, arith}
-use Rattle.laws_chip.proofs.Common.{false≢true, and_parts, eqb-true, DriveState, at_index, Chrn, Fifo, with_polls, Past, Late, is_open, opens, On, WriteStage, byte_out, taken_out, taken_in, told_count, to_memory_of, phase_told, Sent, MayReadIn, MayReadTask, gave, stepped, told_in, SeesTask, SeesUnder, SeesWord, after_step, is_executing, MovesIn, MovesTask, polled, DataRate, head_of, is_listening, is_reading, mark_of_phase, Writes, dor_resets, dsr_resets, resets, rate_chosen, asks, is_gated, is_held, reset, StepsNowhere, TaskStepsNowhere, WritesNowhere, WordTime, IsTime, Saw, KeptOut, Wrote, Stopped, after_time, ending_told, mark_of, WritesIn, WritesTask, WriteDoes, after_next, MayWrite, MayWriteIn, MayWriteTask, took, Fdc, Lines, Phase, Execute, Task, ReadTask, WriteTask, Format, Writing, out_reads, told_reads, in_writes, told_writes, writes_on, AdapterState, StepsAdapter, selected_at, IsNowhere, IsTimeOf, MayMove, PassesAt, StopsAtEnd, bytes_moved, Operation, Read, Write}
-use Rattle.fdc_stages.specs.Writings.{is_due}
+use Rattle.laws_chip.proofs.Common.{false≢true, and_parts, eqb-true, DriveState, at_index, Chrn, Fifo, with_polls, Past, Late, is_open, opens, On, WriteStage, byte_out, taken_out, taken_in, told_count, to_memory_of, phase_told, Sent, MayReadIn, MayReadTask, gave, stepped, told_in, SeesTask, SeesUnder, SeesWord, after_step, is_executing, MovesIn, MovesTask, polled, DataRate, head_of, is_listening, is_reading, mark_of_phase, Writes, dor_resets, dsr_resets, resets, rate_chosen, asks, is_gated, is_held, reset, EndsIn, Rests, Stays, Works, StepsNowhere, TaskStepsNowhere, WritesNowhere, WordTime, IsTime, Saw, KeptOut, Wrote, Stopped, after_time, ending_told, mark_of, WritesIn, WritesTask, WriteDoes, after_next, MayWrite, MayWriteIn, MayWriteTask, took, Fdc, Lines, Phase, Execute, Task, ReadTask, WriteTask, Writing, out_reads, told_reads, in_writes, told_writes, writes_on, AdapterState, StepsAdapter, selected_at, IsNowhere, IsTimeOf, MayMove, PassesAt, StopsAtEnd, bytes_moved, Operation, Read, Write, FollowsWord as Follows, Taking as Command, Result as Telling, stages_is_due as is_due}
 use Rattle.fdc_stages.specs.declared.writing.WriteStage.TheVariants as stage
-use Rattle.fdc_core.specs.Listening.{Follows}
-use Rattle.fdc_phases.specs.declared.phases.Phase.TheVariants.{Command, Result as Telling}
-use Rattle.fdc_phases.specs.declared.phases.Task.TheVariants.{ReadId}
+use Rattle.fdc_core.specs.Courses.{WorksAlone}
 use Rattle.fdc_phases.proofs.AtFirst.{rule_room}
 use Rattle.laws_chip.proofs.Marks.{EndsBadly, MarkStays, mark_then, step_bad, step_stays}
 
@@ -52,32 +49,58 @@ known_as operation past sent mark Is Was new goes known = record {
   bad = known.bad;
 }
 
+-- what holds with the poll and without it
+pub polled_by : (P : Fdc → Type 0) (old : Fdc) → P old → P (record old { poll_due = false; interrupt = true; seeks = with_polls old.seeks }) → P (polled old)
+polled_by P old stays comes = by_poll (old.poll_due && not (is_held old))
+  where
+    by_poll : (b : Bool) → P (if b then record old { poll_due = false; interrupt = true; seeks = with_polls old.seeks } else old)
+    by_poll true = comes
+    by_poll false = stays
+
 -- the poll changes neither the phase nor the rate
-polled_phase : (b : Bool) (old : Fdc) → (if b then record old { poll_due = false; interrupt = true; seeks = with_polls old.seeks } else old).phase ≡ old.phase
-polled_phase true old = refl
-polled_phase false old = refl
+pub polled_phase : (old : Fdc) → (polled old).phase ≡ old.phase
+polled_phase old = polled_by (λ (fdc : Fdc). fdc.phase ≡ old.phase) old refl refl
 
-pub polled_rate : (b : Bool) (old : Fdc) → (if b then record old { poll_due = false; interrupt = true; seeks = with_polls old.seeks } else old).rate ≡ old.rate
-polled_rate true old = refl
-polled_rate false old = refl
+pub polled_rate : (old : Fdc) → (polled old).rate ≡ old.rate
+polled_rate old = polled_by (λ (fdc : Fdc). fdc.rate ≡ old.rate) old refl refl
 
--- the drive that is selected
-module _ (head : ℕ) (old new : AdapterState) where
-  at_first_drive : selected_at old ≡ 0 → (time : WordTime) → IsTime time old.controller.rate head old.first new.first × StopsAtEnd time new.controller
-      → PassesAt (selected_at old) head time old new
-  at_first_drive at time is = record { at_first = λ same. is; at_second = λ other. absurd (omega (arith, at, other)); at_none = λ more. absurd (omega (arith, at, more)) }
-
-  at_second_drive : selected_at old ≡ 1 → (time : WordTime) → IsTime time old.controller.rate head old.second new.second × StopsAtEnd time new.controller
-      → PassesAt (selected_at old) head time old new
-  at_second_drive at time is = record { at_first = λ other. absurd (omega (arith, at, other)); at_second = λ same. is; at_none = λ more. absurd (omega (arith, at, more)) }
-
-  at_no_drive : 2 ≤ selected_at old → (time : WordTime) → IsNowhere time → PassesAt (selected_at old) head time old new
-  at_no_drive at time is = record { at_first = λ other. absurd (omega (arith, at, other)); at_second = λ other. absurd (omega (arith, at, other)); at_none = λ same. is }
-
+-- which drive is selected
 pub which_drive : (n : ℕ) → (n ≡ 0) ⊎ ((n ≡ 1) ⊎ (2 ≤ n))
 which_drive zero = inl refl
 which_drive (suc zero) = inr (inl refl)
 which_drive (suc (suc n)) = inr (inr (omega arith))
+
+-- whichever drive is selected, or none
+pub at_drive : {P : Type 0} (old new : AdapterState) → StepsAdapter old new → ((before after : DriveState) → Works old.controller before new.controller after → P)
+    → (WorksAlone old.controller new.controller → P) → P
+at_drive old new steps of alone = elim (which_drive (selected_at old)) [
+  | inl at ↦ of old.first new.first (steps.at_first at).0
+  | inr (inl at) ↦ of old.second new.second (steps.at_second at).0
+  | inr (inr at) ↦ alone (steps.at_none at).0
+]
+
+pub by_rests : {P : Type 0} (old new : AdapterState) → StepsAdapter old new → ((track0 : Bool) → Rests track0 (polled old.controller) new.controller → P) → P
+by_rests old new steps of = at_drive old new steps (λ before after works. of (before.cylinder == 0) works.rests) (λ alone. of false alone.rests)
+
+pub adapter_ends : (old new : AdapterState) → StepsAdapter old new → EndsIn old.controller.phase new.controller.phase
+adapter_ends old new steps = at_drive old new steps (λ before after works. works.ends) (λ alone. alone.ends)
+
+pub adapter_stays : (old new : AdapterState) → StepsAdapter old new → Stays old.controller new.controller
+adapter_stays old new steps = at_drive old new steps (λ before after works. works.stays) (λ alone. alone.stays)
+
+-- the same, with the word time that passes there
+by_drive : {P : Type 0} (head : ℕ) (old new : AdapterState) → StepsAdapter old new
+    → ((before after : DriveState) → Works old.controller before new.controller after
+    → ((time : WordTime) → IsTime time old.controller.rate head before after × StopsAtEnd time new.controller → PassesAt (selected_at old) head time old new) → P)
+    → (WorksAlone old.controller new.controller → ((time : WordTime) → IsNowhere time → PassesAt (selected_at old) head time old new) → P) → P
+by_drive head old new steps of alone = elim (which_drive (selected_at old)) [
+  | inl at ↦ of old.first new.first (steps.at_first at).0
+      (λ time is. record { at_first = λ same. is; at_second = λ other. absurd (omega (arith, at, other)); at_none = λ more. absurd (omega (arith, at, more)) })
+  | inr (inl at) ↦ of old.second new.second (steps.at_second at).0
+      (λ time is. record { at_first = λ other. absurd (omega (arith, at, other)); at_second = λ same. is; at_none = λ more. absurd (omega (arith, at, more)) })
+  | inr (inr at) ↦ alone (steps.at_none at).0
+      (λ time is. record { at_first = λ other. absurd (omega (arith, at, other)); at_second = λ other. absurd (omega (arith, at, other)); at_none = λ same. is })
+]
 
 -- ---- a read
 
@@ -114,31 +137,15 @@ reads_on : (wanted skip : Bool) (past : Past) (sent : Sent) (old new : AdapterSt
 reads_on wanted skip past sent old new steps busy was =
     let fdc = old.controller in
     let head = head_of sent.head_drive in
-    let same = polled_phase (fdc.poll_due && not (is_held fdc)) fdc in
-    elim (which_drive (selected_at old)) [
-      | inl at ↦ let works = (steps.at_first at).0 in let hears = works.reads in
-          read_on wanted skip past sent fdc.phase (polled fdc) fdc new.controller (at_index old.first) hears.word (λ time. IsTimeOf (Read wanted skip) time × PassesAt (selected_at old) head time old new) (
-            tt,
-            at_first_drive head old new at (Saw (at_index old.first) hears.word) (
-              read_seen past sent fdc.phase fdc.asking fdc.fifo.bytes fdc.rate (polled fdc) old.first new.first hears.word busy was hears.sees
-                  (subst (λ phase. MovesIn phase (polled fdc) old.first new.first) same works.drive),
-              tt,
-            ),
-          )
-          busy hears.follows was
-      | inr (inl at) ↦ let works = (steps.at_second at).0 in let hears = works.reads in
-          read_on wanted skip past sent fdc.phase (polled fdc) fdc new.controller (at_index old.second) hears.word (λ time. IsTimeOf (Read wanted skip) time × PassesAt (selected_at old) head time old new) (
-            tt,
-            at_second_drive head old new at (Saw (at_index old.second) hears.word) (
-              read_seen past sent fdc.phase fdc.asking fdc.fifo.bytes fdc.rate (polled fdc) old.second new.second hears.word busy was hears.sees
-                  (subst (λ phase. MovesIn phase (polled fdc) old.second new.second) same works.drive),
-              tt,
-            ),
-          )
-          busy hears.follows was
-      | inr (inr at) ↦ read_on wanted skip past sent fdc.phase (polled fdc) fdc new.controller false 0 (λ time. IsTimeOf (Read wanted skip) time × PassesAt (selected_at old) head time old new)
-          (tt, at_no_drive head old new at (Saw false 0) (refl, refl)) busy (steps.at_none at).0.reads was
-    ]
+    let Is : WordTime → Type 0 = λ time. IsTimeOf (Read wanted skip) time × PassesAt (selected_at old) head time old new in
+    by_drive head old new steps
+    (λ before after works at.
+    let hears = works.reads in
+    let index = at_index before in
+    let moves = subst (λ phase. MovesIn phase (polled fdc) before after) (polled_phase fdc) works.drive in
+    let seen = read_seen past sent fdc.phase fdc.asking fdc.fifo.bytes fdc.rate (polled fdc) before after hears.word busy was hears.sees moves in
+    read_on wanted skip past sent fdc.phase (polled fdc) fdc new.controller index hears.word Is (tt, at (Saw index hears.word) (seen, tt)) busy hears.follows was)
+    (λ alone at. read_on wanted skip past sent fdc.phase (polled fdc) fdc new.controller false 0 Is (tt, at (Saw false 0) (refl, refl)) busy alone.reads was)
 
 -- ---- a write
 
@@ -165,9 +172,6 @@ module _ (deleted : Bool) (past : Past) (sent : Sent) (mark : Option Bool) where
 
   write_task : (task : Task) (head_drive steps : ℕ) (asking : Bool) (fifo : Fifo) (polls : Fdc) (before after : DriveState) (new : Fdc) → WritesTask task head_drive steps asking fifo polls before after new
       → MayWriteTask past sent deleted head_drive steps task asking fifo → KnownOn (Write deleted) past sent mark (IsWriteAt polls.rate before after new) new
-  write_task (ReadId search) head_drive steps asking fifo polls before after new writes was = absurd was
-  write_task (ReadTask reading) head_drive steps asking fifo polls before after new writes was = absurd was
-  write_task (Format formatting) head_drive steps asking fifo polls before after new writes was = absurd was
   write_task (WriteTask writing) head_drive steps asking fifo polls before after new writes (asks, (handed, was)) = record {
     time = writes.step.does.time;
     is = (
@@ -180,6 +184,7 @@ module _ (deleted : Bool) (past : Past) (sent : Sent) (mark : Option Bool) where
     marks = tt;
     bad = tt;
   }
+  write_task _ head_drive steps asking fifo polls before after new writes was = absurd was
 
   write_in : (phase : Phase) (asking : Bool) (fifo : Fifo) (polls : Fdc) (before after : DriveState) (new : Fdc) → is_executing phase ≡ true → WritesIn phase asking fifo polls before after new
       → MayWriteIn past sent deleted phase asking fifo → KnownOn (Write deleted) past sent mark (IsWriteAt polls.rate before after new) new
@@ -256,13 +261,6 @@ module _ (deleted : Bool) (past : Past) (sent : Sent) (mark : Option Bool) (befo
   nowhere_in (Telling answer) old new busy does was = absurd (false≢true busy)
   nowhere_in (Execute execution) old new busy does was = nowhere_task execution.task execution.head_drive execution.steps old new does was
 
-  -- the poll moves nothing of this
-  nowhere_polled : (b : Bool) (old new : Fdc) → is_executing old.phase ≡ true
-      → StepsNowhere old.phase (if b then record old { poll_due = false; interrupt = true; seeks = with_polls old.seeks } else old) new
-      → MayWriteIn past sent deleted old.phase old.asking old.fifo → KnownOn (Write deleted) past sent mark IsNowhere new
-  nowhere_polled true old new busy does was = nowhere_in old.phase (record old { poll_due = false; interrupt = true; seeks = with_polls old.seeks }) new busy does was
-  nowhere_polled false old new busy does was = nowhere_in old.phase old new busy does was
-
 writes_on_adapter : (deleted : Bool) (past : Past) (sent : Sent) (old new : AdapterState) → StepsAdapter old new → is_executing old.controller.phase ≡ true
     → MayMove (Write deleted) past sent old.controller
     → KnownOn (Write deleted) past sent (mark_of old.controller) (λ time. PassesAt (selected_at old) (head_of sent.head_drive) time old new) new.controller
@@ -270,17 +268,15 @@ writes_on_adapter deleted past sent old new steps busy was =
     let fdc = old.controller in
     let head = head_of sent.head_drive in
     let Is : WordTime → Type 0 = λ time. PassesAt (selected_at old) head time old new in
-    let rate = polled_rate (fdc.poll_due && not (is_held fdc)) fdc in
-    elim (which_drive (selected_at old)) [
-      | inl at ↦ known_as (Write deleted) past sent (mark_of fdc) Is (IsWriteAt deleted past sent (mark_of fdc) (polled fdc).rate old.first new.first new.controller) new.controller
-          (λ time is. at_first_drive head old new at time (subst (λ r. IsTime time r head old.first new.first) rate is.0, is.1))
-          (write_in deleted past sent (mark_of fdc) fdc.phase fdc.asking fdc.fifo (polled fdc) old.first new.first new.controller busy (steps.at_first at).0.writes was)
-      | inr (inl at) ↦ known_as (Write deleted) past sent (mark_of fdc) Is (IsWriteAt deleted past sent (mark_of fdc) (polled fdc).rate old.second new.second new.controller) new.controller
-          (λ time is. at_second_drive head old new at time (subst (λ r. IsTime time r head old.second new.second) rate is.0, is.1))
-          (write_in deleted past sent (mark_of fdc) fdc.phase fdc.asking fdc.fifo (polled fdc) old.second new.second new.controller busy (steps.at_second at).0.writes was)
-      | inr (inr at) ↦ known_as (Write deleted) past sent (mark_of fdc) Is IsNowhere new.controller (λ time is. at_no_drive head old new at time is)
-          (nowhere_polled deleted past sent (mark_of fdc) old.first (fdc.poll_due && not (is_held fdc)) fdc new.controller busy (steps.at_none at).0.nowhere was)
-    ]
+    by_drive head old new steps
+    (λ before after works at.
+    known_as (Write deleted) past sent (mark_of fdc) Is (IsWriteAt deleted past sent (mark_of fdc) (polled fdc).rate before after new.controller) new.controller
+    (λ time is. at time (subst (λ r. IsTime time r head before after) (polled_rate fdc) is.0, is.1))
+    (write_in deleted past sent (mark_of fdc) fdc.phase fdc.asking fdc.fifo (polled fdc) before after new.controller busy works.writes was))
+    (λ alone at.
+    let held = polled_by (λ (polls : Fdc). MayWriteIn past sent deleted fdc.phase polls.asking polls.fifo) fdc was was in
+    known_as (Write deleted) past sent (mark_of fdc) Is IsNowhere new.controller at
+    (nowhere_in deleted past sent (mark_of fdc) old.first fdc.phase (polled fdc) new.controller busy alone.nowhere held))
 
 -- what is known after a device step of a data command: what passed in it under the sector's head is added to what was
 -- known
@@ -369,6 +365,9 @@ pub record SameCommand (old new : Fdc) : Type 0 where
   pub fifo : new.fifo ≡ old.fifo
   pub seeks : new.seeks ≡ old.seeks
   pub non_dma : new.non_dma ≡ old.non_dma
+  pub command : new.command ≡ old.command
+  pub poll : new.poll_due ≡ old.poll_due
+  pub interrupt : new.interrupt ≡ old.interrupt
 
 same_known : (operation : Operation) (past : Past) (sent : Sent) (old new : Fdc) → SameCommand old new → MayMove operation past sent old → MayMove operation past sent new
 same_known (Read wanted skip) past sent old new same was =
@@ -380,36 +379,48 @@ same_known (Write deleted) past sent old new same was =
     (subst (λ asking. MayWriteIn past sent deleted old.phase asking new.fifo) (sym same.asking)
     (subst (λ fifo. MayWriteIn past sent deleted old.phase old.asking fifo) (sym same.fifo) was))
 
-same_as : (old set new : Fdc) → SameCommand old set → new ≡ set → SameCommand old new
-same_as old set new same is = subst (SameCommand old) (sym is) same
+-- what a port sets, after which the controller may be reset
+pub record PortSets (port value : ℕ) (old new : Fdc) : Type 0 where
+  pub set : Fdc
+  pub same : SameCommand old set
+  pub is : new ≡ (if resets port value then reset set else set)
+  pub free : resets port value ≡ false → is_held set ≡ true → is_held old ≡ true
 
-not_reset : (b : Bool) (old set : Fdc) → b ≡ false → SameCommand old set → SameCommand old (if b then reset set else set)
-not_reset true old set is same = absurd (false≢true (sym is))
-not_reset false old set is same = same
+sets_all : (port value : ℕ) (anew : Bool) (old set new : Fdc) → SameCommand old set → resets port value ≡ anew → new ≡ (if anew then reset set else set)
+    → (anew ≡ false → is_held set ≡ true → is_held old ≡ true) → PortSets port value old new
+sets_all port value anew old set new same resets is free =
+    record { set = set; same = same; is = is ∙ ap (λ b. if b then reset set else set) (sym resets); free = λ quiet. free (sym resets ∙ quiet) }
+
+pub port_sets : (port value : ℕ) (lines : Lines) (old new : Fdc) → Writes port value lines old new → (port == 0x3F5) ≡ false → PortSets port value old new
+port_sets port value lines old new writes no_byte = either_way (port == 0x3F2)
+    (λ output.
+    let anew = ap (λ b. if b then dor_resets value else (if port == 0x3F4 then dsr_resets value else false)) output in
+    sets_all port value (dor_resets value) old (record old { dor = record { 0 = value } }) new
+    (record { phase = refl; asking = refl; fifo = refl; seeks = refl; non_dma = refl; command = refl; poll = refl; interrupt = refl }) anew (writes.output (eqb-true port 0x3F2 output)) (λ quiet held. clash (dor_resets value) quiet held))
+    (λ no_output.
+    let other = ap (λ b. if b then dor_resets value else (if port == 0x3F4 then dsr_resets value else false)) no_output in
+    either_way (port == 0x3F4)
+    (λ select.
+    let anew = other ∙ ap (λ b. if b then dsr_resets value else false) select in
+    sets_all port value (dsr_resets value) old (record old { rate = rate_chosen value }) new
+    (record { phase = refl; asking = refl; fifo = refl; seeks = refl; non_dma = refl; command = refl; poll = refl; interrupt = refl }) anew (writes.select (eqb-true port 0x3F4 select)) (λ quiet held. held))
+    (λ no_select.
+    let quiet = other ∙ ap (λ b. if b then dsr_resets value else false) no_select in
+    either_way (port == 0x3F7)
+    (λ control. sets_all port value false old _ new
+    (record { phase = refl; asking = refl; fifo = refl; seeks = refl; non_dma = refl; command = refl; poll = refl; interrupt = refl }) quiet (writes.control (eqb-true port 0x3F7 control)) (λ quiet held. held))
+    (λ no_control. sets_all port value false old _ new
+    (record { phase = refl; asking = refl; fifo = refl; seeks = refl; non_dma = refl; command = refl; poll = refl; interrupt = refl }) quiet (writes.others no_output no_select no_byte no_control) (λ quiet held. held))))
 
 pub port_same : (port value : ℕ) (lines : Lines) (old new : Fdc) → Writes port value lines old new → (port == 0x3F5) ≡ false → resets port value ≡ false → SameCommand old new
-port_same port value lines old new writes no_byte no_reset = either_way (port == 0x3F2)
-    (λ output.
-    let quiet : dor_resets value ≡ false =
-    sym (ap (λ b. if b then dor_resets value else (if port == 0x3F4 then dsr_resets value else false)) output) ∙ no_reset in
-    same_as old _ new (not_reset (dor_resets value) old (record old { dor = record { 0 = value } }) quiet (record { phase = refl; asking = refl; fifo = refl; seeks = refl; non_dma = refl }))
-    (writes.output (eqb-true port 0x3F2 output)))
-    (λ no_output. either_way (port == 0x3F4)
-    (λ select.
-    let quiet : dsr_resets value ≡ false =
-    sym (ap (λ b. if b then dsr_resets value else false) select)
-    ∙ (sym (ap (λ b. if b then dor_resets value else (if port == 0x3F4 then dsr_resets value else false)) no_output) ∙ no_reset) in
-    same_as old _ new (not_reset (dsr_resets value) old (record old { rate = rate_chosen value }) quiet (record { phase = refl; asking = refl; fifo = refl; seeks = refl; non_dma = refl }))
-    (writes.select (eqb-true port 0x3F4 select)))
-    (λ no_select. either_way (port == 0x3F7)
-    (λ control. same_as old _ new (record { phase = refl; asking = refl; fifo = refl; seeks = refl; non_dma = refl }) (writes.control (eqb-true port 0x3F7 control)))
-    (λ no_control. same_as old _ new (record { phase = refl; asking = refl; fifo = refl; seeks = refl; non_dma = refl }) (writes.others no_output no_select no_byte no_control))))
+port_same port value lines old new writes no_byte no_reset =
+    let sets = port_sets port value lines old new writes no_byte in
+    subst (SameCommand old) (sym (sets.is ∙ ap (λ b. if b then reset sets.set else sets.set) no_reset)) sets.same
 
 -- a write of another port than the data port's that doesn't reset the controller
 pub port_on : (operation : Operation) (past : Past) (sent : Sent) (port value : ℕ) (lines : Lines) (old new : Fdc) → Writes port value lines old new → (port == 0x3F5) ≡ false
     → resets port value ≡ false → MayMove operation past sent old → MayMove operation past sent new
-port_on operation past sent port value lines old new writes no_byte no_reset was =
-    same_known operation past sent old new (port_same port value lines old new writes no_byte no_reset) was
+port_on operation past sent port value lines old new writes no_byte no_reset was = search (same_known, port_same)
 
 pub port_busy : (port value : ℕ) (lines : Lines) (old new : Fdc) → Writes port value lines old new → (port == 0x3F5) ≡ false → resets port value ≡ false
     → is_executing old.phase ≡ true → is_executing new.phase ≡ true

@@ -1,22 +1,18 @@
 -- In a chip that isn't busy, a seek that has ended has its result in the inner controller: through all calls.
 use Rattle.std.proofs.Common.{◌≡◌, inl, inr, ℕ, zero, suc, ◌%◌, ◌<◌, Bool, true, false, not, ◌&&◌, ◌==◌, if◌then◌else◌, nat_le, Option, Some, None, option_map, [], bit_and, refl, sym, ◌∙◌, ap, subst}
-use Rattle.laws_chip.proofs.Common.{and_from, and_left, and_parts, and_right, eqb-true, false≢true, not-true, has_ended_seek, pulses_within, seek_bits, sensed, with_motion, Outward, DriveSeek, Results, recalibrating, given, resets, IsInRange, is_held, is_idle, Fdc, after_result, without_result, Front, GivesCommand, WritesFront, interrupts_outside, is_ready, results_outside, results_taken, with_controller, StepsFront, pending_outside, recalibrated_at, recalibrated_outside, sensed_at, sensed_outside, ChipState, passes, passes_at, passes_by_channel, passes_by_port, with_front, code_of, AttendsIf, AttendsTo, MovesIf, GivesOn, Obeys, chip_configured, configuring, drained, drained_one, is_moving, moves_heads, moving, needs_heads, relative_target, Ends, EndsAt, EndsAs, MayEnd, is_over, judged, cylinder_of, is_format, GoesOnIf, Paces, PulsesIf, is_due, CollectsIf, ComesIf, GivesChipIf, GivesIf, ReadsAt, ReadsIf, TakesByte, TakesIf, WritesChip, latched_by, is_whole, may_come, reset_if, value_behind, with_next, is_by_port, step_words, Follows, FollowsTask, ChipOpcode, PacedSeek, ChipStage, Ready, Held, Busy, ChipTask, Track, Call, Does, WritesByte, is_reset, is_step, IsSound, RestsBehind}
+use Rattle.laws_chip.proofs.Common.{and_from, and_parts, eqb-true, false≢true, not-true, has_ended_seek, pulses_within, seek_bits, sensed, with_motion, Outward, DriveSeek, Results, recalibrating, given, IsInRange, is_held, is_idle, Fdc, after_result, without_result, Front, GivesCommand, interrupts_outside, is_ready, results_outside, results_taken, with_controller, StepsFront, pending_outside, recalibrated_at, recalibrated_outside, sensed_at, sensed_outside, ChipState, with_front, code_of, AttendsIf, AttendsTo, MovesIf, GivesOn, Obeys, chip_configured, configuring, drained, drained_one, is_moving, moves_heads, moving, needs_heads, relative_target, Ends, EndsAt, EndsAs, MayEnd, is_over, judged, cylinder_of, GoesOnIf, Paces, PulsesIf, is_due, CollectsIf, ComesIf, GivesIf, ReadsAt, ReadsIf, TakesByte, is_whole, may_come, value_behind, with_next, step_words, Follows, FollowsTask, ChipOpcode, PacedSeek, ChipStage, Ready, Held, Busy, ChipTask, Track, Call, Does, WritesByte, is_of_data_port, is_reset, is_step, IsSound, RestsBehind, chip_stepped as stepped, ChipTelling as Telling}
 use Rattle.fdc_commands.specs.declared.command.Command.TheVariants as command
 use Rattle.fdc_chip.specs.Doing.{drained_by}
 use Rattle.fdc_chip.specs.Paces as paces
-use Rattle.fdc_chip.specs.Paces.{stepped}
-use Rattle.fdc_chip.specs.Ports.{count_told}
 use Rattle.fdc_chip.specs.declared.code.ChipOpcode.TheVariants as code
-use Rattle.fdc_chip.specs.declared.stage.ChipStage.TheVariants.{Telling}
 use Rattle.fdc_chip.specs.declared.stage.ChipTask.TheVariants as task
 use Rattle.laws_chip.specs.Calls as made
 use Rattle.laws_chip.proofs.Attended.{free_stands}
-use Rattle.laws_chip.proofs.Channels.{front_left}
 use Rattle.laws_chip.proofs.CommandsBegun.{configured_stands}
+use Rattle.laws_chip.proofs.HeadsKept.{call_idle, no_port}
 use Rattle.laws_chip.proofs.HeadsLeft.{seek_given}
 use Rattle.laws_chip.proofs.HeadsTold.{HasResult, TellsEnd, front_nearer, runs_tells, sense_tells, taken_seeks}
 use Rattle.laws_chip.proofs.NextStages.{IsAtTask, call_keeps, data_quiet}
-use Rattle.laws_chip.proofs.PassedOn.{other_read}
 use Rattle.laws_chip.proofs.Rests.{IsResting, drained_rests, front_rests}
 use Rattle.laws_chip.proofs.SeeksBegun.{none_kept}
 use Rattle.laws_chip.proofs.ServedSteps.{tells_shown, tells_taken}
@@ -78,16 +74,13 @@ drains_tell (suc n) chip none rests tells = one_tells (drained_by n chip) (drain
 sought_tells : (unit target : ℕ) (start : Front) (new : ChipState) → Stands start → GivesCommand (moving unit (Some target)) start new.front → Tells new
 sought_tells unit target start new stands gives = runs_tells new.front.adapter.controller.seeks (seek_given unit target start new stands gives).runs
 
-recalibrated_tells : (unit : ℕ) (start new : Front) → Stands start → GivesCommand (moving unit None) start new → TellsEnd new.adapter.controller.seeks
-recalibrated_tells unit start new stands gives =
-    let obeyed = given_obeyed (command.Recalibrate unit) start new stands refl gives in
-    let is : new.adapter.controller ≡ recalibrating unit (record start.adapter.controller { command = [] }) = obeyed.obeys.0 stands.rests in
-    runs_tells new.adapter.controller.seeks (ap (λ (fdc : Fdc). has_ended_seek fdc.seeks) is)
-
 moves_tell : (b : Bool) (goal : Option ℕ) (old new : ChipState) → Stands old.front → MovesIf b goal old new → Tells new
 moves_tell true goal old new stands is = front_tells old new (ap (λ (chip : ChipState). chip.front) is) (stands_tell old.front stands)
 moves_tell false (Some target) old new stands (gives, rest) = sought_tells old.order.unit target old.front new stands gives
-moves_tell false None old new stands (gives, rest) = recalibrated_tells old.order.unit old.front new.front stands gives
+moves_tell false None old new stands (gives, rest) =
+    let obeyed = given_obeyed (command.Recalibrate old.order.unit) old.front new.front stands refl gives in
+    let is : new.front.adapter.controller ≡ recalibrating old.order.unit (record old.front.adapter.controller { command = [] }) = obeyed.obeys.0 stands.rests in
+    runs_tells new.front.adapter.controller.seeks (ap (λ (fdc : Fdc). has_ended_seek fdc.seeks) is)
 
 configure_tells : (old new : ChipState) → Stands old.front → GivesOn (configuring old.order.key.c old.order.key.h) (chip_configured old) new → Tells new
 configure_tells old new stands (gives, rest) =
@@ -238,30 +231,13 @@ same_known old new is was = subst KnowsEnd (sym is) was
 seeks_known : (old new : ChipState) → new.stage ≡ old.stage → new.front.adapter.controller.seeks ≡ old.front.adapter.controller.seeks → KnowsEnd old → KnowsEnd new
 seeks_known old new stage seeks was = record { tells = λ idle. subst TellsEnd (sym seeks) (was.tells (sym (ap is_busy stage) ∙ idle)) }
 
-none_at : (stage : ChipStage) → is_busy stage ≡ false → passes_at stage ≡ false
-none_at (Busy what) idle = absurd (false≢true (sym idle))
-none_at _ idle = refl
-
-none_passes : (chip : ChipState) → is_busy chip.stage ≡ false → passes chip ≡ false
-none_passes chip idle = and_left (passes_at chip.stage) (not (is_format chip.order && (chip.keys == 0))) (none_at chip.stage idle)
-
-pub none_by_port : (chip : ChipState) → is_busy chip.stage ≡ false → passes_by_port chip ≡ false
-none_by_port chip idle = and_right (is_by_port chip.settings) (passes chip) (none_passes chip idle)
-
-pub none_by_channel : (chip : ChipState) → is_busy chip.stage ≡ false → passes_by_channel chip ≡ false
-none_by_channel chip idle = and_right (chip.gated && not (is_by_port chip.settings)) (passes chip) (none_passes chip idle)
-
-pub idle_counts : (stage : ChipStage) (old : ChipState) → is_busy stage ≡ false → count_told stage old ≡ old
-idle_counts (Busy what) old idle = absurd (false≢true (sym idle))
-idle_counts _ old idle = refl
-
 -- ---- ---- the data port
 
 idle_read : (stage : ChipStage) (value : ℕ) (old new : ChipState) → old.stage ≡ stage → is_busy stage ≡ false → KnowsEnd old → ReadsAt stage old value new → KnowsEnd new
 idle_read (Busy what) value old new at idle was reads = absurd (false≢true (sym idle))
 idle_read (Telling answer read) value old new at idle was (value_is, is) =
     knows new (front_tells old new (ap (λ (chip : ChipState). chip.front) is ∙ (byte_stays answer read old).front) (was.tells (ap is_busy at)))
-idle_read _ value old new at idle was reads = same_known old new (subst (λ b. ReadsIf b old value new) (none_by_port old (ap is_busy at)) reads).1 was
+idle_read _ value old new at idle was reads = same_known old new (subst (λ b. ReadsIf b old value new) (no_port old (ap is_busy at)) reads).1 was
 
 collects_known : (b : Bool) (byte : ℕ) (old new : ChipState) → old.stage ≡ Ready → byte < 256 → IsSound old → KnowsEnd old → is_held old.front.adapter.controller ≡ false
     → CollectsIf b (code_of (with_next byte old).order.code) (with_next byte old) new → KnowsEnd new
@@ -285,56 +261,35 @@ comes_known false byte old new comes at few sound was is = same_known old new is
 idle_write : (stage : ChipStage) (value : ℕ) (old new : ChipState) → old.stage ≡ stage → is_busy stage ≡ false → value < 256 → IsSound old → KnowsEnd old → TakesByte stage value old new → KnowsEnd new
 idle_write Ready value old new at idle few sound was comes = comes_known (may_come old) value old new refl at few sound was comes
 idle_write (Busy what) value old new at idle few sound was gives = absurd (false≢true (sym idle))
-idle_write _ value old new at idle few sound was gives = same_known old new (subst (λ b. GivesIf b value old new) (none_by_port old (ap is_busy at)) gives) was
+idle_write _ value old new at idle few sound was gives = same_known old new (subst (λ b. GivesIf b value old new) (no_port old (ap is_busy at)) gives) was
 
--- another port
-port_known : (b : Bool) (port value : ℕ) (old set new : ChipState) → resets port value ≡ b → (port == 0x3F5) ≡ false → set.stage ≡ old.stage → KnowsEnd old → WritesFront port value old.front new.front → new ≡ with_front new.front (reset_if b set) → KnowsEnd new
-port_known true port value old set new anew no_data stage was writes rest =
-    knows new (subst TellsEnd (sym (front_anew port value old.front new.front writes no_data anew).0.seeks) tt)
-port_known false port value old set new quiet no_data stage was writes rest =
-    seeks_known old new (ap (λ (chip : ChipState). chip.stage) rest ∙ stage) (front_left port value old.front new.front writes no_data quiet).seeks was
-
-other_known : (port value : ℕ) (old new : ChipState) → (port == 0x3F5) ≡ false → KnowsEnd old → WritesChip port value old new → KnowsEnd new
-other_known port value old new no_data was writes =
-    let (front, rest) = writes.others no_data in
-    let behind = value_behind port value in
-    port_known (resets port behind) port behind old (latched_by port value old) new refl no_data refl was front rest
-
-idle_call : (call : Call) (old new : ChipState) → is_busy old.stage ≡ false → IsSound old → KnowsEnd old → Does call old new → WritesByte call → is_step call ≡ false → KnowsEnd new
-idle_call made.Steps old new idle sound was does writes other = absurd (false≢true (sym other))
-idle_call (made.Takes byte) old new idle sound was does writes other = same_known old new (subst (λ b. TakesIf b old byte new) (none_by_channel old idle) does).1 was
-idle_call (made.Gives byte given) old new idle sound was does writes other = same_known old new (subst (λ b. GivesChipIf b byte old given new) (none_by_channel old idle) does).1 was
-idle_call made.Counts old new idle sound was does writes other = same_known old new (does ∙ idle_counts old.stage old idle) was
-idle_call (made.Reads port value) old new idle sound was does writes other = either_way (port == 0x3F5)
-    (λ here. idle_read old.stage value old new refl idle was (does.byte (eqb-true port 0x3F5 here)))
-    (λ no_data. same_known old new (other_read port value old new no_data does) was)
-idle_call (made.Writes port value) old new idle sound was does writes other = either_way (port == 0x3F5)
-    (λ here. idle_write old.stage value old new refl idle writes sound was (does.bytes (eqb-true port 0x3F5 here)))
-    (λ no_data. other_known port value old new no_data was does)
-idle_call made.Changes old new idle sound was does writes other = seeks_known old new (ap (λ (chip : ChipState). chip.stage) does.rest) (ap (λ (fdc : Fdc). fdc.seeks) does.front.controller) was
-idle_call _ old new idle sound was does writes other =
-    seeks_known old new (ap (λ (chip : ChipState). chip.stage) does) (ap (λ (chip : ChipState). chip.front.adapter.controller.seeks) does) was
+idle_call : (call : Call) (old new : ChipState) → is_busy old.stage ≡ false → IsSound old → KnowsEnd old → Does call old new → WritesByte call → is_step call ≡ false → is_reset call ≡ false → KnowsEnd new
+idle_call call old new idle sound was does writes other quiet = either_way (is_of_data_port call)
+    (λ here. by_data call here does writes)
+    (λ no_data. let keeps = call_idle call old new idle does other quiet no_data in seeks_known old new keeps.stage keeps.left.seeks was)
+  where
+    by_data : (call : Call) → is_of_data_port call ≡ true → Does call old new → WritesByte call → KnowsEnd new
+    by_data (made.Reads port value) here does writes = idle_read old.stage value old new refl idle was (does.byte (eqb-true port 0x3F5 here))
+    by_data (made.Writes port value) here does writes = idle_write old.stage value old new refl idle writes sound was (does.bytes (eqb-true port 0x3F5 here))
+    by_data _ here does writes = absurd (false≢true here)
 
 -- a busy chip stays busy, or is reset
 task_busy : (what : ChipTask) (stage : ChipStage) → IsAtTask what stage → is_busy stage ≡ true
 task_busy (task.Track track) stage (now, is) = ap is_busy is
 task_busy _ stage is = ap is_busy is
 
-busy_call : (call : Call) (what : ChipTask) (old new : ChipState) → old.stage ≡ Busy what → KnowsEnd old → Does call old new → is_step call ≡ false → KnowsEnd new
-busy_call call what old new at was does other = either_way (is_reset call)
-    (λ anew. by_reset call anew does)
-    (λ quiet. knows_busy new (task_busy what new.stage (call_keeps call what old new does at other quiet).stage))
-  where
-    by_reset : (call : Call) → is_reset call ≡ true → Does call old new → KnowsEnd new
-    by_reset (made.Writes port value) anew does = either_way (port == 0x3F5)
-        (λ here. absurd (false≢true (sym (data_quiet port value (eqb-true port 0x3F5 here)) ∙ anew)))
-        (λ no_data. other_known port value old new no_data was does)
-    by_reset _ anew does = absurd (false≢true anew)
+reset_known : (call : Call) (old new : ChipState) → is_reset call ≡ true → Does call old new → KnowsEnd new
+reset_known (made.Writes port value) old new anew does = either_way (port == 0x3F5)
+    (λ here. absurd (false≢true (sym (data_quiet port value (eqb-true port 0x3F5 here)) ∙ anew)))
+    (λ no_data. knows new (subst TellsEnd (sym (front_anew port (value_behind port value) old.front new.front (does.others no_data).0 no_data anew).0.seeks) tt))
+reset_known _ old new anew does = absurd (false≢true anew)
 
-other_call : (stage : ChipStage) (call : Call) (old new : ChipState) → old.stage ≡ stage → IsSound old → KnowsEnd old → Does call old new → WritesByte call → is_step call ≡ false → KnowsEnd new
-other_call (Busy what) call old new at sound was does writes other = busy_call call what old new at was does other
-other_call _ call old new at sound was does writes other = idle_call call old new (ap is_busy at) sound was does writes other
+other_call : (stage : ChipStage) (call : Call) (old new : ChipState) → old.stage ≡ stage → IsSound old → KnowsEnd old → Does call old new → WritesByte call → is_step call ≡ false → is_reset call ≡ false → KnowsEnd new
+other_call (Busy what) call old new at sound was does writes other quiet = knows_busy new (task_busy what new.stage (call_keeps call what old new does at other quiet).stage)
+other_call _ call old new at sound was does writes other quiet = idle_call call old new (ap is_busy at) sound was does writes other quiet
 
 pub call_known : (call : Call) (old new : ChipState) → IsSound old → IsInRange old.front.adapter.controller → KnowsEnd old → Does call old new → WritesByte call → KnowsEnd new
 call_known made.Steps old new sound range was does writes = step_known old.stage old does.between new refl sound range was does.steps does.follows
-call_known call old new sound range was does writes = other_call old.stage call old new refl sound was does writes refl
+call_known call old new sound range was does writes = either_way (is_reset call)
+    (λ anew. reset_known call old new anew does)
+    (λ quiet. other_call old.stage call old new refl sound was does writes refl quiet)

@@ -1,29 +1,19 @@
 -- A command of several sectors ends: an implied seek and its sectors take so many device steps, and each one leaves one
 -- fewer.
-use Rattle.std.proofs.Common.{◌≡◌, inl, inr, ℕ, ◌+◌, ◌-◌, ◌*◌, ◌<◌, ◌≤◌, Bool, true, false, not, ◌==◌, if◌then◌else◌, Option, Some, None, List, [], ◌∷◌, refl, sym, ◌∙◌, ap, subst, arith}
-use Rattle.laws_chip.proofs.Common.{eqb-true, false≢true, not-true, and_parts, Seeks, has_ended_seek, is_seeking, seek_bits, is_begun, Results, SeekCommand, new_past, Ending, Done, phase_told, MayReadIn, MayReadTask, Sent, MayWriteIn, MayWriteTask, Phase, Taking, Execute, Result, Task, ReadTask, WriteTask, taken_in, taken_out, told_count, is_executing, is_taking, resets, takes_in, IsInRange, is_held, EndsIn, IsCounted, TakesWhole, ending_told, is_idle, mark_of, Fdc, Lines, AdapterState, StepsAdapter, WritesAdapter, lines_at, selected_at, BeginsSector, Front, GivesAt, ReadsSector, SeeksFirst, Starts, StartsIf, TakesAt, WritesFront, begun_if, count_told, passed_one, told_if, EndsIf, EndsSector, FollowsStep, MovesOn, SeeksOn, goes_on, has_met_other, is_unwanted, judged_if, passed_over_if, results_behind, results_failed, would_go_on, is_last, next_of, Operation, Read, Write, MovingSector, FrontStage, Through, Seeking, Moving, Telling, Transfer, AreWithin, HasByteNumbers, HasByteRecords, HasRecords, HasResults, is_under_way, most_steps, sectors_from, History, MayMove, Serves, ServesAt, nothing_moved, sent_of}
-use Rattle.fdc_commands.specs.declared.bytes.Accepted.TheVariants.{Ready}
-use Rattle.fdc_core.specs.Steps.{steps_left}
-use Rattle.fdc_sequencer.specs.Fronts.{reset_if}
+use Rattle.std.proofs.Common.{◌≡◌, ℕ, ◌+◌, ◌-◌, ◌*◌, ◌<◌, ◌≤◌, Bool, true, false, not, ◌==◌, if◌then◌else◌, Option, Some, None, List, [], ◌∷◌, refl, sym, ◌∙◌, ap, subst, arith}
+use Rattle.laws_chip.proofs.Common.{eqb-true, false≢true, not-true, and_parts, Seeks, has_ended_seek, is_seeking, seek_bits, is_begun, Results, SeekCommand, new_past, Ending, Done, phase_told, MayReadIn, MayReadTask, Sent, MayWriteIn, MayWriteTask, Phase, Taking, Execute, Result, Task, ReadTask, WriteTask, told_count, is_executing, is_taking, resets, takes_in, IsInRange, is_held, EndsIn, IsCounted, TakesWhole, ending_told, is_idle, mark_of, Fdc, Lines, AdapterState, StepsAdapter, WritesAdapter, lines_at, BeginsSector, Front, ReadsSector, SeeksFirst, Starts, StartsIf, WritesFront, begun_if, count_told, passed_one, told_if, EndsIf, EndsSector, FollowsStep, MovesOn, SeeksOn, goes_on, has_met_other, is_unwanted, judged_if, passed_over_if, results_behind, results_failed, would_go_on, is_last, next_of, Operation, Read, Write, MovingSector, FrontStage, Through, Seeking, Moving, Telling, Transfer, AreWithin, HasByteNumbers, HasByteRecords, HasRecords, HasResults, is_under_way, most_steps, sectors_from, History, MayMove, Serves, ServesAt, nothing_moved, sent_of, ReadyCommand as Ready, core_steps_left as steps_left, front_reset_if as reset_if, SectorCallsBegins as Begins, SectorCallsCall as Call, SectorCallsDoes as Does, chip_steps_in as steps_in}
 use Rattle.laws_chip.specs.SectorCalls as call
-use Rattle.laws_chip.specs.SectorCalls.{Begins, Call, Does}
-use Rattle.laws_chip.specs.SectorLasting.{steps_in, steps_of}
+use Rattle.laws_chip.specs.SectorLasting.{steps_of}
 use Rattle.laws_chip.proofs.Called.{call_serves, calls_serve}
 use Rattle.laws_chip.proofs.Given.{given_starts, ignored, served_on}
-use Rattle.laws_chip.proofs.Known.{SameCommand, clash, either_way, port_same, which_drive}
+use Rattle.laws_chip.proofs.Known.{SameCommand, adapter_ends, clash, either_way, port_same}
 use Rattle.laws_chip.proofs.Started.{begun_busy}
 use Rattle.laws_chip.proofs.Whole.{begins_served}
 use Rattle.laws_chip.proofs.Sectors.{next_bytes, sectors_next, sectors_some}
+use Rattle.laws_chip.proofs.UnderWay.{BytePasses, Own, OfSector, Quiet, gives_pass, takes_pass}
 use Rattle.laws_chip.proofs.Sought.{NearsEnd, adapter_seeks, seek_few, seek_left, seek_some}
 
 -- ---- a sector
-
-adapter_ends : (old new : AdapterState) → StepsAdapter old new → EndsIn old.controller.phase new.controller.phase
-adapter_ends old new steps = elim (which_drive (selected_at old)) [
-  | inl at ↦ (steps.at_first at).0.ends
-  | inr (inl at) ↦ (steps.at_second at).0.ends
-  | inr (inr at) ↦ (steps.at_none at).0.ends
-]
 
 step_fewer : (old new : Phase) → is_executing old ≡ true → EndsIn old new → (steps_left new < steps_left old) × IsCounted new
 step_fewer (Execute execution) new busy ends = ends
@@ -147,12 +137,6 @@ nearer_within now left sectors n fewer some all = omega arith
 sought_within : (left sectors n : ℕ) → 1 ≤ left → left + 65536 * sectors ≤ n → 65536 * sectors ≤ n - 1
 sought_within left sectors n some all = omega arith
 
-fewer_within : (now left sectors n : ℕ) → now < left → 1 ≤ sectors → left + 65536 * sectors ≤ n + 65536 → now + 65536 * sectors ≤ n - 1 + 65536
-fewer_within now left sectors n fewer some all = omega arith
-
-next_within : (now left sectors next n : ℕ) → now < left → next + 1 ≡ sectors → left + 65536 * sectors ≤ n + 65536 → 65536 * next ≤ n - 1
-next_within now left sectors next n fewer one all = omega arith
-
 seek_lasts : (n : ℕ) (at : Transfer) (counted : Bool) (old : Front) (between : AdapterState) (new : Front) → old.stage ≡ Seeking at counted → SeeksWithin n at old.adapter.controller → StepsAdapter old.adapter between
     → FollowsStep (mark_of old.adapter.controller) (Seeking at counted) (record old { adapter = between }) new → (new.stage ≡ Through → ⊥) → Lasts (n - 1) new
 seek_lasts n at counted old between new stage_is was steps follows stays = by_end (has_ended_seek between.controller.seeks) refl follows
@@ -175,16 +159,6 @@ seek_lasts n at counted old between new stage_is was steps follows stays = by_en
 
 -- after a device step of a sector's command
 module _ (n : ℕ) (moving : MovingSector) (old : Fdc) (was : MovesWithin n moving.transfer old) where
-  next_lasts : (marked : Bool) (phase : Phase) (front new : Front) → steps_left phase < steps_left old.phase → goes_on moving marked ≡ true → (new.stage ≡ Through → ⊥)
-      → BeginsSector (next_of moving.transfer) false (has_met_other moving marked) front new → Lasts (n - 1) new
-  next_lasts marked phase front new fewer goes stays begins =
-      let next = next_of moving.transfer in
-      let more = not-true (is_last moving.transfer) (and_parts (would_go_on moving marked) (not (is_last moving.transfer)) goes).1 in
-      let bytes = was.bytes more in
-      let one = sectors_next moving.transfer bytes more in
-      begins_lasts (n - 1) next false (has_met_other moving marked) front new (λ last. next_bytes moving.transfer bytes)
-      (next_within (steps_left phase) (steps_left old.phase) (sectors_from moving.transfer) (sectors_from next) n fewer one was.within) stays begins
-
   results_last : (results : Results) (front new : Front) → new ≡ record front { stage = Telling results } → Lasts (n - 1) new
   results_last results front new is = at_stage (n - 1) (Telling results) new (ap (λ f. f.stage) is) tt
 
@@ -192,7 +166,13 @@ module _ (n : ℕ) (moving : MovingSector) (old : Fdc) (was : MovesWithin n movi
   ends_last mark (Done marked) phase front new fewer stays ends = by_next (goes_on moving marked) refl ends
     where
       by_next : (b : Bool) → goes_on moving marked ≡ b → EndsIf b moving marked front new → Lasts (n - 1) new
-      by_next true goes begins = next_lasts marked phase front new fewer goes stays begins
+      by_next true goes begins =
+          let next = next_of moving.transfer in
+          let more = not-true (is_last moving.transfer) (and_parts (would_go_on moving marked) (not (is_last moving.transfer)) goes).1 in
+          let bytes = was.bytes more in
+          let one = sectors_next moving.transfer bytes more in
+          begins_lasts (n - 1) next false (has_met_other moving marked) front new (λ last. next_bytes moving.transfer bytes)
+          (omega arith) stays begins
       by_next false over is = results_last (results_behind moving marked) front new is
   ends_last mark ending phase front new fewer stays is = results_last (results_failed mark moving ending) front new is
 
@@ -206,7 +186,7 @@ module _ (n : ℕ) (moving : MovingSector) (old : Fdc) (was : MovesWithin n movi
   moves_last mark None front new stage_is fewer counted stays is = passed_last (is_unwanted moving (mark_of front.adapter.controller)) front new stage_is (record {
     bytes = was.bytes;
     counted = counted;
-    within = fewer_within (steps_left front.adapter.controller.phase) (steps_left old.phase) (sectors_from moving.transfer) n fewer (sectors_some moving.transfer) was.within;
+    within = omega arith;
   }) is
 
 step_lasts : (n : ℕ) (first : Transfer) (history : History) (stage : FrontStage) (old : Front) (between : AdapterState) (new : Front) → old.stage ≡ stage → ServesAt stage first history old.adapter.controller
@@ -227,19 +207,12 @@ passed_lasts n moving fdc old was = by_last (moving.left - 1 == 0)
     by_last true = told_within n moving.transfer fdc was
     by_last false = was
 
-takes_last : (n : ℕ) (stage : FrontStage) (byte : Option ℕ) (old new : Front) → LastsAt n stage old.adapter.controller → Lasts n old → TakesAt stage old byte new → Lasts n new
-takes_last n Through byte old new now was takes = absurd now
-takes_last n (Moving moving) None old new now was (quiet, is) = same_lasts n old new is was
-takes_last n (Moving moving) (Some byte) old new now was (up, byte_is, is) =
-    subst (Lasts n) (sym is) (passed_lasts n moving (taken_out old.adapter.controller) old (record { bytes = now.bytes; counted = now.counted; within = now.within }))
-takes_last n stage byte old new now was takes = same_lasts n old new takes.1 was
-
-gives_last : (n : ℕ) (stage : FrontStage) (byte : ℕ) (given : Bool) (old new : Front) → LastsAt n stage old.adapter.controller → Lasts n old → GivesAt stage byte old given new → Lasts n new
-gives_last n Through byte given old new now was gives = absurd now
-gives_last n (Moving moving) byte false old new now was (quiet, is) = same_lasts n old new is was
-gives_last n (Moving moving) byte true old new now was (up, is) =
-    subst (Lasts n) (sym is) (passed_lasts n moving (taken_in byte old.adapter.controller) old (record { bytes = now.bytes; counted = now.counted; within = now.within }))
-gives_last n stage byte given old new now was (none, is) = same_lasts n old new is was
+passes_last : (n : ℕ) (old new : Front) → Lasts n old → BytePasses old new → Lasts n new
+passes_last n old new was (Quiet is) = same_lasts n old new is was
+passes_last n old new was (Own fdc at passed is) = absurd (subst (λ stage. LastsAt n stage old.adapter.controller) at was)
+passes_last n old new was (OfSector moving fdc at passed is) =
+    let now : MovesWithin n moving.transfer old.adapter.controller = subst (λ stage. LastsAt n stage old.adapter.controller) at was in
+    subst (Lasts n) (sym is) (passed_lasts n moving fdc old (same_within n moving.transfer old.adapter.controller fdc (same_steps old.adapter.controller.phase fdc.phase passed.phase) now))
 
 counts_last : (n : ℕ) (stage : FrontStage) (old new : Front) → LastsAt n stage old.adapter.controller → Lasts n old → new ≡ count_told stage old → Lasts n new
 counts_last n Through old new now was is = absurd now
@@ -279,23 +252,20 @@ none_fewer n new lasts = let same : n ≡ n - 0 = omega arith in subst (λ m. La
 
 pub call_lasts : (made : Call) (n : ℕ) (first : Transfer) (history : History) (old new : Front) → Does made old new → (new.stage ≡ Through → ⊥) → Serves first history old → Lasts n old → Lasts (n - steps_of made) new
 call_lasts call.Steps n first history old new does stays serves was = step_lasts n first history old.stage old does.between new refl serves.now was does.steps does.follows stays
-call_lasts (call.Takes byte) n first history old new does stays serves was = none_fewer n new (takes_last n old.stage byte old new was was does)
-call_lasts (call.Gives byte given) n first history old new does stays serves was = none_fewer n new (gives_last n old.stage byte given old new was was does)
+call_lasts (call.Takes byte) n first history old new does stays serves was = none_fewer n new (passes_last n old new was (takes_pass old.stage byte old new refl does))
+call_lasts (call.Gives byte given) n first history old new does stays serves was = none_fewer n new (passes_last n old new was (gives_pass old.stage byte given old new refl does))
 call_lasts call.Counts n first history old new does stays serves was = none_fewer n new (counts_last n old.stage old new was was does)
 call_lasts (call.Writes port value) n first history old new does stays serves was = none_fewer n new (writes_last n port value old new was stays does)
 call_lasts call.Changes n first history old new does stays serves was =
     none_fewer n new (at_stage n old.stage new does.stage (subst (LastsAt n old.stage) (sym does.controller) was))
 call_lasts made n first history old new does stays serves was = none_fewer n new (same_lasts n old new (ignored made old new tt does (served_on first history old serves) stays) was)
 
-fewer_by : (n one rest : ℕ) → n - one - rest ≡ n - (one + rest)
-fewer_by n one rest = omega arith
-
 pub calls_last : (calls : List Call) (n : ℕ) (first : Transfer) (history : History) (old new : Front) → AreWithin calls old new → Serves first history old → Lasts n old → Lasts (n - steps_in calls) new
 calls_last [] n first history old new same serves was = none_fewer n new (same_lasts n old new same was)
 calls_last (made ∷ calls) n first history old new (between, does, stays, rest) serves was =
     let one = call_serves made first history old between does stays serves in
     let lasts = call_lasts made n first history old between does stays serves was in
-    subst (λ m. Lasts m new) (fewer_by n (steps_of made) (steps_in calls)) (calls_last calls (n - steps_of made) first one.history between new rest one.serves lasts)
+    subst (λ m. Lasts m new) (omega arith) (calls_last calls (n - steps_of made) first one.history between new rest one.serves lasts)
 
 -- ---- how a command begins
 
@@ -315,9 +285,6 @@ seek_runs head_drive cylinder lines old new takes idle = either_way (seek_bits o
 sought_first : (left sectors : ℕ) → left ≤ 256 → left + 65536 * sectors ≤ 256 + 65536 * sectors
 sought_first left sectors few = omega arith
 
-moved_first : (sectors : ℕ) → 65536 * sectors ≤ 256 + 65536 * sectors
-moved_first sectors = omega arith
-
 starts_last : (first : Transfer) (old new : Front) → HasRecords first → IsInRange new.adapter.controller → (new.stage ≡ Through → ⊥) → Starts first old new → Lasts (most_steps first) new
 starts_last first old new bytes range stays starts = by_seek first.seeks starts
   where
@@ -335,13 +302,13 @@ starts_last first old new bytes range stays starts = by_seek first.seeks starts
 
     by_seek : (b : Bool) → StartsIf b first old new → Lasts (most_steps first) new
     by_seek true seeks = by_idle seeks (is_idle seeks.between.controller) refl seeks.begun
-    by_seek false begins = begins_lasts (most_steps first) first false false old new bytes (moved_first (sectors_from first)) stays begins
+    by_seek false begins = begins_lasts (most_steps first) first false false old new bytes (omega arith) stays begins
 
 -- a sector whose address field has just passed
 pub field_lasts : (at : Transfer) (old new : Front) → HasRecords at → ReadsSector at old new → Lasts (most_steps at) new
 field_lasts at old new bytes reads =
     let counted : IsCounted reads.between.controller.phase = subst (λ (fdc : Fdc). IsCounted fdc.phase) (sym reads.reads.reads.2) (omega arith) in
-    subst (Lasts (most_steps at)) (sym reads.begun) (begun_within false (most_steps at) at reads.between bytes (moved_first (sectors_from at)) counted)
+    subst (Lasts (most_steps at)) (sym reads.begun) (begun_within false (most_steps at) at reads.between bytes (omega arith) counted)
 
 pub first_lasts : (first : Transfer) (start begun : Front) → Begins first start begun → HasRecords first → IsInRange begun.adapter.controller → Lasts (most_steps first) begun
 first_lasts first start begun begins records range = starts_last first start begun records range begins.stays (given_starts first start begun begins.ready begins.gives)
@@ -365,16 +332,13 @@ first_under : (first : Transfer) (start begun : Front) → Begins first start be
 first_under first start begun begins = starts_under first start begun begins.stays (given_starts first start begun begins.ready begins.gives)
 
 -- what is then under way is of the command's first sector
-begun_records : (stage : FrontStage) (first : Transfer) (fdc : Fdc) → ServesAt stage first (nothing_moved false) fdc → is_under_way stage ≡ true → HasByteNumbers stage → HasByteRecords first
+pub begun_records : (stage : FrontStage) (first : Transfer) (fdc : Fdc) → ServesAt stage first (nothing_moved false) fdc → is_under_way stage ≡ true → HasByteNumbers stage → HasByteRecords first
 begun_records Through first fdc now under bytes = absurd now
 begun_records (Telling results) first fdc now under bytes = absurd (false≢true under)
 begun_records (Seeking at counted) first fdc (here, nothing) under bytes = subst HasByteRecords here bytes
 begun_records (Moving moving) first fdc (here, counts, carries) under bytes = subst HasByteRecords here bytes
 
 -- ---- the whole command
-
-some_left : (left sectors n : ℕ) → 1 ≤ left → left + 65536 * sectors ≤ n → 1 ≤ n
-some_left left sectors n some all = omega arith
 
 some_moves : (left sectors n : ℕ) → 1 ≤ left → 1 ≤ sectors → left + 65536 * sectors ≤ n + 65536 → 1 ≤ n
 some_moves left sectors n some one all = omega arith
@@ -383,7 +347,7 @@ some_moves left sectors n some one all = omega arith
 pub lasts_some : (n : ℕ) (stage : FrontStage) (first : Transfer) (history : History) (fdc : Fdc) → ServesAt stage first history fdc → LastsAt n stage fdc → is_under_way stage ≡ true → 1 ≤ n
 lasts_some n Through first history fdc now was under = absurd was
 lasts_some n (Telling results) first history fdc now was under = absurd (false≢true under)
-lasts_some n (Seeking at counted) first history fdc now was under = some_left (seek_left fdc.seeks.seek) (sectors_from at) n (seek_some fdc.seeks was.runs) was.within
+lasts_some n (Seeking at counted) first history fdc now was under = omega arith
 lasts_some n (Moving moving) first history fdc (here, counts, carries) was under =
     some_moves (steps_left fdc.phase) (sectors_from moving.transfer) n (left_some fdc.phase carries.busy was.counted) (sectors_some moving.transfer) was.within
 

@@ -1,8 +1,7 @@
 -- What was written of a window, whatever the drive's speed was when the search for its sector began.
 use Rattle.std.proofs.Common.{◌≡◌, ◌⊎◌, inl, inr, ℕ, zero, suc, ◌+◌, ◌≤◌, Bool, true, false, List, [], length, refl, sym, ◌∙◌, ap, subst, arith}
-use Rattle.laws_chip.proofs.Common.{false_from_ne_true, false≢true, IsDisk, with_word, DriveState, is_protected, rate_of, Past, heard, turns_after, wrote, Sent, stepped, rate_fits, IsWritingOn, Writing, is_executing, let_pass, WordTime, Saw, KeptOut, Wrote, Stopped, IsTime, after_time, WriteDoes, MayWrite, Fdc, IsRecorded, Outset, IsSpinning, IsTurningIn, IsUnheard, led, unheard, IsAtDrive, IsAtWindow, few_led, longer_led, passed_by, still_unheard, time_led, address_in, hearing_none, hears_none, spins_on, slow_or_fast, turning_on, drive_less, rests_on, saw_on, still_unprotected, stopped_on, wrote_on, heard_met, KeepsSpeed, StaysPut}
+use Rattle.laws_chip.proofs.Common.{false_from_ne_true, false≢true, IsDisk, with_word, DriveState, is_protected, rate_of, Past, heard, turns_after, wrote, Sent, stepped, rate_fits, IsWritingOn, Writing, is_executing, let_pass, WordTime, Saw, KeptOut, Wrote, Stopped, IsTime, after_time, WriteDoes, MayWrite, Fdc, IsRecorded, Outset, IsSpinning, IsTurningIn, IsUnheard, led, unheard, IsAtDrive, IsAtWindow, few_led, longer_led, passed_by, still_unheard, time_led, address_in, hearing_none, hears_none, spins_on, slow_or_fast, turning_on, drive_less, rests_on, saw_on, still_unprotected, stopped_on, wrote_on, heard_met, KeepsSpeed, StaysPut, stages_is_due as is_due}
 use Rattle.drive_model.proofs.Passing.{becomes_at}
-use Rattle.fdc_stages.specs.Writings.{is_due}
 use Rattle.laws_chip.proofs.WriteStages.{IsDueNow, IsInExecution, due_now, due_words, ended_rests, in_execution, is_stopped, no_index, opens_due}
 
 -- first so many words 0000 were heard, over a medium that isn't protected if there was such a word. Then the medium

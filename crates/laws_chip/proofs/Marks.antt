@@ -1,7 +1,7 @@
 -- The mark of a field that is read. None is known as the command begins. Once the mark is met it stays. Before that no
 -- byte passed.
 use Rattle.std.proofs.Common.{◌≡◌, ◌⊎◌, inl, inr, ℕ, ◌+◌, ◌≤◌, Bool, true, false, ◌==◌, if◌then◌else◌, Option, Some, None, List, [], ◌∷◌, ◌++◌, length, refl, sym, ◌∙◌, ap, subst, arith, length-append}
-use Rattle.laws_chip.proofs.Common.{false≢true, nil_from_length, Chrn, IsSizeCode, content_size, Past, new_past, heard, HasHeard, HasMark, IsOver, IsReading, KeepsMark, ReadOutcome, mark_at, Ending, Done, NoMark, NoSector, NoField, BadCheck, Overrun, NoCount, Late, phase_told, MayReadIn, MayReadTask, Sent, stepped, ExecutesTask, is_executing, ending_over, is_listening, ending_of_phase, mark_in, mark_of_phase, after_heard, at_stage, gone_on_reading, is_full, over_or_on, pushed, finished, ending_told, Long, Fdc, Phase, Execute, Reading, Task, Format, same_stage, starts, starts_given, FindsBadField}
+use Rattle.laws_chip.proofs.Common.{false≢true, nil_from_length, Chrn, IsSizeCode, content_size, Past, new_past, heard, HasHeard, HasMark, IsOver, IsReading, KeepsMark, ReadOutcome, mark_at, Ending, Done, NoMark, NoSector, NoField, BadCheck, Overrun, NoCount, Late, phase_told, MayReadIn, MayReadTask, Sent, stepped, ExecutesTask, is_executing, ending_over, is_listening, ending_of_phase, mark_in, mark_of_phase, after_heard, at_stage, gone_on_reading, is_full, over_or_on, pushed, finished, ending_told, Long, Fdc, Phase, Execute, Reading, Task, Format, same_stage, starts, starts_given, FindsBadField, FollowsWord as Follows, Taking as Command, Result as Telling, ReadTask as Read, TaskReadId as ReadId, WriteTask as Write}
 use Rattle.track_model.proofs.Sizes.{content_size_least}
 use Rattle.track_separator.proofs.Lawful.{reads_within}
 use Rattle.fdc_stages.proofs.Lawful.{over_full}
@@ -9,9 +9,6 @@ use Rattle.fdc_stages.specs.Readings.{FailsWell, IsFailure}
 use Rattle.fdc_stages.specs.Readings as given
 use Rattle.fdc_stages.specs.declared.reading.ReadStage.{ReadStage}
 use Rattle.fdc_stages.specs.declared.reading.ReadStage.TheVariants.{Content, Over}
-use Rattle.fdc_core.specs.Listening.{Follows}
-use Rattle.fdc_phases.specs.declared.phases.Phase.TheVariants.{Command, Result as Telling}
-use Rattle.fdc_phases.specs.declared.phases.Task.TheVariants.{ReadId, Read, Write}
 
 -- ---- as the command goes on, and as it ends
 
@@ -186,9 +183,6 @@ module _ (past : Past) (sent : Sent) (index : Bool) (word : ℕ) (polls new : Fd
 
   in_task : (head_drive steps : ℕ) (task : Task) (asking : Bool) (fifo : List ℕ) → ExecutesTask (is_listening task) head_drive steps task index word polls new
       → MayReadTask past sent head_drive steps task asking fifo → MarkStays past.given (mark_in task) (mark_then (mark_in task) new.phase)
-  in_task head_drive steps (ReadId search) asking fifo executes was = absurd was
-  in_task head_drive steps (Write writing) asking fifo executes was = absurd was
-  in_task head_drive steps (Format formatting) asking fifo executes was = absurd was
   in_task head_drive steps (Read reading) asking fifo executes (asks, (told, was)) = by_mark (mark_at reading.stage) refl
     where
       by_mark : (mark : Option Bool) → mark_at reading.stage ≡ mark → MarkStays past.given (mark_at reading.stage) (mark_then (mark_at reading.stage) new.phase)
@@ -198,6 +192,7 @@ module _ (past : Past) (sent : Sent) (index : Bool) (word : ℕ) (polls new : Fd
             (starts_given past.given fifo told (starts reading.counted (past.given ++ fifo) told was.bytes_are)),
       )
       by_mark (Some m) is = inr (subst (λ mark. mark_then mark new.phase ≡ mark) (sym is) (known_stays head_drive steps reading m is executes))
+  in_task head_drive steps _ asking fifo executes was = absurd was
 
   pub step_stays : (phase : Phase) (old : Fdc) → is_executing phase ≡ true → Follows phase polls index word old new → MayReadIn past sent phase old.asking old.fifo.bytes
       → MarkStays past.given (mark_of_phase phase) (mark_then (mark_of_phase phase) new.phase)
@@ -263,7 +258,5 @@ fresh_mark sent (Telling answer) asking fifo was = refl
 fresh_mark sent (Execute execution) asking fifo was = fresh_task execution.head_drive execution.steps execution.task was
   where
     fresh_task : (head_drive steps : ℕ) (task : Task) → MayReadTask new_past sent head_drive steps task asking fifo → mark_in task ≡ None
-    fresh_task head_drive steps (ReadId search) was = refl
-    fresh_task head_drive steps (Write writing) was = refl
-    fresh_task head_drive steps (Format formatting) was = refl
     fresh_task head_drive steps (Read reading) (asks, (told, was)) = fresh_stage reading.wanted.key told reading.stage was.reads
+    fresh_task head_drive steps _ was = refl

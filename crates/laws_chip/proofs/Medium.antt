@@ -1,14 +1,11 @@
 -- What a read gathers while a medium stays in.
 use Rattle.std.proofs.Common.{◌≡◌, ◌⊎◌, inl, inr, ℕ, zero, suc, ◌+◌, ◌-◌, ◌*◌, ◌<◌, ◌≤◌, ◌==◌, Bool, true, false, Option, Some, None, List, [], ◌∷◌, ◌++◌, length, if◌then◌else◌, refl, sym, ◌∙◌, ap, subst, arith}
-use Rattle.laws_chip.proofs.Common.{eqb-true, Chrn, IsDisk, BadCrc, NoData, content_at, content_size, HasAddressMark, HasDataField, IsIntact, HasNoClear, IsBetween, last_count, DriveState, Past, new_past, heard, FindsBadCheck, FindsNoField, FindsSector, Ending, Done, Results, gave, stepped, told_in, head_of, took, taken_in, taken_out, is_executing, resets, Closes, WordTime, Saw, IsTime, after_time, ending_told, given_up, mark_of, without_seek, Fdc, has_ended_seek, AdapterState, WritesAdapter, drive_at, selected_at, FollowsDor, FollowsWrite, IsHeardFrom, IsWholeFrom, Outset, IsTurningIn, IsUnheard, led, address_heard, data_mark_heard, field_heard, whole_shifted, led_none, found_late, shifted_bytes_at, AreOfField, PassesOfSector, between_is, turn_heard, Front, GivesAt, TakesAt, WritesFront, begun_if, count_told, moving_of, passed_one, with_controller, EndsIf, EndsSector, FollowsStep, MovesOn, SeeksOn, goes_on, has_met_other, is_unwanted, judged_if, passed_over_if, results_behind, results_failed, next_of, Read, MovingSector, FrontStage, Through, Seeking, Moving, Telling, Transfer, AreWithin, Changes, Counts, Gather, Gives, Grows, Steps, Takes, AreOnMedium, BeginsOnTrack, HasMarkOnTrack, HasOnTrack, IsAt, IsAtWhile, IsClean, IsOnMedium, IsReadFrom, StaysIn, TurnsOn, TurnsOnIn, track_under, AreMoved, FindsField, History, IsMoved, IsOfSector, IsTimeOf, Part, Passes, PassesAt, Serves, ServesAt, history_counted, history_ended, history_given, history_moved, history_passed, history_sought, history_stepped, history_taken, nothing_moved, sector_after, sent_of}
+use Rattle.laws_chip.proofs.Common.{eqb-true, Chrn, IsDisk, BadCrc, NoData, content_at, content_size, HasAddressMark, HasDataField, IsIntact, HasNoClear, IsBetween, last_count, DriveState, Past, new_past, heard, FindsBadCheck, FindsNoField, FindsSector, Ending, Done, Results, gave, stepped, told_in, head_of, took, taken_in, taken_out, is_executing, resets, Closes, WordTime, Saw, IsTime, after_time, ending_told, given_up, mark_of, without_seek, Fdc, has_ended_seek, AdapterState, WritesAdapter, drive_at, selected_at, FollowsDor, FollowsWrite, IsHeardFrom, IsWholeFrom, Outset, IsTurningIn, IsUnheard, led, address_heard, data_mark_heard, field_heard, whole_shifted, led_none, found_late, shifted_bytes_at, AreOfField, PassesOfSector, between_is, turn_heard, Front, GivesAt, TakesAt, WritesFront, begun_if, count_told, moving_of, passed_one, with_controller, EndsIf, EndsSector, FollowsStep, MovesOn, SeeksOn, goes_on, has_met_other, is_unwanted, judged_if, passed_over_if, results_behind, results_failed, next_of, Read, MovingSector, FrontStage, Through, Seeking, Moving, Telling, Transfer, AreWithin, Changes, Counts, Gather, Gives, Grows, Steps, Takes, AreOnMedium, BeginsOnTrack, HasMarkOnTrack, HasOnTrack, IsAt, IsAtWhile, IsClean, IsOnMedium, IsReadFrom, StaysIn, TurnsOn, TurnsOnIn, track_under, AreMoved, FindsField, History, IsMoved, IsOfSector, IsTimeOf, Part, Passes, PassesAt, Serves, ServesAt, history_counted, history_ended, history_given, history_moved, history_passed, history_sought, history_stepped, history_taken, nothing_moved, sector_after, sent_of, front_reset_if as reset_if, MediumPlace as Place, SectorCallsCall as Call, SectorCallsDoes as Does, SectorCallsWrites as Writes}
 use Rattle.sector_map.specs.Met.{HasLook}
 use Rattle.laws_chip.proofs.Given.{ignored}
 use Rattle.laws_chip.proofs.LateHearing.{IsHearingLed, hearing_first, hearing_led, hearing_led_bytes}
 use Rattle.laws_chip.proofs.LateLooks.{bad_check_late, between_late, field_late, no_field_late, of_field_late}
 use Rattle.fdc_core.proofs.drives.Turns.{bad_met, no_field_met}
-use Rattle.fdc_sequencer.specs.Fronts.{reset_if}
-use Rattle.laws_chip.specs.SectorCalls.{Call, Does, Writes}
-use Rattle.laws_chip.specs.Media.{Place}
 use Rattle.laws_chip.proofs.Courses.{sector_more, sector_opcode}
 
 -- ---- what was heard is of the track
@@ -358,7 +355,6 @@ module _ (place : Place) (first : Transfer) (wanted skip : Bool) (reads : first.
   take_hears : (stage : FrontStage) (byte : Option ℕ) (history : History) (old new : Front) → NowHeard stage place first history old → Hears place first history old → TakesAt stage old byte new
       → Hears place first (history_taken stage byte history) new
   take_hears Through byte history old new now was takes = absurd now
-  take_hears (Moving moving) None history old new now was (quiet, is) = same_front history old new is was
   take_hears (Moving moving) (Some byte) history old new (here, hearing) was (up, byte_is, is) =
       one_hears history moving (gave byte history.past) (taken_out old.adapter.controller) old new was.parts here
       (bytes_hearing place (here_of first history) history.past (history.past.given ++ byte ∷ []) history.past.taken history.past.counted (drive_at old.adapter place.bay) hearing) is
@@ -367,7 +363,6 @@ module _ (place : Place) (first : Transfer) (wanted skip : Bool) (reads : first.
   give_hears : (stage : FrontStage) (byte : ℕ) (given : Bool) (history : History) (old new : Front) → NowHeard stage place first history old → Hears place first history old → GivesAt stage byte old given new
       → Hears place first (history_given stage byte given history) new
   give_hears Through byte given history old new now was gives = absurd now
-  give_hears (Moving moving) byte false history old new now was (quiet, is) = same_front history old new is was
   give_hears (Moving moving) byte true history old new (here, hearing) was (up, is) =
       one_hears history moving (took byte history.past) (taken_in byte old.adapter.controller) old new was.parts here
       (bytes_hearing place (here_of first history) history.past history.past.given (history.past.taken ++ byte ∷ []) history.past.counted (drive_at old.adapter place.bay) hearing) is
@@ -452,8 +447,7 @@ module _ (place : Place) (first : Transfer) (wanted skip : Bool) (reads : first.
   call_hears (Takes byte) history grown old new does stays at at_then turns is was = subst (λ h. Hears place first h new) (sym is) (take_hears old.stage byte history old new was.now was does)
   call_hears (Gives byte given) history grown old new does stays at at_then turns is was = subst (λ h. Hears place first h new) (sym is) (give_hears old.stage byte given history old new was.now was does)
   call_hears Counts history grown old new does stays at at_then turns is was = subst (λ h. Hears place first h new) (sym is) (count_hears old.stage history old new was.now was does)
-  call_hears (Writes port value) history grown old new does stays at at_then turns is was =
-      subst (λ h. Hears place first h new) (sym is) (write_hears port value history old new was stays at_then does)
+  call_hears (Writes port value) history grown old new does stays at at_then turns is was = grind (arith, first, write_hears)
   call_hears Changes history grown old new does stays at at_then turns is was =
       subst (λ h. Hears place first h new) (sym is) (turn_hears old.stage history old new was.parts was.now does.stage at_then
       (λ moving here there. subst (λ stage. TurnsOnIn stage Changes (drive_at old.adapter place.bay) (drive_at new.adapter place.bay)) here turns))
@@ -524,8 +518,7 @@ module _ (place : Place) (first : Transfer) (wanted skip : Bool) (reads : first.
   nothing_heard Through begun is now at = absurd now
   nothing_heard (Seeking target counted) begun is (here, none) at =
       record { parts = tt; now = subst (λ stage. NowHeard stage place first (nothing_moved false) begun) (sym is) (here, refl) }
-  nothing_heard (Moving moving) begun is (here, counts, carries) at =
-      to_moving (nothing_moved false) moving begun is tt here (fresh_hearing place begun first new_past at refl)
+  nothing_heard (Moving moving) begun is (here, counts, carries) at = search (to_moving, fresh_hearing, first)
   nothing_heard (Telling results) begun is now at =
       to_telling (nothing_moved false) results begun is tt (heard_nothing place first new_past 0 new_past (sym (led_none new_past)) refl)
 

@@ -1,12 +1,11 @@
 -- A chip that is busy, through calls that are no device steps and don't reset: it stays at its task, and keeps its order.
 -- The call is one of the inner controller, or none.
 use Rattle.std.proofs.Common.{◌≡◌, ℕ, Bool, true, false, ◌==◌, Option, refl, sym, ◌∙◌, ap, subst}
-use Rattle.laws_chip.proofs.Common.{eqb-true, false≢true, resets, Front, GivesFront, KeepsFront, TakesFront, WritesFront, told_front, ChipState, is_data, passes_by_channel, passes_by_port, with_front, GivesChipIf, GivesIf, ReadsAt, ReadsIf, TakesByte, TakesIf, WritesChip, counted_if, latched_by, given_one, reset_if, value_behind, ChipStage, Busy, ChipTask, Track, has_command, Call, Does, is_reset, is_step}
-use Rattle.fdc_chip.specs.Ports.{count_told}
+use Rattle.laws_chip.proofs.Common.{eqb-true, false≢true, resets, Front, GivesFront, KeepsFront, TakesFront, WritesFront, told_front, ChipState, is_data, passes_by_channel, passes_by_port, with_front, GivesChipIf, GivesIf, ReadsAt, ReadsIf, TakesByte, TakesIf, WritesChip, counted_if, latched_by, given_one, reset_if, value_behind, ChipStage, Busy, ChipTask, Track, has_command, Call, Does, IsServing, is_reset, is_step, is_under_way, chip_count_told as count_told}
 use Rattle.fdc_chip.specs.declared.stage.ChipTask.TheVariants as task
 use Rattle.laws_chip.specs.Calls as made
 use Rattle.laws_chip.proofs.PassedOn.{other_read}
-use Rattle.laws_chip.proofs.UnderWay.{either_way}
+use Rattle.laws_chip.proofs.UnderWay.{counts_under, either_way, gives_pass, pass_under, same_under, takes_pass, writes_under}
 
 -- the same task; only whether the terminal count has come to a READ TRACK may change
 abbrev pub IsAtTask : ChipTask → ChipStage → Type 0
@@ -129,3 +128,18 @@ works_quiet _ old new does works = refl
 
 pub call_stays : (call : Call) (what : ChipTask) (old new : ChipState) → Does call old new → old.stage ≡ Busy what → is_step call ≡ false → has_command new.stage ≡ true → KeepsTask (is_change call) what old new
 call_stays call what old new does at other works = call_keeps call what old new does at other (works_quiet call old new does works)
+
+-- ---- a command that is served goes on
+
+makes_under : (b : Bool) (old new : Front) → Makes b old new → is_under_way old.stage ≡ true → is_under_way new.stage ≡ true
+makes_under b old new (Same is) under = same_under old new is under
+makes_under b old new (Takes byte takes) under = pass_under old new (takes_pass old.stage byte old new refl takes) under
+makes_under b old new (Gives byte was gives) under = pass_under old new (gives_pass old.stage byte was old new refl gives) under
+makes_under b old new (Counts is) under = counts_under old new under is
+makes_under b old new (Writes port value writes no_data quiet) under = writes_under port value old new under writes quiet
+makes_under b old new (Changes changes keeps) under = ap is_under_way keeps.stage ∙ under
+
+pub call_serving : (call : Call) (old new : ChipState) → IsServing old → Does call old new → is_step call ≡ false → is_reset call ≡ false → IsServing new
+call_serving call old new was does no_step quiet =
+    let keeps = call_keeps call task.Sent old new does was.sent no_step quiet in
+    record { sent = keeps.stage; under_way = makes_under (is_change call) old.front new.front keeps.front was.under_way }

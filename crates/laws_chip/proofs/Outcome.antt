@@ -94,17 +94,7 @@ module _ (operation : Operation) (met told : Bool) (moving : MovingSector) (past
 
   fails_so : (ending : Ending) → IsFailure ending → Means operation past (sent_of sector) ending → IsJudged ending operation past sector.key mark
       → TellsOther ending operation met mark (has_failed_other mark moving ending) → results ≡ results_failed mark moving ending → EndsSo operation met told sector past results
-  fails_so ending fails means judged other are = inr (inr (record {
-    ending = ending;
-    fails = fails;
-    means = means;
-    mark = mark;
-    judged = judged;
-    of_sector = of_it;
-    told = has_failed_other mark moving ending;
-    other = other;
-    results_are = are;
-  }))
+  fails_so ending fails means judged other are = grind (arith, mark, of_sector)
 
   tells : ((moving.passed_over || false) ≡ met) ⊎ (((moving.passed_over || false) ≡ true) × (is_skipping operation ≡ true))
   tells = subst (λ b. (b ≡ met) ⊎ ((b ≡ true) × (is_skipping operation ≡ true))) (sym (or_none moving.passed_over))

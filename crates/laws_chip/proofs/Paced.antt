@@ -1,7 +1,6 @@
 -- Pulses that come in the time that SPECIFY sets: results that are taken over, and how many are left.
 use Rattle.std.proofs.Common.{◌≡◌, ℕ, zero, suc, ◌+◌, ◌-◌, ◌<◌, Bool, true, false, ◌&&◌, ◌==◌, Option, None, Some, is_none, refl, sym, ◌∙◌, ap, arith}
-use Rattle.laws_chip.proofs.Common.{eqb-false, or_parts, ChipState, drained, is_told, GoesOnIf, Paces, PulsesIf, is_due, target_of, PacedSeek}
-use Rattle.fdc_chip.specs.Paces.{EndsAt, is_over, stepped}
+use Rattle.laws_chip.proofs.Common.{eqb-false, or_parts, ChipState, drained, is_told, GoesOnIf, Paces, PulsesIf, is_due, target_of, PacedSeek, EndsPace as EndsAt, is_over_pace as is_over, chip_stepped as stepped}
 
 pub poll_told : (pace : Option PacedSeek) (drive : ℕ) → drive < 4 → is_told pace (0xC0 + drive) ≡ true
 poll_told pace (suc (suc (suc (suc drive)))) few = absurd (omega arith)

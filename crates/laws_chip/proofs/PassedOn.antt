@@ -1,15 +1,13 @@
 -- While the sequencer serves the command that was sent, each call of the chip is the sequencer's.
 use Rattle.std.proofs.Common.{◌≡◌, ℕ, ◌+◌, Bool, true, false, ◌==◌, Option, Some, None, List, [], ◌∷◌, ◌++◌, refl, sym, ◌∙◌, ap, subst}
-use Rattle.laws_chip.proofs.Common.{option_map, and_from, and_left, and_right, eqb-true, false≢true, Results, resets, Fdc, Front, results_at, results_outside, results_taken, told_front, StepsFront, FrontStage, is_under_way, ChipState, passes_by_channel, passes_by_port, with_front, EndsAs, EndsSent, judged, looks_for_cylinder, results_judged, GivesChipIf, GivesIf, ReadsAt, ReadsChip, ReadsIf, TakesByte, TakesIf, WritesChip, latched_by, given_one, reset_if, value_behind, Follows, StepsChip, ChipStage, Busy, AreServed, ArePassedOn, Call, Does, IsPassedOn, IsServing, Makes, MakesRead, MakesWrite, is_data_access, is_reset, is_step, only_if, steps_of}
+use Rattle.laws_chip.proofs.Common.{option_map, and_from, and_left, and_right, eqb-true, false≢true, Results, Fdc, Front, results_at, results_outside, results_taken, told_front, StepsFront, FrontStage, is_under_way, ChipState, passes_by_channel, passes_by_port, with_front, EndsAs, EndsSent, judged, looks_for_cylinder, results_judged, GivesChipIf, GivesIf, ReadsAt, ReadsChip, ReadsIf, TakesByte, TakesIf, WritesChip, value_behind, Follows, StepsChip, ChipStage, Busy, AreServed, ArePassedOn, Call, Does, IsPassedOn, IsServing, Makes, MakesRead, MakesWrite, is_data_access, only_if, steps_of, chip_count_told as count_told, SentTask as Sent}
 use Rattle.fdc_sequencer.specs.declared.stage.FrontStage.TheVariants as stage
 use Rattle.laws_chip.specs.SectorCalls as behind
 use Rattle.laws_chip.specs.SectorLasting as lasting
 use Rattle.laws_chip.proofs.Called.{both_within}
 use Rattle.laws_chip.proofs.Sectors.{steps_both}
-use Rattle.fdc_chip.specs.Ports.{count_told}
-use Rattle.fdc_chip.specs.declared.stage.ChipTask.TheVariants.{Sent}
 use Rattle.laws_chip.specs.Calls as made
-use Rattle.laws_chip.proofs.UnderWay.{counts_under, either_way, gives_under, ignored_write, not_through, same_under, takes_under, writes_under}
+use Rattle.laws_chip.proofs.UnderWay.{either_way, ignored_write, not_through, same_under}
 
 -- ---- a device step
 
@@ -171,8 +169,7 @@ one_passed made.Changes old new was does serving = record {
   makes = refl;
   within = single behind.Changes old.front new.front does.front serving.under_way;
 }
-one_passed (made.Straps on) old new was does serving = record { calls = []; makes = refl; within = ap (λ chip. chip.front) does }
-one_passed (made.StrapsSteps on) old new was does serving = record { calls = []; makes = refl; within = ap (λ chip. chip.front) does }
+one_passed _ old new was does serving = record { calls = []; makes = refl; within = ap (λ chip. chip.front) does }
 
 -- of the calls that a call comes to, only a device step counts as one
 only_steps : (b : Bool) (call : behind.Call) → lasting.steps_of call ≡ 0 → lasting.steps_in (only_if b call) ≡ 0
@@ -205,58 +202,3 @@ all_passed (call ∷ calls) old new (between, does, serving, served) was =
       within = both_within one.calls more.all old.front between.front new.front one.within more.within;
       steps = steps_both one.calls more.all ∙ (ap (λ n. n + lasting.steps_in more.all) (one_steps call old one.calls one.makes) ∙ ap (λ n. steps_of call + n) more.steps);
     }
-
--- ---- it goes on
-
--- if only the front changes, the stage stays
-same_stage : (old new : ChipState) → new ≡ with_front new.front old → old.stage ≡ Busy Sent → new.stage ≡ Busy Sent
-same_stage old new rest sent = ap (λ chip. chip.stage) rest ∙ sent
-
-same_serving : (old new : ChipState) → new ≡ old → IsServing old → IsServing new
-same_serving old new is was = subst IsServing (sym is) was
-
-takes_serving : (b : Bool) (byte : Option ℕ) (old new : ChipState) → IsServing old → TakesIf b old byte new → IsServing new
-takes_serving true byte old new was (takes, rest) =
-    record { sent = same_stage old new rest was.sent; under_way = takes_under old.front.stage byte old.front new.front refl was.under_way takes }
-takes_serving false byte old new was (none, is) = same_serving old new is was
-
-gives_serving : (b : Bool) (byte : ℕ) (given : Bool) (old new : ChipState) → IsServing old → GivesChipIf b byte old given new → IsServing new
-gives_serving true byte given old new was (gives, rest) =
-    record { sent = same_stage (given_one given old) new rest was.sent; under_way = gives_under old.front.stage byte given old.front new.front refl was.under_way gives }
-gives_serving false byte given old new was (none, is) = same_serving old new is was
-
-read_serving : (b : Bool) (value : ℕ) (old new : ChipState) → IsServing old → ReadsIf b old value new → IsServing new
-read_serving true value old new was reads =
-    record { sent = same_stage old new reads.rest was.sent; under_way = takes_under old.front.stage reads.byte old.front new.front refl was.under_way reads.takes }
-read_serving false value old new was (none, is) = same_serving old new is was
-
-write_serving : (b : Bool) (value : ℕ) (old new : ChipState) → IsServing old → GivesIf b value old new → IsServing new
-write_serving true value old new was gives =
-    record { sent = same_stage (given_one gives.was old) new gives.rest was.sent; under_way = gives_under old.front.stage value gives.was old.front new.front refl was.under_way gives.gives }
-write_serving false value old new was is = same_serving old new is was
-
-port_serving : (port value : ℕ) (old new : ChipState) → IsServing old → (port == 0x3F5) ≡ false → resets port (value_behind port value) ≡ false → WritesChip port value old new → IsServing new
-port_serving port value old new was no_data no_reset writes =
-    let (wrote, rest) = writes.others no_data in
-    record {
-      sent = same_stage (latched_by port value old) new (subst (λ b. new ≡ with_front new.front (reset_if b (latched_by port value old))) no_reset rest) was.sent;
-      under_way = writes_under port (value_behind port value) old.front new.front was.under_way wrote no_reset;
-    }
-
-pub call_serving : (call : Call) (old new : ChipState) → IsServing old → Does call old new → is_step call ≡ false → is_reset call ≡ false → IsServing new
-call_serving made.Steps old new was does no_step no_reset = absurd (false≢true (sym no_step))
-call_serving (made.Takes byte) old new was does no_step no_reset = takes_serving (passes_by_channel old) byte old new was does
-call_serving (made.Gives byte given) old new was does no_step no_reset = gives_serving (passes_by_channel old) byte given old new was does
-call_serving made.Counts old new was does no_step no_reset =
-    let is = counts_as old new was.sent does in
-    record { sent = ap (λ chip. chip.stage) is ∙ was.sent; under_way = counts_under old.front new.front was.under_way (ap (λ chip. chip.front) is) }
-call_serving (made.Reads port value) old new was does no_step no_reset = either_way (port == 0x3F5)
-    (λ here. read_serving (passes_by_port old) value old new was (subst (λ stage. ReadsAt stage old value new) was.sent (does.byte (eqb-true port 0x3F5 here))))
-    (λ no_data. same_serving old new (other_read port value old new no_data does) was)
-call_serving (made.Writes port value) old new was does no_step no_reset = either_way (port == 0x3F5)
-    (λ here. write_serving (passes_by_port old) value old new was (subst (λ stage. TakesByte stage value old new) was.sent (does.bytes (eqb-true port 0x3F5 here))))
-    (λ no_data. port_serving port value old new was no_data no_reset does)
-call_serving made.Changes old new was does no_step no_reset =
-    record { sent = same_stage old new does.rest was.sent; under_way = ap is_under_way does.front.stage ∙ was.under_way }
-call_serving _ old new was does no_step no_reset =
-    record { sent = ap (λ chip. chip.stage) does ∙ was.sent; under_way = ap (λ chip. is_under_way chip.front.stage) does ∙ was.under_way }

@@ -1,21 +1,16 @@
 -- The poll of a reset, in the inner controller: once it has come, it isn't to come until the next reset.
 use Rattle.std.proofs.Common.{◌≡◌, inl, inr, ℕ, ◌+◌, ◌-◌, ◌==◌, Bool, true, false, not, ◌&&◌, if◌then◌else◌, [], Option, Some, None, length, bit_and, refl, ◌∙◌, ap, subst}
-use Rattle.laws_chip.proofs.Common.{eqb-true, false≢true, DriveState, at_index, Fifo, has_ended_seek, seek_bits, sensed, with_polls, without_ended, Command, ReadOutcome, SearchOutcome, needs_byte, Ending, Done, Overrun, FormatNext, WriteNext, ending_of, is_listening, Phase, Execute, Task, Format, Formatting, Reading, Writing, BeginsData, ObeysAtRest, TakesAs, sensing_by, taken_in, taken_out, told_count, FormatDoes, after_laid, ExecutesIn, ExecutesTask, is_executing, resets, after_heard, after_searched, at_stage, gone_on_reading, is_full, over_or_on, pushed, finished, is_held, RestsIn, polled, FormatsNowhere, StepsNowhere, TaskStepsNowhere, WritesNowhere, WordTime, Saw, KeptOut, Wrote, Stopped, ending_told, given_up, given_up_if, looked_at, mark_of, without_seek, WritesIn, WritesTask, WriteDoes, after_next, without_byte, Fdc, Lines, AdapterState, StepsAdapter, lines_at, selected_at, BeginsSector, Front, GivesAt, GivesFront, GivesMoving, StartsIf, TakesAt, TakesFront, TakesMoving, WritesFront, begun_if, count_told, told_front, told_if, with_controller, CommandsIf, GivesCommand, GivesTransfer, is_ready, results_taken, taken_at, EndsIf, EndsSector, FollowsStep, MovesOn, SeeksOn, StepsFront, goes_on, has_met_other, is_unwanted, judged_if, passed_over_if, command_of, next_of, MovingSector, FrontStage, Through, Seeking, Moving, Transfer}
+use Rattle.laws_chip.proofs.Common.{eqb-true, false≢true, DriveState, at_index, Fifo, has_ended_seek, seek_bits, sensed, with_polls, without_ended, Command, ReadOutcome, SearchOutcome, needs_byte, Ending, Done, Overrun, FormatNext, WriteNext, ending_of, is_listening, Phase, Execute, Task, Format, Formatting, Reading, Writing, BeginsData, ObeysAtRest, TakesAs, sensing_by, told_count, FormatDoes, after_laid, ExecutesIn, ExecutesTask, is_executing, resets, after_heard, after_searched, at_stage, gone_on_reading, is_full, over_or_on, pushed, finished, is_held, RestsIn, polled, FormatsNowhere, StepsNowhere, TaskStepsNowhere, WritesNowhere, WordTime, Wrote, Stopped, ending_told, given_up, given_up_if, looked_at, mark_of, without_seek, WritesIn, WritesTask, WriteDoes, after_next, without_byte, Fdc, Lines, AdapterState, StepsAdapter, lines_at, BeginsSector, Front, GivesFront, StartsIf, TakesFront, WritesFront, begun_if, count_told, told_front, told_if, with_controller, CommandsIf, GivesCommand, GivesTransfer, is_ready, results_taken, taken_at, EndsIf, EndsSector, FollowsStep, MovesOn, SeeksOn, StepsFront, goes_on, has_met_other, is_unwanted, judged_if, passed_over_if, command_of, next_of, MovingSector, FrontStage, Through, Seeking, Moving, Transfer, ReadyCommand as Ready, FdcObeys as Obeys, ReadTask as Read, TaskReadId as ReadId, WriteTask as Write, FrontTransfersIf as TransfersIf}
 use Rattle.fdc_commands.specs.declared.bytes.Accepted.{Accepted}
-use Rattle.fdc_commands.specs.declared.bytes.Accepted.TheVariants.{Ready}
 use Rattle.fdc_commands.specs.declared.command.Command.TheVariants as command
 use Rattle.fdc_stages.specs.Readings as heard
 use Rattle.fdc_stages.specs.Searches as searched
 use Rattle.fdc_stages.specs.declared.formatting.FormatNext.TheVariants as format_next
 use Rattle.fdc_stages.specs.declared.writing.WriteNext.TheVariants as write_next
-use Rattle.fdc_phases.specs.declared.phases.Task.TheVariants.{ReadId, Read, Write}
-use Rattle.fdc_core.specs.Commands.{Begins, Obeys}
-use Rattle.fdc_sequencer.specs.Adapters.{Gives, Takes}
-use Rattle.fdc_sequencer.specs.Fronts.{TransfersIf}
-use Rattle.laws_chip.proofs.Known.{which_drive}
-use Rattle.laws_chip.proofs.Resting.{polled_phase}
+use Rattle.fdc_core.specs.Commands.{Begins}
+use Rattle.laws_chip.proofs.Known.{at_drive, polled_phase}
 use Rattle.laws_chip.proofs.Channels.{port_left}
-use Rattle.laws_chip.proofs.UnderWay.{either_way}
+use Rattle.laws_chip.proofs.UnderWay.{BytePasses, Own, OfSector, Quiet, either_way, gives_pass, takes_pass}
 
 -- ---- a command of the controller's own
 
@@ -61,14 +56,6 @@ either_poll command lines old new (rests, moves) none = either_way (seek_bits ol
 
 obeys_poll : (command : Command) (lines : Lines) (old new : Fdc) → Obeys command lines old new → due old ≡ false → due new ≡ false
 obeys_poll command.SenseInterrupt lines old new is none = ap due is ∙ (sensing_poll (sensed old.seeks) old ∙ none)
-obeys_poll (command.ReadData head_drive key last_sector gap length) lines old new (rests, moves) none =
-    either_poll (command.ReadData head_drive key last_sector gap length) lines old new (rests, λ other. ap due (moves other)) none
-obeys_poll (command.WriteData head_drive key last_sector gap length) lines old new (rests, moves) none =
-    either_poll (command.WriteData head_drive key last_sector gap length) lines old new (rests, λ other. ap due (moves other)) none
-obeys_poll (command.WriteDeleted head_drive key last_sector gap length) lines old new (rests, moves) none =
-    either_poll (command.WriteDeleted head_drive key last_sector gap length) lines old new (rests, λ other. ap due (moves other)) none
-obeys_poll (command.FormatTrack head_drive n sectors gap fill) lines old new (rests, moves) none =
-    either_poll (command.FormatTrack head_drive n sectors gap fill) lines old new (rests, λ other. ap due (moves other)) none
 obeys_poll command lines old new (rests, moves) none = either_poll command lines old new (rests, λ other. ap due (moves other)) none
 
 accepted_poll : (accepted : Accepted) (lines : Lines) (old new : Fdc) → TakesAs accepted lines old new → due old ≡ false → due new ≡ false
@@ -113,18 +100,16 @@ less_poll true old = refl
 less_poll false old = refl
 
 write_poll : (time : WordTime) (head_drive steps : ℕ) (writing : Writing) (old : Fdc) (before : DriveState) (new : Fdc) → WriteDoes time head_drive steps writing old before new → due new ≡ due old
-write_poll (Saw index word) head_drive steps writing old before new (unready, does) = ap due does.after_is ∙ next_poll head_drive (steps + 1) writing does.next old
-write_poll (KeptOut index word) head_drive steps writing old before new (opening, does) = ap due does.after_is ∙ next_poll head_drive (steps + 1) writing does.next old
 write_poll (Wrote opened closed index word) head_drive steps writing old before new does =
     ap due does.after_is ∙ (next_poll head_drive (steps + 1) writing does.next (without_byte (needs_byte writing.stage) old) ∙ less_poll (needs_byte writing.stage) old)
 write_poll Stopped head_drive steps writing old before new does = ap due does.after_is
+write_poll _ head_drive steps writing old before new (opening, does) = ap due does.after_is ∙ next_poll head_drive (steps + 1) writing does.next old
 
 format_poll : (time : WordTime) (head_drive steps : ℕ) (formatting : Formatting) (old : Fdc) (before : DriveState) (new : Fdc) → FormatDoes time head_drive steps formatting old before new → due new ≡ due old
-format_poll (Saw index word) head_drive steps formatting old before new (unready, does) = ap due does.after_is ∙ laid_poll head_drive (steps + 1) formatting does.next old
-format_poll (KeptOut index word) head_drive steps formatting old before new (opening, does) = ap due does.after_is ∙ laid_poll head_drive (steps + 1) formatting does.next old
 format_poll (Wrote opened closed index word) head_drive steps formatting old before new does =
     ap due does.after_is ∙ (laid_poll head_drive (steps + 1) formatting does.next (without_byte does.needs old) ∙ less_poll does.needs old)
 format_poll Stopped head_drive steps formatting old before new does = ap due does.after_is
+format_poll _ head_drive steps formatting old before new (opening, does) = ap due does.after_is ∙ laid_poll head_drive (steps + 1) formatting does.next old
 
 task_poll : (task : Task) (head_drive steps : ℕ) (asking : Bool) (fifo : Fifo) (index : Bool) (word : ℕ) (polls : Fdc) (before after : DriveState) (new : Fdc)
     → ExecutesTask (is_listening task) head_drive steps task index word polls new → WritesTask task head_drive steps asking fifo polls before after new → due new ≡ due polls
@@ -167,19 +152,11 @@ adapter_poll : (old new : AdapterState) → StepsAdapter old new → due new.con
 adapter_poll old new steps =
     let fdc = old.controller in
     let polls = polled fdc in
-    elim (which_drive (selected_at old)) [
-      | inl at ↦
-          let works = (steps.at_first at).0 in
-          works_poll fdc.phase (old.first.cylinder == 0) fdc.asking fdc.fifo (at_index old.first) works.reads.word polls old.first new.first new.controller
-          (subst (λ phase. RestsIn phase (old.first.cylinder == 0) polls new.controller) (polled_phase fdc) works.rests) works.reads.follows.executes works.writes
-      | inr (inl at) ↦
-          let works = (steps.at_second at).0 in
-          works_poll fdc.phase (old.second.cylinder == 0) fdc.asking fdc.fifo (at_index old.second) works.reads.word polls old.second new.second new.controller
-          (subst (λ phase. RestsIn phase (old.second.cylinder == 0) polls new.controller) (polled_phase fdc) works.rests) works.reads.follows.executes works.writes
-      | inr (inr at) ↦
-          let works = (steps.at_none at).0 in
-          alone_poll fdc.phase polls new.controller (subst (λ phase. RestsIn phase false polls new.controller) (polled_phase fdc) works.rests) works.nowhere
-    ]
+    at_drive old new steps
+    (λ before after works.
+    works_poll fdc.phase (before.cylinder == 0) fdc.asking fdc.fifo (at_index before) works.reads.word polls before after new.controller
+    (subst (λ phase. RestsIn phase (before.cylinder == 0) polls new.controller) (polled_phase fdc) works.rests) works.reads.follows.executes works.writes)
+    (λ alone. alone_poll fdc.phase polls new.controller (subst (λ phase. RestsIn phase false polls new.controller) (polled_phase fdc) alone.rests) alone.nowhere)
 
 -- ---- ---- the front
 
@@ -244,42 +221,21 @@ results_poll old = taken_poll old.stage old
 
 -- ---- the channel
 
-out_poll : (old : Fdc) (byte : Option ℕ) (new : Fdc) → Takes old byte new → due new ≡ due old
-out_poll old (Some byte) new (up, byte_is, is) = ap due is
-out_poll old None new (quiet, is) = ap due is
-
-in_poll : (byte : ℕ) (old : Fdc) (was : Bool) (new : Fdc) → Gives byte old was new → due new ≡ due old
-in_poll byte old true new (up, is) = ap due is
-in_poll byte old false new (quiet, is) = ap due is
-
 -- after the last byte of a sector the controller is given the terminal count
 passed_poll : (last : Bool) (fdc : Fdc) → due (if last then told_count fdc else fdc) ≡ due fdc
 passed_poll true fdc = refl
 passed_poll false fdc = refl
 
-moving_takes : (moving : MovingSector) (old : Front) (byte : Option ℕ) (new : Front) → TakesMoving moving old byte new → awaits_poll new ≡ awaits_poll old
-moving_takes moving old (Some byte) new (up, byte_is, is) = ap awaits_poll is ∙ passed_poll (moving.left - 1 == 0) (taken_out old.adapter.controller)
-moving_takes moving old None new (quiet, is) = ap awaits_poll is
-
-moving_gives : (moving : MovingSector) (byte : ℕ) (old : Front) (was : Bool) (new : Front) → GivesMoving moving byte old was new → awaits_poll new ≡ awaits_poll old
-moving_gives moving byte old true new (up, is) = ap awaits_poll is ∙ passed_poll (moving.left - 1 == 0) (taken_in byte old.adapter.controller)
-moving_gives moving byte old false new (quiet, is) = ap awaits_poll is
-
-takes_at : (stage : FrontStage) (old : Front) (byte : Option ℕ) (new : Front) → TakesAt stage old byte new → awaits_poll new ≡ awaits_poll old
-takes_at Through old byte new (takes, is) = out_poll old.adapter.controller byte new.adapter.controller takes
-takes_at (Moving moving) old byte new takes = moving_takes moving old byte new takes
-takes_at _ old byte new (none, is) = ap awaits_poll is
+byte_poll : (old new : Front) → BytePasses old new → awaits_poll new ≡ awaits_poll old
+byte_poll old new (Quiet is) = ap awaits_poll is
+byte_poll old new (Own fdc at passed is) = ap awaits_poll is ∙ passed.poll
+byte_poll old new (OfSector moving fdc at passed is) = ap awaits_poll is ∙ (passed_poll (moving.left - 1 == 0) fdc ∙ passed.poll)
 
 pub takes_poll : (old : Front) (byte : Option ℕ) (new : Front) → TakesFront old byte new → awaits_poll new ≡ awaits_poll old
-takes_poll old byte new takes = takes_at old.stage old byte new takes
-
-gives_at : (stage : FrontStage) (byte : ℕ) (old : Front) (was : Bool) (new : Front) → GivesAt stage byte old was new → awaits_poll new ≡ awaits_poll old
-gives_at Through byte old was new (gives, is) = in_poll byte old.adapter.controller was new.adapter.controller gives
-gives_at (Moving moving) byte old was new gives = moving_gives moving byte old was new gives
-gives_at _ byte old was new (none, is) = ap awaits_poll is
+takes_poll old byte new takes = byte_poll old new (takes_pass old.stage byte old new refl takes)
 
 pub gives_poll : (byte : ℕ) (old : Front) (was : Bool) (new : Front) → GivesFront byte old was new → awaits_poll new ≡ awaits_poll old
-gives_poll byte old was new gives = gives_at old.stage byte old was new gives
+gives_poll byte old was new gives = byte_poll old new (gives_pass old.stage byte was old new refl gives)
 
 counted_poll : (stage : FrontStage) (old : Front) → awaits_poll (count_told stage old) ≡ awaits_poll old
 counted_poll Through old = refl

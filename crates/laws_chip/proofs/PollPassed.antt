@@ -1,12 +1,8 @@
 -- The poll of a reset, through each call of a chip: once it has come, it isn't to come until the next reset.
 use Rattle.std.proofs.Common.{◌≡◌, ℕ, zero, suc, ◌*◌, ◌%◌, ◌==◌, Bool, true, false, not, ◌&&◌, if◌then◌else◌, Option, Some, None, refl, sym, ◌∙◌, ap}
-use Rattle.laws_chip.proofs.Common.{eqb-true, Seeks, pulses_within, seek_bits, sensed, with_motion, Outward, Results, Command, resets, is_held, is_idle, Fdc, after_result, without_result, Front, interrupts_outside, told_front, GivesCommand, results_taken, pending_outside, recalibrated_at, sensed_at, sensed_outside, size_of, FrontStage, Through, ChipState, is_data, passes_by_channel, passes_by_port, with_front, code_of, AttendsIf, AttendsTo, Begins, BeginsReadId, FormatsIf, MovesIf, Obeys, RemembersIf, TransfersIf, absent_key, begun, configuring, drained, identifying, implies, is_moving, is_size, moving, needs_heads, no_key, reading_one, relative_target, sectors_verified, sought_if, track_begun, verifying, with_keys, with_last, GivesOn, Opens, Refuses, configured, formatting, ready, transfer_sent, MayEnd, results_judged, EndsAs, EndsPace, GoesOnIf, Paces, PulsesIf, is_due, step_words, cylinder_of, is_of_data, CollectsIf, ComesIf, GivesChipIf, GivesIf, ReadsAt, ReadsChip, ReadsIf, TakesByte, TakesIf, WritesChip, counted_if, is_whole, may_come, quieted_if, value_behind, with_next, Follows, FollowsTask, StepsChip, SwallowsAs, ChipOpcode, ReadTrack, Recalibrate, ReadId, FormatTrack, Seek, RelativeSeek, Configure, Verify, PacedSeek, ChipStage, Ready, Held, Busy, ChipTask, Track, Order, Call, Does, is_reset, Chrn}
+use Rattle.laws_chip.proofs.Common.{eqb-true, Seeks, pulses_within, seek_bits, sensed, with_motion, Outward, Results, Command, is_held, is_idle, Fdc, after_result, without_result, Front, interrupts_outside, told_front, GivesCommand, results_taken, pending_outside, recalibrated_at, sensed_at, sensed_outside, size_of, FrontStage, Through, ChipState, is_data, passes_by_channel, passes_by_port, with_front, code_of, AttendsIf, AttendsTo, Begins, BeginsReadId, FormatsIf, MovesIf, Obeys, RemembersIf, TransfersIf, absent_key, begun, configuring, drained, identifying, implies, is_moving, is_size, moving, needs_heads, no_key, reading_one, relative_target, sectors_verified, sought_if, track_begun, verifying, with_keys, with_last, GivesOn, Opens, Refuses, configured, formatting, ready, transfer_sent, MayEnd, results_judged, EndsAs, EndsPace, GoesOnIf, Paces, PulsesIf, is_due, step_words, cylinder_of, is_of_data, CollectsIf, ComesIf, GivesChipIf, GivesIf, ReadsAt, ReadsChip, ReadsIf, TakesByte, TakesIf, counted_if, is_whole, may_come, quieted_if, value_behind, with_next, Follows, FollowsTask, StepsChip, SwallowsAs, ChipOpcode, ReadTrack, Recalibrate, ReadId, FormatTrack, Seek, RelativeSeek, Configure, Verify, PacedSeek, ChipStage, Ready, Held, Busy, ChipTask, Track, Order, Call, Does, is_reset, Chrn, is_over_pace as is_over, chip_stepped as stepped, chip_count_told as count_told, TransferCode as Transfer, ChipTelling as Telling}
 use Rattle.fdc_chip.specs.Doing.{drained_by}
-use Rattle.fdc_chip.specs.Paces.{is_over, stepped}
-use Rattle.fdc_chip.specs.Ports.{count_told}
 use Rattle.fdc_chip.specs.Steps.{SwallowsBy}
-use Rattle.fdc_chip.specs.declared.code.ChipOpcode.TheVariants.{Transfer}
-use Rattle.fdc_chip.specs.declared.stage.ChipStage.TheVariants.{Telling}
 use Rattle.fdc_chip.specs.declared.stage.ChipTask.TheVariants as task
 use Rattle.laws_chip.specs.Calls as made
 use Rattle.laws_chip.proofs.PassedOn.{other_read}
@@ -243,11 +239,6 @@ byte_poll : (stage : ChipStage) (byte : ℕ) (old new : ChipState) → TakesByte
 byte_poll Ready byte old new comes none = comes_by (may_come old) byte old new comes none
 byte_poll _ byte old new gives none = gives_if (passes_by_port old) byte old new gives ∙ none
 
-port_poll : (port value : ℕ) (old new : ChipState) → WritesChip port value old new → resets port (value_behind port value) ≡ false → to_come old ≡ false → to_come new ≡ false
-port_poll port value old new writes quiet none = either_way (port == 0x3F5)
-    (λ here. byte_poll old.stage value old new (writes.bytes (eqb-true port 0x3F5 here)) none)
-    (λ other. writes_poll port (value_behind port value) old.front new.front (writes.others other).0 quiet none)
-
 read_chip : (port value : ℕ) (old new : ChipState) → ReadsChip port old value new → to_come new ≡ to_come old
 read_chip port value old new reads = either_way (port == 0x3F5)
     (λ here. reads_at old.stage old value new (reads.byte (eqb-true port 0x3F5 here)))
@@ -260,6 +251,8 @@ call_makes (made.Takes byte) old new does quiet none = takes_by (passes_by_chann
 call_makes (made.Gives byte was) old new does quiet none = gives_by (passes_by_channel old) byte old was new does ∙ none
 call_makes made.Counts old new does quiet none = ap to_come does ∙ (chip_counts old.stage old ∙ none)
 call_makes (made.Reads port value) old new does quiet none = read_chip port value old new does ∙ none
-call_makes (made.Writes port value) old new does quiet none = port_poll port value old new does quiet none
+call_makes (made.Writes port value) old new does quiet none = either_way (port == 0x3F5)
+    (λ here. byte_poll old.stage value old new (does.bytes (eqb-true port 0x3F5 here)) none)
+    (λ other. writes_poll port (value_behind port value) old.front new.front (does.others other).0 quiet none)
 call_makes made.Changes old new does quiet none = ap (λ (fdc : Fdc). fdc.poll_due) does.front.controller ∙ none
 call_makes _ old new does quiet none = ap to_come does ∙ none

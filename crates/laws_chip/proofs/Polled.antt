@@ -1,15 +1,13 @@
 -- A reset, up to the results of its poll.
 use Rattle.std.proofs.Common.{◌≡◌, ◌⊎◌, inl, inr, ℕ, suc, ◌+◌, ◌<◌, Bool, true, false, not, ◌&&◌, ◌||◌, ◌==◌, if◌then◌else◌, nat_lt, Option, Some, None, List, [], ◌∷◌, refl, sym, ◌∙◌, ap, subst, arith}
-use Rattle.laws_chip.proofs.Common.{and_from, and_right, false≢true, eqb-true, is_seeking, with_polls, Phase, Taking, resets, is_gated, is_held, Rests, polled, seek_stepped, Fdc, Dor, AdapterState, StepsAdapter, selected_at, Front, asks_outside, interrupts_at, interrupts_outside, StepsFront, FrontStage, Through, ChipState, interrupts_chip, passes, passes_at, shows_behind, with_front, drained, drained_one, sensing, Interrupting, is_format, with_byte, Paces, ComesIf, ReadsAt, ReadsChip, TakesByte, WritesChip, latched_by, reset_if, value_behind, is_by_port, Follows, StepsChip, PacedSeek, ChipStage, Ready, Call, Does, is_step, AwaitsPoll, HasPolls, IsFreshBehind, is_of_data_port, polls_from, telling_poll, IsSound, waits_for_heads}
-use Rattle.fdc_commands.specs.Seeking.{Seeking, stepped}
+use Rattle.laws_chip.proofs.Common.{and_from, and_right, false≢true, eqb-true, is_seeking, with_polls, Phase, Taking, resets, is_gated, is_held, Rests, polled, seek_stepped, Fdc, Dor, Front, asks_outside, interrupts_at, interrupts_outside, StepsFront, FrontStage, Through, ChipState, interrupts_chip, passes, passes_at, shows_behind, with_front, drained, drained_one, sensing, Interrupting, is_format, with_byte, Paces, ComesIf, ReadsAt, ReadsChip, TakesByte, WritesChip, latched_by, reset_if, value_behind, is_by_port, Follows, StepsChip, PacedSeek, ChipStage, Ready, Call, Does, is_step, AwaitsPoll, HasPolls, IsFreshBehind, is_of_data_port, polls_from, telling_poll, IsSound, waits_for_heads, ChipTelling as Telling, Seeks as Seeking, commands_stepped as stepped}
 use Rattle.fdc_commands.specs.Seeking as seeking
 use Rattle.fdc_chip.specs.Doing.{drained_by}
 use Rattle.fdc_chip.specs.Interrupts.{at_rest}
 use Rattle.fdc_chip.specs.Quiet.{rests_at}
-use Rattle.fdc_chip.specs.declared.stage.ChipStage.TheVariants.{Telling}
-use Rattle.laws_chip.proofs.Known.{which_drive}
+use Rattle.laws_chip.proofs.Known.{adapter_stays, by_rests}
 use Rattle.laws_chip.specs.Calls as made
-use Rattle.laws_chip.proofs.Rests.{adapter_stays, taking_stays, through_step}
+use Rattle.laws_chip.proofs.Rests.{taking_stays, through_step}
 use Rattle.laws_chip.proofs.SoundCalls.{front_anew}
 use Rattle.laws_chip.proofs.UnderWay.{either_way}
 use Rattle.laws_chip.proofs.HeadsKept.{KeepsHeads, call_heads}
@@ -58,14 +56,6 @@ polls_now track0 old new was free rests =
       up = ap (λ (fdc : Fdc). fdc.interrupt) is;
     }
 
--- whatever drive is selected, this holds of the controller
-by_drive : (P : Fdc → Type 0) (old new : AdapterState) → StepsAdapter old new → ((track0 : Bool) → Rests track0 (polled old.controller) new.controller → P new.controller) → P new.controller
-by_drive P old new steps of = elim (which_drive (selected_at old)) [
-  | inl at ↦ of (old.first.cylinder == 0) (steps.at_first at).0.rests
-  | inr (inl at) ↦ of (old.second.cylinder == 0) (steps.at_second at).0.rests
-  | inr (inr at) ↦ of false (steps.at_none at).0.rests
-]
-
 fresh_of : (due : Bool) (front : Front) → IsFreshBehind due front → IsFresh due front.adapter.controller
 fresh_of due front is = record { takes = is.takes; whole = is.whole; seeks = is.seeks; poll = is.poll; down = is.down }
 
@@ -79,7 +69,7 @@ front_fresh due old new step was quiet =
     let is = through_step old new step was.through in
     let fdc = old.adapter.controller in
     let waits = ap (λ b. b && not (is_held fdc)) was.poll ∙ quiet in
-    let now : IsFresh due step.between.controller = by_drive (IsFresh due) old.adapter step.between step.steps
+    let now : IsFresh due step.between.controller = by_rests old.adapter step.between step.steps
     (λ track0 rests. stays_fresh due track0 fdc step.between.controller (fresh_of due old was) waits rests) in
     let stays = adapter_stays old.adapter step.between step.steps in
     subst (StaysFresh due old) (sym is) (record {
@@ -104,12 +94,6 @@ ready_step old new step at unpaced =
 ready_quiet : (old new : ChipState) (step : StepsChip old new) → old.stage ≡ Ready → old.pace ≡ None → interrupts_outside step.between ≡ false → new ≡ with_front step.between old
 ready_quiet old new step at unpaced down =
     ready_step old new step at unpaced ∙ ap (λ b. if b then drained (with_front step.between old) else with_front step.between old) down
-
-awaits_on : (old new : ChipState) → AwaitsPoll old → StepsChip old new → is_held old.front.adapter.controller ≡ true → AwaitsPoll new
-awaits_on old new was step held =
-    let goes = front_fresh true old.front step.between step.steps was.behind (ap not held) in
-    let is = ready_quiet old new step was.stage was.unpaced (fresh_down true step.between goes.fresh) in
-    subst AwaitsPoll (sym is) (record { stage = was.stage; count = was.count; results = was.results; unpaced = was.unpaced; behind = goes.fresh })
 
 -- ---- the results are taken over
 
@@ -155,10 +139,7 @@ drains_fourth old front free = rw free refl
 
 drains : (old : ChipState) (front : Front) → is_held front.adapter.controller ≡ false → drained (taking_over 0 false old front) ≡ taking_over 4 true old front
 unfolding drained_by
-drains old front free =
-    ap (λ chip. drained_one (drained_one (drained_one chip))) (drains_first old front free)
-    ∙ (ap (λ chip. drained_one (drained_one chip)) (drains_second old front free)
-    ∙ (ap drained_one (drains_third old front free) ∙ drains_fourth old front free))
+drains old front free = search (drains_first, drains_second, drains_third, drains_fourth)
 
 -- the results of all drives are pending, and INT is up
 record ArePolled (new : ChipState) : Type 0 where
@@ -170,7 +151,7 @@ poll_step old new sound was free step =
     let fdc = old.front.adapter.controller in
     let front = step.between in
     let through = through_step old.front front step.steps was.behind.through in
-    let now : IsPolled step.steps.between.controller = by_drive IsPolled old.front.adapter step.steps.between step.steps.steps
+    let now : IsPolled step.steps.between.controller = by_rests old.front.adapter step.steps.between step.steps.steps
     (λ track0 rests. polls_now track0 fdc step.steps.between.controller (fresh_of true old.front was.behind) free rests) in
     let stays = adapter_stays old.front.adapter step.steps.between step.steps.steps in
     let at : front.stage ≡ Through = ap (λ (f : Front). f.stage) through ∙ was.behind.through in
@@ -265,7 +246,10 @@ awaits_kept old new keeps was = record {
 
 pub call_awaits : (call : Call) (old new : ChipState) → AwaitsPoll old → Does call old new → is_of_data_port call ≡ false → (is_step call ≡ false) ⊎ (is_held old.front.adapter.controller ≡ true) → AwaitsPoll new
 call_awaits made.Steps old new was does other (inl no_step) = absurd (false≢true (sym no_step))
-call_awaits made.Steps old new was does other (inr held) = awaits_on old new was does held
+call_awaits made.Steps old new was does other (inr held) =
+    let goes = front_fresh true old.front does.between does.steps was.behind (ap not held) in
+    let is = ready_quiet old new does was.stage was.unpaced (fresh_down true does.between goes.fresh) in
+    subst AwaitsPoll (sym is) (record { stage = was.stage; count = was.count; results = was.results; unpaced = was.unpaced; behind = goes.fresh })
 call_awaits (made.Writes port value) old new was does other free = either_way (resets port (value_behind port value))
     (λ anew. reset_awaits port value old new does anew)
     (λ quiet. awaits_kept old new (call_heads (made.Writes port value) old new (ap waits_for_heads was.stage) does refl quiet other) was)
@@ -323,17 +307,13 @@ unfolding drained_by
 calm_drained chip free = let same = calm_one chip free in
     ap (λ c. drained_one (drained_one (drained_one c))) same ∙ (ap (λ c. drained_one (drained_one c)) same ∙ (ap drained_one same ∙ same))
 
-sends_sense : (drive : ℕ) (old new : ChipState) → is_held old.front.adapter.controller ≡ false → TakesByte Ready 8 (polling drive Ready old) new
-    → new ≡ sensing (drained (record (polling drive Ready old) { order = with_byte 0 8 old.order }))
-sends_sense drive old new free takes = let came : ComesIf true 8 (polling drive Ready old) new = rw free at takes in came
-
 senses_from : (drive : ℕ) (old : ChipState) → drive < 4 → sensing (record (polling drive Ready old) { order = with_byte 0 8 old.order }) ≡ sensing_from drive old
 senses_from (suc (suc (suc (suc drive)))) old few = absurd (omega arith)
 senses_from _ old few = refl
 
 sends_at : (drive : ℕ) (old new : ChipState) → drive < 4 → is_held old.front.adapter.controller ≡ false → TakesByte Ready 8 (polling drive Ready old) new → new ≡ sensing_from drive old
 sends_at drive old new few free takes =
-    sends_sense drive old new free takes
+    (let came : ComesIf true 8 (polling drive Ready old) new = rw free at takes in came)
     ∙ (ap sensing (calm_drained (record (polling drive Ready old) { order = with_byte 0 8 old.order }) free) ∙ senses_from drive old few)
 
 pub poll_sends : (drive : ℕ) (old new : ChipState) → drive < 4 → HasPolls drive Ready old → WritesChip 0x3F5 8 old new → HasPolls (drive + 1) (telling_poll drive 0) new

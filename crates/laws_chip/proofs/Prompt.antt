@@ -1,14 +1,10 @@
 -- A transfer whose bytes pass in time: no byte finds the FIFO full, or is missing.
 use Rattle.std.proofs.Common.{◌≡◌, ◌⊎◌, inl, inr, ℕ, ◌+◌, ◌-◌, ◌<◌, ◌≤◌, nat_lt, nat_le, max, Bool, true, false, not, ◌&&◌, ◌||◌, ◌==◌, if◌then◌else◌, Option, Some, None, List, [], ◌∷◌, length, bit_and, refl, sym, ◌∙◌, ap, subst, arith}
-use Rattle.laws_chip.proofs.Common.{eqb-true, false≢true, nat_tests, Chrn, IsSizeCode, DriveState, Fifo, emptied, low_level, room_of, wants, worth_fetching, overrun, has_ended_seek, seek_bits, Invalid, Command, ReadData, WriteData, WriteDeleted, Results, Past, Ending, Done, BadCheck, Overrun, NoCount, IsReadingData, phase_asks, phase_told, task_asks, task_told, MayReadIn, Sent, ending_of_phase, is_overrun, is_read, is_reading, moves_bytes, overran, MayWriteIn, Long, Short, Phase, Execute, Result, Task, BeginsData, TakesAs, answered, Works, asking_told, fifo_told, taken_in, taken_out, told_count, is_executing, resets, asks, is_gated, FlowsIn, TakesWhole, ending_told, given_up, mark_of, without_seek, Fdc, Lines, AdapterState, StepsAdapter, lines_at, selected_at, st1_of, BeginsSector, Front, GivesAt, StartsIf, TakesAt, WritesFront, asks_at, asks_outside, begun_if, count_told, moving_of, passed_one, told_if, with_controller, EndsIf, EndsSector, FollowsStep, MovesOn, SeeksOn, StepsFront, goes_on, has_failed_other, has_met_other, is_unwanted, judged_if, passed_over_if, results_behind, results_failed, would_go_on, command_for, next_of, results_told, size_of, Operation, Read, Write, MovingSector, FrontStage, Through, Seeking, Moving, Telling, Transfer, ChipState, asks_chip, interrupts_chip, passes_by_channel, passes_by_port, shows_behind, StepsChip, SentTask, is_under_way, MayMove, ServesAt, sent_of, IsBegun, Call, Does, IsServing, IsSound, ServesBehind, has_command}
-use Rattle.fdc_commands.specs.declared.bytes.Accepted.TheVariants.{Ready}
-use Rattle.fdc_phases.specs.Phases.{is_moving, is_over}
+use Rattle.laws_chip.proofs.Common.{eqb-true, false≢true, nat_tests, Chrn, IsSizeCode, DriveState, Fifo, emptied, low_level, room_of, wants, worth_fetching, overrun, has_ended_seek, seek_bits, Invalid, Command, ReadData, WriteData, WriteDeleted, Results, Past, Ending, Done, BadCheck, Overrun, NoCount, IsReadingData, phase_asks, phase_told, task_asks, task_told, MayReadIn, Sent, ending_of_phase, is_overrun, is_read, is_reading, moves_bytes, overran, MayWriteIn, Long, Short, Phase, Execute, Result, Task, BeginsData, TakesAs, answered, Works, asking_told, fifo_told, told_count, is_executing, asks, is_gated, FlowsIn, TakesWhole, ending_told, given_up, mark_of, without_seek, Fdc, Lines, AdapterState, StepsAdapter, lines_at, selected_at, st1_of, BeginsSector, Front, StartsIf, asks_at, asks_outside, begun_if, count_told, moving_of, passed_one, told_if, with_controller, EndsIf, EndsSector, FollowsStep, MovesOn, SeeksOn, StepsFront, goes_on, has_failed_other, has_met_other, is_unwanted, judged_if, passed_over_if, results_behind, results_failed, would_go_on, command_for, next_of, results_told, Operation, Read, Write, MovingSector, FrontStage, Through, Seeking, Moving, Telling, Transfer, ChipState, asks_chip, interrupts_chip, passes_by_channel, passes_by_port, shows_behind, StepsChip, SentTask, is_under_way, MayMove, ServesAt, sent_of, IsBegun, Call, Does, IsServing, IsSound, ServesBehind, has_command, ReadyCommand as Ready, FdcObeys as Obeys, phases_is_moving as is_moving, phases_is_over as is_over, front_judged as judged}
 use Rattle.fdc_phases.specs.Waiting.{PhaseWaits, TaskWaits, phase_counted, task_counted}
 use Rattle.fdc_phases.specs.declared.answers.Answer.{Answer}
 use Rattle.fdc_phases.specs.declared.phases.Task.TheVariants as task
-use Rattle.fdc_core.specs.Commands.{Obeys}
 use Rattle.fdc_core.specs.Waiting.{Lasts, LastsIn}
-use Rattle.fdc_sequencer.specs.Moves.{judged}
 use Rattle.laws_chip.proofs.Free.{next_size}
 use Rattle.laws_chip.proofs.Given.{given_starts}
 use Rattle.laws_chip.proofs.Known.{port_same, which_drive}
@@ -18,8 +14,8 @@ use Rattle.laws_chip.specs.InTime.{AreInTime, IsPrompt, PromptAt}
 use Rattle.laws_chip.proofs.PassedOn.{step_same}
 use Rattle.laws_chip.proofs.SoundCalls.{call_sound}
 use Rattle.laws_chip.proofs.SoundParts as parts
-use Rattle.laws_chip.proofs.SoundParts.{busy_at, sound_basis}
-use Rattle.laws_chip.proofs.UnderWay.{clash, either_way, not_through, port_stage}
+use Rattle.laws_chip.proofs.SoundParts.{serves_of, sound_basis}
+use Rattle.laws_chip.proofs.UnderWay.{BytePasses, Own, OfSector, Quiet, clash, either_way, gives_pass, not_through, port_stage, takes_pass}
 use Rattle.laws_chip.proofs.NextStages as makes
 use Rattle.laws_chip.proofs.NextStages.{Makes, call_stays, is_change}
 
@@ -209,12 +205,9 @@ begun_rule (Write true) head_drive key last_sector gap code lines old new takes 
 sector_fed : (at : Transfer) (counted passed_over : Bool) (old new : Front) → IsSizeCode at.key.n → BeginsSector at counted passed_over old new → IsFedFront new
 sector_fed at counted passed_over old new sized begins = by_busy (is_executing begins.between.controller.phase) refl begins.begun
   where
-    some_left : (n : ℕ) → n ≡ 0 → (n == 0) ≡ false → ⊥
-    some_left n none some = false≢true (sym some ∙ ap (λ m. m == 0) none)
-
     told_or : (b : Bool) → GoesByRule begins.between.controller → IsFed (moving_of at b passed_over) (told_if b begins.between).controller
     told_or true rule = told_fed (moving_of at true passed_over) begins.between.controller rule
-    told_or false rule = record { rule = rule; last = λ none. absurd (some_left (size_of at.key.n) none (size_some at.key.n sized)) }
+    told_or false rule = record { rule = rule; last = λ none. absurd (false≢true (sym (size_some at.key.n sized) ∙ ap (λ m. m == 0) none)) }
 
     by_busy : (b : Bool) → is_executing begins.between.controller.phase ≡ b → new ≡ begun_if b at counted passed_over begins.between old → IsFedFront new
     by_busy false quiet is = free_as Through new (ap (λ (f : Front). f.stage) is) tt
@@ -238,17 +231,10 @@ passed_fed moving fdc old new rule is = subst IsFedFront (sym is) (by_last (movi
 same_fed : (old new : Front) → new ≡ old → IsFedFront old → IsFedFront new
 same_fed old new is fed = subst IsFedFront (sym is) fed
 
-takes_fed : (stage : FrontStage) (byte : Option ℕ) (old new : Front) → old.stage ≡ stage → is_under_way stage ≡ true → TakesAt stage old byte new → IsFedFront old → IsFedFront new
-takes_fed (Moving moving) (Some byte) old new at under (up, byte_is, is) fed = passed_fed moving (taken_out old.adapter.controller) old new (old.adapter.controller.asking, refl) is
-takes_fed (Moving moving) None old new at under (quiet, is) fed = same_fed old new is fed
-takes_fed (Seeking transfer counted) byte old new at under (none, is) fed = same_fed old new is fed
-takes_fed _ byte old new at under takes fed = absurd (false≢true under)
-
-gives_fed : (stage : FrontStage) (byte : ℕ) (was : Bool) (old new : Front) → old.stage ≡ stage → is_under_way stage ≡ true → GivesAt stage byte old was new → IsFedFront old → IsFedFront new
-gives_fed (Moving moving) byte true old new at under (up, is) fed = passed_fed moving (taken_in byte old.adapter.controller) old new (old.adapter.controller.asking, refl) is
-gives_fed (Moving moving) byte false old new at under (quiet, is) fed = same_fed old new is fed
-gives_fed (Seeking transfer counted) byte was old new at under (none, is) fed = same_fed old new is fed
-gives_fed _ byte was old new at under gives fed = absurd (false≢true under)
+passes_fed : (old new : Front) → is_under_way old.stage ≡ true → BytePasses old new → IsFedFront old → IsFedFront new
+passes_fed old new under (Quiet is) fed = same_fed old new is fed
+passes_fed old new under (Own fdc at passed is) fed = absurd (not_through old under at)
+passes_fed old new under (OfSector moving fdc at passed is) fed = passed_fed moving fdc old new (old.adapter.controller.asking, passed.rule) is
 
 counts_fed : (stage : FrontStage) (old new : Front) → old.stage ≡ stage → is_under_way stage ≡ true → new ≡ count_told stage old → IsFedFront old → IsFedFront new
 counts_fed (Moving moving) old new at under is fed = subst IsFedFront (sym is) (told_fed (record moving { counted = true }) old.adapter.controller (fed_moving moving old at fed).rule)
@@ -268,11 +254,6 @@ alike_fed (Moving moving) old new stays at phase asking fifo fed =
       last = λ none. ap phase_counted phase ∙ was.last none;
     })
 alike_fed stage old new stays at phase asking fifo fed = free_as stage new (stays ∙ at) tt
-
-port_fed : (port value : ℕ) (old new : Front) → WritesFront port value old new → (port == 0x3F5) ≡ false → resets port value ≡ false → IsFedFront old → IsFedFront new
-port_fed port value old new writes no_data quiet fed =
-    let same = port_same port value (lines_at old.adapter) old.adapter.controller new.adapter.controller (writes.others no_data).0.writes no_data quiet in
-    alike_fed old.stage old new (port_stage port value old new writes no_data quiet) refl same.phase same.asking same.fifo fed
 
 -- ---- a device step
 
@@ -378,12 +359,8 @@ ends_calm mark (Done marked) moving old new results calm ends tells = by_next (g
 ends_calm mark Overrun moving old new results calm is tells = absurd (false≢true (sym calm))
 ends_calm mark ending moving old new results calm is tells = as_told _ results old new (told_calm ending moving.transfer moving.transfer.key (has_failed_other mark moving ending) calm) is tells
 
--- the controller's ending isn't OR, and it isn't OR as the front judges it
-same_ending : (one other : Ending) → Some one ≡ Some other → one ≡ other
-same_ending one other is = cc
-
 answer_calm : (told : Answer) (ending : Ending) → is_overrun (Result told) ≡ false → ending_of_phase (Result told) ≡ Some ending → overran ending ≡ false
-answer_calm (Long found results read) ending calm is = sym (ap overran (same_ending found ending is)) ∙ calm
+answer_calm (Long found results read) ending calm is = sym (ap overran (cc)) ∙ calm
 answer_calm (Short next last) ending calm is = absurd (cc)
 
 phase_calm : (phase : Phase) (ending : Ending) → is_overrun phase ≡ false → ending_of_phase phase ≡ Some ending → overran ending ≡ false
@@ -463,23 +440,19 @@ record InTimeSoFar (chip : ChipState) : Type 0 where
   serving : IsServing chip
   fed : IsFedFront chip.front
 
-served_of : (chip : ChipState) → IsSound chip → IsServing chip → ServesBehind chip.front
-served_of chip sound serving = elim (busy_at chip SentTask serving.sent sound) [
-  | inl serves ↦ serves
-  | inr executes ↦ absurd (not_through chip.front serving.under_way executes.through)
-]
-
 chip_stepped : (old new : ChipState) (step : StepsChip old new) → InTimeSoFar old → IsPrompt old → IsStepped step.between
 chip_stepped old new step was prompt =
     let basis = sound_basis old (ap parts.is_ready was.serving.sent) was.sound in
-    front_stepped old.front.stage old.front step.between step.steps refl was.serving.under_way (served_of old was.sound was.serving) was.fed basis.gated prompt.served prompt.drive
+    front_stepped old.front.stage old.front step.between step.steps refl was.serving.under_way (serves_of old was.sound was.serving.sent was.serving.under_way) was.fed basis.gated prompt.served prompt.drive
 
 makes_fed : (b : Bool) (old new : Front) → Makes b old new → is_under_way old.stage ≡ true → IsFedFront old → IsFedFront new
 makes_fed b old new (makes.Same is) under fed = same_fed old new is fed
-makes_fed b old new (makes.Takes byte takes) under fed = takes_fed old.stage byte old new refl under takes fed
-makes_fed b old new (makes.Gives byte given gives) under fed = gives_fed old.stage byte given old new refl under gives fed
+makes_fed b old new (makes.Takes byte takes) under fed = passes_fed old new under (takes_pass old.stage byte old new refl takes) fed
+makes_fed b old new (makes.Gives byte given gives) under fed = passes_fed old new under (gives_pass old.stage byte given old new refl gives) fed
 makes_fed b old new (makes.Counts is) under fed = counts_fed old.stage old new refl under is fed
-makes_fed b old new (makes.Writes port value writes no_data quiet) under fed = port_fed port value old new writes no_data quiet fed
+makes_fed b old new (makes.Writes port value writes no_data quiet) under fed =
+    let same = port_same port value (lines_at old.adapter) old.adapter.controller new.adapter.controller (writes.others no_data).0.writes no_data quiet in
+    alike_fed old.stage old new (port_stage port value old new writes no_data quiet) refl same.phase same.asking same.fifo fed
 makes_fed b old new (makes.Changes changes keeps) under fed =
     let same = keeps.controller in
     alike_fed old.stage old new keeps.stage refl (ap (λ (fdc : Fdc). fdc.phase) same) (ap (λ (fdc : Fdc). fdc.asking) same) (ap (λ (fdc : Fdc). fdc.fifo) same) fed

@@ -1,11 +1,11 @@
 -- Seeks whose pulses come in the time that SPECIFY sets: a device step, and the command that ends them.
-use Rattle.std.proofs.Common.{◌≡◌, ◌⊎◌, inl, inr, ℕ, zero, suc, ◌+◌, ◌-◌, ◌*◌, ◌%◌, ◌^◌, ◌<◌, ◌≤◌, max, min, nat_le, nat_lt, Bool, true, false, not, ◌&&◌, ◌||◌, ◌==◌, if◌then◌else◌, Option, Some, None, is_none, is_some, List, [], ◌∷◌, length, slice_index, slice_set, unwrap_or, bit_and, bit_or, refl, sym, ◌∙◌, ap, subst, arith}
-use Rattle.laws_chip.proofs.Common.{option_map_or, mul-le-mul_right, suc-mul, and_from, and_right, eqb-false, leb-false, or_parts, or_right, nat_tests, pulses_within, seek_bits, sought, stepped_seek, with_motion, with_polls, Motion, Outward, Toward, DriveSeek, Taking, IsInRange, is_held, Rests, polled, seek_stepped, is_idle, Fdc, lines_at, Front, GivesCommand, is_ready, status_at, with_controller, StepsFront, recalibrated_at, recalibrated_outside, Through, ChipState, with_front, drained, is_moving, is_told, moves_heads, moving, pace_begun, GoesOnIf, Paces, PulsesIf, is_due, target_of, step_words, PacedSeek, ChipStage, GoesBehind, HeadsPaced, StandsBehind, most_left, pulses_left, pulses_to, GoesTo, HeadsGo, SeeksBehind, most_of, steps_left, IsSound}
-use Rattle.fdc_commands.specs.Seeking.{Seeking}
-use Rattle.fdc_chip.specs.Paces.{EndsAt, GoesOn, is_over, stepped}
+use Rattle.std.proofs.Common.{◌≡◌, ◌⊎◌, inl, inr, ℕ, suc, ◌+◌, ◌-◌, ◌*◌, ◌%◌, ◌^◌, ◌<◌, ◌≤◌, max, min, nat_le, nat_lt, Bool, true, false, not, ◌&&◌, ◌||◌, ◌==◌, if◌then◌else◌, Option, Some, None, is_none, is_some, List, [], ◌∷◌, length, slice_index, slice_set, unwrap_or, bit_and, bit_or, refl, sym, ◌∙◌, ap, subst, arith}
+use Rattle.laws_chip.proofs.Common.{option_map_or, mul-le-mul_right, suc-mul, and_from, and_right, eqb-false, leb-false, or_parts, or_right, nat_tests, pulses_within, seek_bits, sought, stepped_seek, with_motion, with_polls, Motion, Outward, Toward, DriveSeek, Taking, IsInRange, is_held, Rests, polled, seek_stepped, is_idle, Fdc, lines_at, Front, GivesCommand, is_ready, status_at, with_controller, StepsFront, recalibrated_at, recalibrated_outside, Through, ChipState, with_front, drained, is_moving, is_told, moves_heads, moving, pace_begun, GoesOnIf, Paces, PulsesIf, is_due, target_of, step_words, PacedSeek, ChipStage, GoesBehind, HeadsPaced, StandsBehind, most_left, pulses_left, pulses_to, GoesTo, HeadsGo, SeeksBehind, most_of, steps_left, IsSound, EndsPace as EndsAt, is_over_pace as is_over, chip_stepped as stepped, Seeks as Seeking}
+use Rattle.fdc_chip.specs.Paces.{GoesOn}
 use Rattle.laws_chip.proofs.HeadsGoing.{HasEnded, bare, ended_untold, front_steps, neighbour_left, none_drained, none_pending, rests_by_line, status_in, told_at}
-use Rattle.laws_chip.proofs.Rests.{adapter_stays, taking_stays, through_step}
-use Rattle.laws_chip.proofs.SeeksBegun.{given_seek, given_within, motion_to, of_four, seek_sent}
+use Rattle.laws_chip.proofs.Known.{adapter_stays}
+use Rattle.laws_chip.proofs.Rests.{taking_stays, through_step}
+use Rattle.laws_chip.proofs.SeeksBegun.{given_seek, given_within, motion_to, seek_sent}
 use Rattle.laws_chip.proofs.Standing.{Stands, stands_idle, stands_ready, status_free}
 
 -- ---- pulses
@@ -49,16 +49,6 @@ after_pulse pulses before words apart wait behind left fewer within =
     let all : suc pulses * k ≤ before * k = mul-le-mul_right k (omega arith) in
     let split = suc-mul pulses k in
     omega (arith, all, split, within)
-
--- a device step in which no pulse is given
-wait_less : (all apart wait behind left : ℕ) → 1 < wait → max wait (behind + 1) + apart + all ≤ left + 1 → max (wait - 1) (0 + 1) + apart + all ≤ left
-wait_less all apart wait behind left some within = omega arith
-
-behind_less : (all apart wait behind left : ℕ) → behind ≡ behind - 1 + 1 → max wait (behind + 1) + apart + all ≤ left + 1 → max (wait - 1) (behind - 1 + 1) + apart + all ≤ left
-behind_less all apart wait behind left some within = omega arith
-
-fewer_apart : (all apart fewer wait behind left : ℕ) → fewer ≤ apart → max wait (behind + 1) + apart + all ≤ left → max wait (behind + 1) + fewer + all ≤ left
-fewer_apart all apart fewer wait behind left few within = omega arith
 
 -- ---- the inner controller where it stands
 
@@ -134,11 +124,8 @@ sought_untold pace (suc (suc (suc (suc drive)))) few = absurd (omega arith)
 sought_untold pace _ few = refl
 
 set_four : (drive target : ℕ) (cylinders : List ℕ) → drive ≤ 3 → length cylinders ≡ 4 → length (slice_set cylinders drive target) ≡ 4
-set_four zero target (a ∷ b ∷ c ∷ d ∷ []) few four = refl
-set_four (suc zero) target (a ∷ b ∷ c ∷ d ∷ []) few four = refl
-set_four (suc (suc zero)) target (a ∷ b ∷ c ∷ d ∷ []) few four = refl
-set_four (suc (suc (suc zero))) target (a ∷ b ∷ c ∷ d ∷ []) few four = refl
 set_four (suc (suc (suc (suc drive)))) target (a ∷ b ∷ c ∷ d ∷ []) few four = absurd (omega arith)
+set_four _ target (a ∷ b ∷ c ∷ d ∷ []) few four = refl
 set_four drive target _ few four = absurd (omega arith)
 
 -- the seek of a single pulse has ended, and its result was taken over
@@ -293,7 +280,7 @@ end_given (Some target) apart pace drive stage old new few drive_is at stands wa
     let calm = sent_calm unit target old.front new.front stands was.pending gives in
     let seek = ap (λ (fdc : Fdc). fdc.seeks.seek) (seek_sent unit target old.front new.front stands gives).1 in
     let moves : is_moving new ≡ true = or_right (is_some new.pace) (moves_heads new.front)
-    (bit_moves new.front (record { drive = unit % 4; motion = motion_to unit target old.front }) (of_four unit) calm seek) in
+    (bit_moves new.front (record { drive = unit % 4; motion = motion_to unit target old.front }) (omega arith) calm seek) in
     let range = ranges calm moves in
     record {
       at = ap (λ (chip : ChipState). chip.stage) rest ∙ at;
@@ -379,7 +366,7 @@ stands_on behind apart left pace drive goal stage old new few drive_is goal_is a
     by_due true due pulses = pulses_on (is_over pace) behind apart left pace drive goal stage old new few drive_is goal_is at stands was within refl ranges pulses
     by_due false due is =
         let some = leb-false pace.wait 1 due in
-        inl (waits_on 0 apart left pace drive goal stage old new few drive_is goal_is at (inl was) (wait_less (pulses_left pace * max (step_words old.settings) 2) apart pace.wait behind left some within) is)
+        inl (waits_on 0 apart left pace drive goal stage old new few drive_is goal_is at (inl was) (omega arith) is)
 
 moves_on : (behind apart left : ℕ) (pace : PacedSeek) (drive : ℕ) (goal : Option ℕ) (stage : ChipStage) (old new : ChipState) → drive ≤ 3 → pace.unit % 4 ≡ drive → pace.goal ≡ goal → old.stage ≡ stage
     → SeeksBehind behind drive (Some pace.cylinder) old.front → most_left behind apart (step_words old.settings) pace ≤ left + 1 → GoesOn pace old new → HeadsPaced left drive goal stage new
@@ -388,7 +375,7 @@ moves_on behind apart left pace drive goal stage old new few drive_is goal_is at
     let undue : is_due pace old ≡ false = and_right (nat_le pace.wait 1 && is_ready old.front) (not (moves_heads old.front)) (ap not moves) in
     let some = some_behind behind drive pace.cylinder old.front was in
     waits_on (behind - 1) apart left pace drive goal stage old new few drive_is goal_is at (inr (subst (λ n. SeeksBehind n drive (Some pace.cylinder) old.front) some was))
-    (behind_less (pulses_left pace * max (step_words old.settings) 2) apart pace.wait behind left some within) (subst (λ b. GoesOnIf b pace old new) undue goes)
+    (omega arith) (subst (λ b. GoesOnIf b pace old new) undue goes)
 
 -- what the chip does of the seek in a device step
 pub paced_step : (left drive : ℕ) (goal : Option ℕ) (stage : ChipStage) (old paced : ChipState) (between : Front) → IsSound old → HeadsPaced (left + 1) drive goal stage old → StepsFront old.front between
@@ -402,7 +389,7 @@ paced_step left drive goal stage old paced between sound was step paces ranges =
     let all = pulses_left pace * max (step_words old.settings) 2 in
     elim over.going [
       | inl (now, stands, few) ↦ stands_on was.behind now left pace drive goal stage chip paced was.few was.drive_is was.goal_is was.at
-          (stands_for now drive pace.cylinder over.front (over.by_dma ∙ sound.by_dma) stands) stands (fewer_apart all was.apart now pace.wait was.behind (left + 1) few was.within) ranges goes
+          (stands_for now drive pace.cylinder over.front (over.by_dma ∙ sound.by_dma) stands) stands (omega arith) ranges goes
       | inr seeks ↦ inl (moves_on was.behind was.apart left pace drive goal stage chip paced was.few was.drive_is was.goal_is was.at seeks was.within goes)
     ]
 

@@ -1,16 +1,8 @@
 -- Device steps of a controller that executes nothing: no medium changes.
-use Rattle.std.proofs.Common.{◌≡◌, inl, inr, ◌&&◌, Bool, true, false, not, Option, Some, None, if◌then◌else◌, refl, sym, ◌∙◌, ap, subst}
-use Rattle.laws_chip.proofs.Common.{false≢true, with_polls, DriveState, Phase, Execute, Result, Works, is_executing, is_held, MovesIn, RestsIn, polled, Fdc}
-use Rattle.fdc_phases.specs.declared.phases.Phase.TheVariants.{Command}
+use Rattle.std.proofs.Common.{◌≡◌, inl, inr, ◌&&◌, Bool, true, false, Option, Some, None, if◌then◌else◌, refl, sym, ◌∙◌, ap, subst}
+use Rattle.laws_chip.proofs.Common.{false≢true, DriveState, Phase, Execute, Result, Works, is_executing, MovesIn, RestsIn, polled, Fdc, Taking as Command}
 use Rattle.fdc_core.specs.Steps.{Moves}
-
--- the poll leaves the phase
-pub polled_phase : (old : Fdc) → (polled old).phase ≡ old.phase
-polled_phase old = by_poll (old.poll_due && not (is_held old))
-  where
-    by_poll : (b : Bool) → (if b then record old { poll_due = false; interrupt = true; seeks = with_polls old.seeks } else old).phase ≡ old.phase
-    by_poll true = refl
-    by_poll false = refl
+use Rattle.laws_chip.proofs.Known.{polled_phase}
 
 -- a word time with its pulse leaves the medium
 pub moves_same : (pulse : Option Bool) (before after : DriveState) → Moves pulse before after → after.medium ≡ before.medium

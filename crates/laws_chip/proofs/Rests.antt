@@ -1,24 +1,14 @@
 -- A controller that does nothing, through device steps, and once the results of seeks and polls were taken over.
-use Rattle.std.proofs.Common.{◌≡◌, inl, inr, ℕ, zero, suc, ◌-◌, ◌<◌, ◌^◌, Bool, true, false, not, ◌&&◌, ◌||◌, ◌==◌, if◌then◌else◌, Option, Some, None, [], refl, sym, ◌∙◌, ap, subst, arith, pow_pos}
-use Rattle.laws_chip.proofs.Common.{option_map_or, ended, first_pending, has_ended, neighbour, recalibrated, released, sought, stepped_seek, with_motion, with_polls, after_sense, Motion, Taking, is_held, Rests, RestsIn, Stays, polled, seek_stepped, is_idle, mark_of, Fdc, AdapterState, StepsAdapter, selected_at, after_result, without_result, Front, with_controller, FollowsStep, StepsFront, pending_outside, sensed_at, sensed_outside, Through, ChipState, with_front, drained_one, implies, is_told, kept, with_result, IsOfFour, RestsBehind}
-use Rattle.fdc_commands.specs.Seeking.{Seeking, stepped}
+use Rattle.std.proofs.Common.{◌≡◌, ℕ, zero, suc, ◌-◌, ◌<◌, ◌^◌, Bool, true, false, ◌&&◌, ◌||◌, ◌==◌, if◌then◌else◌, Option, Some, None, [], refl, sym, ◌∙◌, ap, subst, arith, pow_pos}
+use Rattle.laws_chip.proofs.Common.{option_map_or, ended, first_pending, has_ended, neighbour, recalibrated, released, sought, stepped_seek, with_motion, after_sense, Motion, Taking, Rests, RestsIn, polled, seek_stepped, is_idle, mark_of, Fdc, AdapterState, StepsAdapter, after_result, without_result, Front, with_controller, FollowsStep, StepsFront, pending_outside, sensed_at, sensed_outside, Through, ChipState, with_front, drained_one, implies, is_told, kept, with_result, IsOfFour, RestsBehind, Seeks as Seeking, commands_stepped as stepped, DriveSeek as Seek}
 use Rattle.fdc_commands.specs.Seeking as seek_words
 use Rattle.fdc_commands.specs.declared.motion.Motion.TheVariants as motion
-use Rattle.fdc_commands.specs.declared.motion.Seek.{Seek}
-use Rattle.laws_chip.proofs.Known.{which_drive}
-use Rattle.laws_chip.proofs.Resting.{polled_phase}
+use Rattle.laws_chip.proofs.Known.{adapter_stays, by_rests, polled_by, polled_phase}
 use Rattle.fdc_chip.specs.Doing.{drained_by}
 use Rattle.laws_chip.proofs.FirstSectors.{IsBase}
 use Rattle.laws_chip.proofs.Standing.{Stands}
 
 -- ---- what each device step leaves
-
-pub adapter_stays : (old new : AdapterState) → StepsAdapter old new → Stays old.controller new.controller
-adapter_stays old new steps = elim (which_drive (selected_at old)) [
-  | inl at ↦ (steps.at_first at).0.stays
-  | inr (inl at) ↦ (steps.at_second at).0.stays
-  | inr (inr at) ↦ (steps.at_none at).0.stays
-]
 
 pub adapter_base : (old new : AdapterState) → StepsAdapter old new → old.controller.command ≡ [] → IsBase old.controller new.controller
 adapter_base old new steps none =
@@ -53,13 +43,6 @@ stepped_four old track0 few = by_seek old.seek few
     by_seek None few = tt
     by_seek (Some seek) few = motion_four (record old { seek = Some seek }) seek.drive seek.motion track0 few few
 
-polled_four : (old : Fdc) → IsOfFour old.seeks.seek → IsOfFour (polled old).seeks.seek
-polled_four old few = by_poll (old.poll_due && not (is_held old))
-  where
-    by_poll : (b : Bool) → IsOfFour (if b then record old { poll_due = false; interrupt = true; seeks = with_polls old.seeks } else old).seeks.seek
-    by_poll true = few
-    by_poll false = few
-
 released_four : (drive : ℕ) (seek : Option Seek) → IsOfFour seek → IsOfFour (released drive seek)
 released_four drive None few = tt
 released_four drive (Some seek) few = by_drive ((seek.drive == drive) && has_ended seek.motion)
@@ -75,13 +58,10 @@ sensed_four old few = by_first (first_pending old)
     by_first None = few
     by_first (Some drive) = released_four drive old.seek few
 
-some_pow : (drive : ℕ) → 2 ^ drive ≡ 0 → ⊥
-some_pow drive none = let some = pow_pos drive in absurd (omega arith)
-
 -- if no seek bit is set, no seek runs
 pub none_four : (seek : Option Seek) → option_map_or (λ (s : Seek). 2 ^ s.drive) seek 0 ≡ 0 → IsOfFour seek
 none_four None none = tt
-none_four (Some seek) none = absurd (some_pow seek.drive none)
+none_four (Some seek) none = absurd (let some = pow_pos seek.drive in absurd (omega arith))
 
 pub stands_rests : (front : Front) → Stands front → RestsBehind front
 stands_rests front stands = record { through = stands.through; takes = stands.takes; seek = none_four front.adapter.controller.seeks.seek stands.rests }
@@ -101,25 +81,16 @@ rests_on track0 old new takes few rests =
     let is = taking_stays track0 old new takes rests in
     record {
       takes = ap (λ (fdc : Fdc). fdc.phase) is ∙ (polled_phase old ∙ takes);
-      seek = subst (λ (fdc : Fdc). IsOfFour fdc.seeks.seek) (sym is) (stepped_four (polled old).seeks track0 (polled_four old few));
+      seek = subst (λ (fdc : Fdc). IsOfFour fdc.seeks.seek) (sym is) (stepped_four (polled old).seeks track0 (polled_by (λ (fdc : Fdc). IsOfFour fdc.seeks.seek) old few few));
     }
 
 adapter_rests : (old new : AdapterState) → StepsAdapter old new → old.controller.phase ≡ Taking → IsOfFour old.controller.seeks.seek → GoesResting new.controller
-adapter_rests old new steps takes few = elim (which_drive (selected_at old)) [
-  | inl at ↦ rests_on (old.first.cylinder == 0) old.controller new.controller takes few (steps.at_first at).0.rests
-  | inr (inl at) ↦ rests_on (old.second.cylinder == 0) old.controller new.controller takes few (steps.at_second at).0.rests
-  | inr (inr at) ↦ rests_on false old.controller new.controller takes few (steps.at_none at).0.rests
-]
+adapter_rests old new steps takes few = by_rests old new steps (λ track0 rests. rests_on track0 old.controller new.controller takes few rests)
 
 -- whatever seek runs
 pub adapter_takes : (old new : AdapterState) → StepsAdapter old new → old.controller.phase ≡ Taking → new.controller.phase ≡ Taking
 adapter_takes old new steps takes =
-    let phase = polled_phase old.controller ∙ takes in
-    elim (which_drive (selected_at old)) [
-      | inl at ↦ ap (λ (fdc : Fdc). fdc.phase) (taking_stays (old.first.cylinder == 0) old.controller new.controller takes (steps.at_first at).0.rests) ∙ phase
-      | inr (inl at) ↦ ap (λ (fdc : Fdc). fdc.phase) (taking_stays (old.second.cylinder == 0) old.controller new.controller takes (steps.at_second at).0.rests) ∙ phase
-      | inr (inr at) ↦ ap (λ (fdc : Fdc). fdc.phase) (taking_stays false old.controller new.controller takes (steps.at_none at).0.rests) ∙ phase
-    ]
+    by_rests old new steps (λ track0 rests. ap (λ (fdc : Fdc). fdc.phase) (taking_stays track0 old.controller new.controller takes rests) ∙ (polled_phase old.controller ∙ takes))
 
 -- where each access is the controller's a step is the adapter's
 pub through_step : (old new : Front) (step : StepsFront old new) → old.stage ≡ Through → new ≡ record old { adapter = step.between }

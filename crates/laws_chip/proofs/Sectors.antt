@@ -2,24 +2,12 @@
 use Rattle.std.proofs.Common.{◌≡◌, inl, inr, ℕ, zero, suc, ◌+◌, ◌-◌, ◌%◌, ◌<◌, ◌≤◌, Bool, true, false, not, ◌&&◌, ◌||◌, ◌==◌, if◌then◌else◌, List, [], ◌∷◌, ◌++◌, replicate, refl, sym, ◌∙◌, ap, arith}
 use Rattle.std.specs.Int.Bits.{bit_xor}
 use Rattle.std.specs.Prelude.{bit_and}
-use Rattle.laws_chip.proofs.Common.{cases_lt, cases_order, eqb-false, eqb-true, false≢true, ne_eqb, not-false, is_last, is_second_head, next_cylinder, next_of, next_record, other_head, Transfer, Steps, HasByteRecords, goes_to_other, records_from, sectors_from}
+use Rattle.laws_chip.proofs.Common.{cases_lt, cases_order, eqb-false, eqb-true, false≢true, ne_eqb, not-false, is_last, is_second_head, next_cylinder, next_of, next_record, other_head, Transfer, Steps, HasByteRecords, goes_to_other, records_from, sectors_from, SectorCallsCall as Call, chip_steps_in as steps_in}
 use Rattle.std.proofs.lemmas.Nat.Bits.{and_pow, bit_at-lt, bit_at_xor}
 use Rattle.std.specs.Int.{bit_at}
-use Rattle.laws_chip.specs.SectorCalls.{Call}
-use Rattle.laws_chip.specs.SectorLasting.{steps_in}
-
-records_few : (last r : ℕ) → records_from last r ≤ 256
-records_few last r = omega arith
-
-records_last : (last : ℕ) → records_from last last ≡ 1
-records_last last = omega arith
 
 records_step : (last r next more now : ℕ) → (r + 1) % 256 ≡ next → (last + 256 - next) % 256 ≡ more → (last + 256 - r) % 256 ≡ now → more + 1 ≡ now → records_from last ((r + 1) % 256) + 1 ≡ records_from last r
-records_step last r next more now next_is more_is now_is one =
-    ap (λ n. records_from last n + 1) next_is ∙ (ap (λ n. n + 1 + 1) more_is ∙ (ap (λ n. n + 1) one ∙ sym (ap (λ n. n + 1) now_is)))
-
-records_up : (last r : ℕ) → r < last → last < 256 → records_from last ((r + 1) % 256) + 1 ≡ records_from last r
-records_up last r below few = records_step last r (r + 1) (last - (r + 1)) (last - r) (omega arith) (omega arith) (omega arith) (omega arith)
+records_step last r next more now next_is more_is now_is one = grind arith
 
 -- the record after FF is 00
 records_around : (last r : ℕ) → last < r → r < 256 → records_from last ((r + 1) % 256) + 1 ≡ records_from last r
@@ -31,7 +19,7 @@ records_around last r above few = elim (cases_lt r 255) [
 records_next : (last r : ℕ) → last < 256 → r < 256 → (r ≡ last → ⊥) → records_from last ((r + 1) % 256) + 1 ≡ records_from last r
 records_next last r few small other = elim (cases_order r last) [
   | inl same ↦ absurd (other same)
-  | inr (inl below) ↦ records_up last r below few
+  | inr (inl below) ↦ records_step last r (r + 1) (last - (r + 1)) (last - r) (omega arith) (omega arith) (omega arith) (omega arith)
   | inr (inr above) ↦ records_around last r above small
 ]
 
@@ -87,20 +75,17 @@ sectors_next at (small, few) goes = by_place (at.key.r == at.last_sector) at.opc
         let after = ap (λ n. records + n) (none_behind at.opcode.multitrack (is_second_head (bit_xor at.head_drive 4)) records (other_side at.head_drive side)) in
         let before = ap (λ n. records_from at.last_sector at.key.r + n) (some_behind at.opcode.multitrack (is_second_head at.head_drive) records many side) in
         head_over (sectors_from at) (sectors_from (other_head at)) records (records_from at.last_sector at.key.r) after before
-        (ap (records_from at.last_sector) (eqb-true at.key.r at.last_sector place) ∙ records_last at.last_sector)
+        (ap (records_from at.last_sector) (eqb-true at.key.r at.last_sector place) ∙ (omega arith))
 
 both_few : (b : Bool) (n m : ℕ) → n ≤ 256 → m ≤ 256 → n + (if b then m else 0) ≤ 512
 both_few true n m here there = omega arith
 both_few false n m here there = omega arith
 
 pub sectors_few : (at : Transfer) → sectors_from at ≤ 512
-sectors_few at = both_few (goes_to_other at) (records_from at.last_sector at.key.r) (records_from at.last_sector 1) (records_few at.last_sector at.key.r) (records_few at.last_sector 1)
-
-one_and : (n m : ℕ) → 1 ≤ n + 1 + m
-one_and n m = omega arith
+sectors_few at = both_few (goes_to_other at) (records_from at.last_sector at.key.r) (records_from at.last_sector 1) (omega arith) (omega arith)
 
 pub sectors_some : (at : Transfer) → 1 ≤ sectors_from at
-sectors_some at = one_and ((at.last_sector + 256 - at.key.r) % 256) (if goes_to_other at then records_from at.last_sector 1 else 0)
+sectors_some at = omega arith
 
 -- the numbers of the next sector are bytes too
 pub next_bytes : (at : Transfer) → HasByteRecords at → HasByteRecords (next_of at)

@@ -1,7 +1,6 @@
 -- A seek begins: its last byte comes to a chip whose heads stand, with the strap for the time of step pulses off or on.
-use Rattle.std.proofs.Common.{◌≡◌, inl, inr, ℕ, zero, suc, ◌+◌, ◌*◌, ◌%◌, ◌^◌, ◌<◌, ◌≤◌, max, Bool, true, false, not, if◌then◌else◌, Option, Some, None, is_some, List, [], ◌∷◌, length, option_map, position, slice_index, slice_set, refl, sym, ◌∙◌, ap, subst, arith, pow_pos}
-use Rattle.laws_chip.proofs.Common.{option_map_or, and_from, and_right, false≢true, or_parts, IsMotion, is_begun, Motion, Outward, Toward, DriveSeek, Taking, recalibrating, seeking_to, is_taking, takes_in, IsInRange, is_held, is_idle, Fdc, after_result, without_result, Front, GivesCommand, with_controller, pending_outside, sensed_at, sensed_outside, Through, ChipState, with_front, AttendsIf, Moves, MovesIf, Obeys, drained, drained_one, is_moving, is_told, kept, moves_heads, moving, needs_heads, pace_begun, relative_target, Interrupting, cylinder_of, with_result, WritesChip, step_words, ChipOpcode, Specify, Recalibrate, SenseInterrupt, DumpRegisters, Seek, RelativeSeek, Version, Perpendicular, Lock, Order, PacedSeek, Ready, Completes, completed, still_moves, HeadsPaced, StandsBehind, most_paced, pulses_left, HeadsGo, IsSoundInRange, SeeksBehind, goal_of, most_of, steps_left}
-use Rattle.fdc_commands.specs.Seeking.{Seeking}
+use Rattle.std.proofs.Common.{◌≡◌, inl, inr, ℕ, zero, suc, ◌+◌, ◌*◌, ◌%◌, ◌^◌, ◌<◌, ◌≤◌, Bool, true, false, not, if◌then◌else◌, Option, Some, None, is_some, List, [], ◌∷◌, length, option_map, position, slice_index, slice_set, refl, sym, ◌∙◌, ap, subst, arith, pow_pos}
+use Rattle.laws_chip.proofs.Common.{option_map_or, and_from, and_right, false≢true, or_parts, IsMotion, is_begun, Motion, Outward, Toward, DriveSeek, Taking, recalibrating, seeking_to, is_taking, takes_in, IsInRange, is_held, is_idle, Fdc, after_result, without_result, Front, GivesCommand, with_controller, pending_outside, sensed_at, sensed_outside, Through, ChipState, with_front, AttendsIf, Moves, MovesIf, Obeys, drained, drained_one, is_moving, is_told, kept, moves_heads, moving, needs_heads, pace_begun, relative_target, Interrupting, cylinder_of, with_result, WritesChip, step_words, ChipOpcode, Specify, Recalibrate, SenseInterrupt, DumpRegisters, Seek, RelativeSeek, Version, Perpendicular, Lock, Order, PacedSeek, Ready, Completes, completed, still_moves, HeadsPaced, StandsBehind, most_paced, pulses_left, HeadsGo, IsSoundInRange, SeeksBehind, goal_of, most_of, steps_left, Seeks as Seeking}
 use Rattle.fdc_commands.specs.Seeking as seeking
 use Rattle.fdc_commands.specs.declared.command.Command.TheVariants as command
 use Rattle.fdc_chip.specs.Doing.{drained_by}
@@ -236,15 +235,11 @@ given_seeks unit None start new stands none polled range gives =
       pending = ap (λ (fdc : Fdc). fdc.seeks.pending) is ∙ none;
       four = range.seeks.cylinders;
     }
-given_seeks unit (Some target) start new stands none polled range gives =
-    given_seek 256 unit target start new stands none polled range gives (given_within unit target start new stands range gives)
+given_seeks unit (Some target) start new stands none polled range gives = search (given_seek, given_within)
 
 none_of : (pace : Option PacedSeek) → is_some pace ≡ false → pace ≡ None
 none_of None is = refl
 none_of (Some pace) is = absurd (false≢true (sym is))
-
-pub of_four : (n : ℕ) → n % 4 ≤ 3
-of_four n = omega arith
 
 -- ---- its last byte
 
@@ -295,7 +290,7 @@ seek_comes code goal byte old new was is_after few completes is writes still unp
     subst (λ (order : Order). HeadsGo (most_of goal) (order.unit % 4) goal Ready new) coming.order_is (record {
       at = ap (λ (chip : ChipState). chip.stage) rest;
       unpaced = ap (λ (chip : ChipState). chip.pace) rest ∙ coming.unpaced;
-      few = of_four set.order.unit;
+      few = omega arith;
       going = given_seeks set.order.unit goal set.front new.front coming.stands coming.pending (coming.poll ∙ polled) is_after.range gives;
     })
 
@@ -309,9 +304,6 @@ none_kept (Some seek) none = let some = pow_pos seek.drive in absurd (omega arit
 -- the pulses of the whole seek, from the cylinder that the chip counts
 abbrev begun_at : Option ℕ → Order → Interrupting → PacedSeek
 begun_at goal order interrupts = pace_begun order.unit (cylinder_of order.unit interrupts) goal
-
-most_within : (words pulses : ℕ) → max 0 (0 + 1) + 254 + pulses * max words 2 ≤ most_paced words pulses
-most_within words pulses = omega arith
 
 pub paced_comes : (code : ChipOpcode) (goal : Option ℕ) (byte : ℕ) (old new : ChipState) → IsSoundInRange old → IsSoundInRange new → byte < 256
     → Completes code byte old → goal_of code (completed byte old) (drained old).interrupts ≡ Some goal → WritesChip 0x3F5 byte old new → still_moves old ≡ false → old.paced ≡ true
@@ -328,7 +320,7 @@ paced_comes code goal byte old new was is_after few completes is writes still pa
     ap (λ (order : Order). begun_at goal order set.interrupts) coming.order_is ∙ ap (λ (i : Interrupting). begun_at goal (completed byte old) i) coming.numbers in
     record {
       at = ap (λ (chip : ChipState). chip.stage) now;
-      few = of_four (completed byte old).unit;
+      few = omega arith;
       pace = begun_at goal (completed byte old) (drained old).interrupts;
       paced = ap (λ (chip : ChipState). chip.pace) now ∙ ap Some same;
       drive_is = refl;
@@ -346,5 +338,5 @@ paced_comes code goal byte old new was is_after few completes is writes still pa
         four = ap (λ (f : Front). length f.adapter.controller.seeks.cylinders) (sym front) ∙ is_after.range.seeks.cylinders;
         counts = inr (omega arith);
       }));
-      within = most_within (step_words new.settings) (pulses_left (begun_at goal (completed byte old) (drained old).interrupts));
+      within = omega arith;
     }

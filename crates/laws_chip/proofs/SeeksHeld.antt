@@ -1,8 +1,7 @@
 -- A command that is held while heads move: it is held through other calls, and begins in the device step in which they
 -- stand.
 use Rattle.std.proofs.Common.{◌≡◌, ◌⊎◌, inl, inr, ℕ, ◌+◌, ◌<◌, ◌≤◌, Bool, true, false, ◌||◌, Option, Some, is_some, length, slice_index, slice_set, unwrap_or, refl, sym, ◌∙◌, ap, subst}
-use Rattle.laws_chip.proofs.Common.{and_from, or_from, or_right, IsInRange, interrupts_outside, ChipState, with_front, code_of, AttendsIf, drained, implies, is_moving, moves_heads, needs_heads, Paces, CollectsIf, ComesIf, TakesByte, WritesChip, may_come, with_next, step_words, Follows, StepsChip, ChipOpcode, Order, PacedSeek, Settings, ChipStage, Ready, Held, Completes, IsDoneFree, IsHeldFor, completed, still_moves, Call, Does, is_reset, is_step, GoesBehind, HeadsPaced, StandsBehind, completes, most_left, is_of_data_port, HeadsGo, IsSoundInRange, SeeksBehind, most_of, waits_for_heads, IsSound}
-use Rattle.fdc_commands.specs.Seeking.{Seeking}
+use Rattle.laws_chip.proofs.Common.{and_from, or_from, or_right, IsInRange, interrupts_outside, ChipState, with_front, code_of, AttendsIf, drained, implies, is_moving, moves_heads, needs_heads, Paces, CollectsIf, ComesIf, TakesByte, WritesChip, may_come, with_next, step_words, Follows, StepsChip, ChipOpcode, Order, PacedSeek, Settings, ChipStage, Ready, Held, Completes, IsDoneFree, IsHeldFor, completed, still_moves, Call, Does, is_reset, is_step, GoesBehind, HeadsPaced, StandsBehind, completes, most_left, is_of_data_port, HeadsGo, IsSoundInRange, SeeksBehind, most_of, waits_for_heads, IsSound, Seeks as Seeking}
 use Rattle.laws_chip.proofs.HeadsGoing.{either_same, ended_drained, front_steps, going_drained, status_in, stood, stood_stands}
 use Rattle.laws_chip.proofs.PulsesGoing.{IsCalm, RangesLater, behind_calm, calm_drained, paced_step, seeks_calm, seeks_move}
 use Rattle.laws_chip.proofs.WholeTransfers.{attended_free, attending, byte_attends, follows_held, step_attends, step_rests}
@@ -58,17 +57,11 @@ paced_as left drive goal stage old new was at pace settings going = record {
   within = subst (λ (s : Settings). most_left was.behind was.apart (step_words s) was.pace ≤ left) (sym settings) was.within;
 }
 
-same_going : (left drive : ℕ) (goal : Option ℕ) (stage : ChipStage) (old new : ChipState) → new ≡ old → HeadsGo left drive goal stage old → HeadsGo left drive goal stage new
-same_going left drive goal stage old new is was = subst (HeadsGo left drive goal stage) (sym is) was
-
 pub call_going : (left drive : ℕ) (goal : Option ℕ) (stage : ChipStage) (call : Call) (old new : ChipState) → waits_for_heads stage ≡ true → HeadsGo left drive goal stage old → Does call old new → is_step call ≡ false
     → is_reset call ≡ false → is_of_data_port call ≡ false → HeadsGo left drive goal stage new
 call_going left drive goal stage call old new waits was does no_step no_reset other =
     let keeps = call_heads call old new (ap waits_for_heads was.at ∙ waits) does no_step no_reset other in
     record { at = keeps.stage ∙ was.at; unpaced = keeps.pace ∙ was.unpaced; few = was.few; going = seeks_kept left drive goal old new keeps was.going }
-
-same_paced : (left drive : ℕ) (goal : Option ℕ) (stage : ChipStage) (old new : ChipState) → new ≡ old → HeadsPaced left drive goal stage old → HeadsPaced left drive goal stage new
-same_paced left drive goal stage old new is was = subst (HeadsPaced left drive goal stage) (sym is) was
 
 pub call_paced : (left drive : ℕ) (goal : Option ℕ) (stage : ChipStage) (call : Call) (old new : ChipState) → waits_for_heads stage ≡ true → HeadsPaced left drive goal stage old → Does call old new → is_step call ≡ false
     → is_reset call ≡ false → is_of_data_port call ≡ false → HeadsPaced left drive goal stage new
@@ -88,13 +81,13 @@ byte_taken byte old new at writes part = by_chance (may_come old) (subst (λ sta
 pub byte_going : (left drive : ℕ) (goal : Option ℕ) (byte : ℕ) (old new : ChipState) → HeadsGo left drive goal Ready old → WritesChip 0x3F5 byte old new → completes byte old ≡ false → HeadsGo left drive goal Ready new
 byte_going left drive goal byte old new was writes part = elim (byte_taken byte old new was.at writes part) [
   | inl is ↦ subst (HeadsGo left drive goal Ready) (sym is) (record { at = was.at; unpaced = was.unpaced; few = was.few; going = was.going })
-  | inr is ↦ same_going left drive goal Ready old new is was
+  | inr is ↦ subst (HeadsGo left drive goal Ready) (sym is) was
 ]
 
 pub byte_paced : (left drive : ℕ) (goal : Option ℕ) (byte : ℕ) (old new : ChipState) → HeadsPaced left drive goal Ready old → WritesChip 0x3F5 byte old new → completes byte old ≡ false → HeadsPaced left drive goal Ready new
 byte_paced left drive goal byte old new was writes part = elim (byte_taken byte old new was.at writes part) [
   | inl is ↦ subst (HeadsPaced left drive goal Ready) (sym is) (paced_as left drive goal Ready old (with_next byte old) was refl refl refl was.going)
-  | inr is ↦ same_paced left drive goal Ready old new is was
+  | inr is ↦ subst (HeadsPaced left drive goal Ready) (sym is) was
 ]
 
 -- ---- a command comes, and is held

@@ -1,16 +1,13 @@
 -- Heads that move come to stand, whatever calls come: each device step leaves fewer, and other calls leave no more.
 use Rattle.std.proofs.Common.{◌≡◌, ℕ, ◌+◌, ◌-◌, ◌*◌, ◌^◌, ◌<◌, ◌≤◌, max, nat_le, Bool, true, false, not, ◌&&◌, ◌||◌, ◌==◌, if◌then◌else◌, Option, Some, None, is_some, List, [], ◌∷◌, length, bit_and, bit_or, refl, sym, ◌∙◌, ap, subst, arith}
-use Rattle.laws_chip.proofs.Common.{option_map_or, eqb-true, false≢true, not-true, or_right, has_ended, is_seeking, Motion, Ended, DriveSeek, resets, IsInRange, Fdc, Front, WritesFront, interrupts_outside, status_at, StepsFront, answer_bytes, is_of_data, ChipState, with_front, code_of, AttendsIf, AttendsTo, Obeys, drained, is_moving, moves_heads, needs_heads, pace_begun, Paces, CollectsIf, ComesIf, GivesChipIf, GivesIf, ReadsAt, ReadsIf, TakesByte, TakesIf, byte_told, latched_by, is_whole, may_come, quieted_if, reset_if, value_behind, with_next, step_words, Follows, ChipAnswer, ChipOpcode, PacedSeek, Settings, ChipStage, Ready, Held, Busy, AreSeeking, HeadsGoOn, IsUsed, StaysHeld, heads_go, heads_steps, is_executed, seek_steps, Call, Does, is_step, steps_in, steps_of, pulses_left, steps_left, IsSound}
-use Rattle.fdc_commands.specs.Seeking.{Seeking}
+use Rattle.laws_chip.proofs.Common.{option_map_or, eqb-true, false≢true, not-true, or_right, has_ended, is_seeking, Motion, Ended, DriveSeek, IsInRange, Front, interrupts_outside, status_at, StepsFront, answer_bytes, is_of_data, ChipState, with_front, code_of, AttendsIf, AttendsTo, Obeys, drained, is_moving, moves_heads, needs_heads, pace_begun, Paces, CollectsIf, ComesIf, GivesIf, ReadsAt, ReadsIf, TakesByte, byte_told, latched_by, is_whole, may_come, quieted_if, reset_if, value_behind, with_next, step_words, Follows, ChipAnswer, ChipOpcode, PacedSeek, Settings, ChipStage, Ready, Held, Busy, AreSeeking, HeadsGoOn, IsUsed, StaysHeld, heads_go, heads_steps, is_executed, seek_steps, Call, Does, is_of_data_port, is_reset, is_step, steps_in, steps_of, pulses_left, steps_left, IsSound, ChipTelling as Telling, Seeks as Seeking}
 use Rattle.fdc_chip.specs.declared.code.ChipOpcode.TheVariants as code
-use Rattle.fdc_chip.specs.declared.stage.ChipStage.TheVariants.{Telling}
 use Rattle.laws_chip.specs.Calls as made
-use Rattle.laws_chip.proofs.Channels.{front_left}
+use Rattle.laws_chip.proofs.HeadsKept.{call_idle, no_port}
 use Rattle.laws_chip.proofs.HeadsLeft.{IsFewLater, IsPaced, paces_on}
 use Rattle.laws_chip.proofs.HeadsTold.{TellsEnd, drained_left, drained_same}
 use Rattle.laws_chip.proofs.HeadsWait.{heads_less, range_steps}
-use Rattle.laws_chip.proofs.KnownEnds.{KnowsEnd, call_known, idle_counts, none_by_channel, none_by_port}
-use Rattle.laws_chip.proofs.PassedOn.{other_read}
+use Rattle.laws_chip.proofs.KnownEnds.{KnowsEnd, call_known}
 use Rattle.laws_chip.proofs.PulsesGoing.{bits_shown}
 use Rattle.laws_chip.proofs.SeeksBegun.{IsIdleAt, all_taken}
 use Rattle.laws_chip.proofs.SoundCalls.{byte_stays, call_sound, front_anew}
@@ -35,11 +32,8 @@ run_some : (motion : Motion) → not (has_ended motion) ≡ true → 1 ≤ steps
 run_some Ended runs = absurd (false≢true runs)
 run_some _ runs = omega arith
 
-pace_some : (all wait now : ℕ) → 0 < max wait now + (all + 257)
-pace_some all wait now = omega arith
-
 go_some : (words : ℕ) (pace : Option PacedSeek) (seek : Option DriveSeek) → (is_some pace || option_map_or (λ (d : DriveSeek). not (has_ended d.motion)) seek false) ≡ true → 0 < heads_steps words pace seek
-go_some words (Some pace) seek goes = pace_some (pulses_left pace * (max words 256 + 1)) pace.wait (seek_steps seek)
+go_some words (Some pace) seek goes = omega arith
 go_some words None None goes = absurd (false≢true goes)
 go_some words None (Some seek) goes = run_some seek.motion goes
 
@@ -111,8 +105,7 @@ attends_few false words n found old new needs moves obeys few = obeys_few words 
 
 attended_few : (words n : ℕ) (found : Option ChipOpcode) (old new : ChipState) → IsIdleAt old.front → IsInRange old.front.adapter.controller → heads_go old ≡ true → AttendsTo found old new → left_at words old ≤ n → left_at words new ≤ n
 attended_few words n None old new idle range goes is few = same_few words n old new (ap (λ (chip : ChipState). chip.pace) is) (ap (λ (chip : ChipState). chip.front.adapter.controller.seeks.seek) is) few
-attended_few words n (Some found) old new idle range goes attends few =
-    attends_few (needs_heads found) words n found (drained old) new refl (go_moving old idle range goes) attends (drained_few words n old idle few)
+attended_few words n (Some found) old new idle range goes attends few = grind (arith, attends_few, drained, go_moving, drained_few)
 
 collects_few : (b : Bool) (words n : ℕ) (found : Option ChipOpcode) (old new : ChipState) → IsIdleAt old.front → IsInRange old.front.adapter.controller → heads_go old ≡ true → CollectsIf b found old new → left_at words old ≤ n → left_at words new ≤ n
 collects_few true words n found old new idle range goes attends few = attended_few words n found (record old { count = 0 }) new idle range goes attends few
@@ -132,59 +125,45 @@ told_pace answer read old = by_quiet (is_of_data answer && (read == 0))
     by_quiet true = refl
     by_quiet false = refl
 
-told_few : (words n : ℕ) (answer : ChipAnswer) (read : ℕ) (old new : ChipState) → new ≡ byte_told answer read old → left_at words old ≤ n → left_at words new ≤ n
-told_few words n answer read old new is few =
-    is_few words n (byte_told answer read old) new is
-    (same_few words n old (byte_told answer read old) (told_pace answer read old) (ap (λ (front : Front). front.adapter.controller.seeks.seek) (byte_stays answer read old).front) few)
-
 read_few : (stage : ChipStage) (words n value : ℕ) (old new : ChipState) → old.stage ≡ stage → is_busy stage ≡ false → ReadsAt stage old value new → left_at words old ≤ n → left_at words new ≤ n
 read_few (Busy what) words n value old new at idle reads few = absurd (false≢true (sym idle))
-read_few (Telling answer read) words n value old new at idle (value_is, is) few = told_few words n answer read old new is few
-read_few _ words n value old new at idle reads few = is_few words n old new (subst (λ b. ReadsIf b old value new) (none_by_port old (ap is_busy at)) reads).1 few
+read_few (Telling answer read) words n value old new at idle (value_is, is) few =
+    is_few words n (byte_told answer read old) new is
+    (same_few words n old (byte_told answer read old) (told_pace answer read old) (ap (λ (front : Front). front.adapter.controller.seeks.seek) (byte_stays answer read old).front) few)
+read_few _ words n value old new at idle reads few = is_few words n old new (subst (λ b. ReadsIf b old value new) (no_port old (ap is_busy at)) reads).1 few
 
 write_few : (stage : ChipStage) (words n value : ℕ) (old new : ChipState) → old.stage ≡ stage → is_busy stage ≡ false → IsIdleAt old.front → IsInRange old.front.adapter.controller → heads_go old ≡ true → TakesByte stage value old new
     → left_at words old ≤ n → left_at words new ≤ n
 write_few Ready words n value old new at idle free range goes comes few = comes_few (may_come old) words n value old new free range goes comes few
 write_few (Busy what) words n value old new at idle free range goes gives few = absurd (false≢true (sym idle))
-write_few _ words n value old new at idle free range goes gives few = is_few words n old new (subst (λ b. GivesIf b value old new) (none_by_port old (ap is_busy at)) gives) few
+write_few _ words n value old new at idle free range goes gives few = is_few words n old new (subst (λ b. GivesIf b value old new) (no_port old (ap is_busy at)) gives) few
 
 -- a reset lets no heads move
 none_go : (pace : Option PacedSeek) (s : Seeking) → pace ≡ None → s.seek ≡ None → (is_some pace || is_seeking s) ≡ false
 none_go pace s none stands =
     ap (λ (p : Option PacedSeek). is_some p || is_seeking s) none ∙ ap (λ (seek : Option DriveSeek). option_map_or (λ (d : DriveSeek). not (has_ended d.motion)) seek false) stands
 
-port_few : (b : Bool) (words n port value : ℕ) (old set new : ChipState) → resets port value ≡ b → (port == 0x3F5) ≡ false → set.pace ≡ old.pace → heads_go new ≡ true → WritesFront port value old.front new.front → new ≡ with_front new.front (reset_if b set)
-    → left_at words old ≤ n → left_at words new ≤ n
-port_few true words n port value old set new anew no_data pace goes writes rest few =
-    let seeks = (front_anew port value old.front new.front writes no_data anew).0.seeks in
-    clash (heads_go new) (none_go new.pace new.front.adapter.controller.seeks (ap (λ (chip : ChipState). chip.pace) rest) (ap (λ (s : Seeking). s.seek) seeks)) goes
-port_few false words n port value old set new quiet no_data pace goes writes rest few =
-    same_few words n old new (ap (λ (chip : ChipState). chip.pace) rest ∙ pace) (ap (λ (s : Seeking). s.seek) (front_left port value old.front new.front writes no_data quiet).seeks) few
+reset_stops : (call : Call) (old new : ChipState) → is_of_data_port call ≡ false → is_reset call ≡ true → Does call old new → heads_go new ≡ false
+reset_stops (made.Writes port value) old new no_data anew does =
+    let (front, rest) = does.others no_data in
+    let pace : new.pace ≡ None = ap (λ (chip : ChipState). chip.pace) (rest ∙ ap (λ b. with_front new.front (reset_if b (latched_by port value old))) anew) in
+    none_go new.pace new.front.adapter.controller.seeks pace (ap (λ (s : Seeking). s.seek) (front_anew port (value_behind port value) old.front new.front front no_data anew).0.seeks)
+reset_stops _ old new no_data anew does = absurd (false≢true anew)
 
 other_few : (call : Call) (words n : ℕ) (old new : ChipState) → is_busy old.stage ≡ false → IsIdleAt old.front → IsInRange old.front.adapter.controller → heads_go old ≡ true → heads_go new ≡ true → Does call old new → is_step call ≡ false
     → left_at words old ≤ n → left_at words new ≤ n
-other_few made.Steps words n old new idle free range goes still does no_step few = absurd (false≢true (sym no_step))
-other_few (made.Takes byte) words n old new idle free range goes still does no_step few = is_few words n old new (subst (λ b. TakesIf b old byte new) (none_by_channel old idle) does).1 few
-other_few (made.Gives byte given) words n old new idle free range goes still does no_step few = is_few words n old new (subst (λ b. GivesChipIf b byte old given new) (none_by_channel old idle) does).1 few
-other_few made.Counts words n old new idle free range goes still does no_step few = is_few words n old new (does ∙ idle_counts old.stage old idle) few
-other_few (made.Reads port value) words n old new idle free range goes still does no_step few = either_way (port == 0x3F5)
-    (λ here. read_few old.stage words n value old new refl idle (does.byte (eqb-true port 0x3F5 here)) few)
-    (λ no_data. is_few words n old new (other_read port value old new no_data does) few)
-other_few (made.Writes port value) words n old new idle free range goes still does no_step few = either_way (port == 0x3F5)
-    (λ here. write_few old.stage words n value old new refl idle free range goes (does.bytes (eqb-true port 0x3F5 here)) few)
-    (λ no_data.
-    let (front, rest) = does.others no_data in
-    let behind = value_behind port value in
-    port_few (resets port behind) words n port behind old (latched_by port value old) new refl no_data refl still front rest few)
-other_few made.Changes words n old new idle free range goes still does no_step few =
-    same_few words n old new (ap (λ (chip : ChipState). chip.pace) does.rest) (ap (λ (fdc : Fdc). fdc.seeks.seek) does.front.controller) few
-other_few _ words n old new idle free range goes still does no_step few =
-    same_few words n old new (ap (λ (chip : ChipState). chip.pace) does) (ap (λ (chip : ChipState). chip.front.adapter.controller.seeks.seek) does) few
+other_few call words n old new idle free range goes still does no_step few = either_way (is_of_data_port call)
+    (λ here. by_data call here does)
+    (λ no_data. either_way (is_reset call)
+    (λ anew. clash (heads_go new) (reset_stops call old new no_data anew does) still)
+    (λ quiet. let keeps = call_idle call old new idle does no_step quiet no_data in same_few words n old new keeps.pace (ap (λ (s : Seeking). s.seek) keeps.left.seeks) few))
+  where
+    by_data : (call : Call) → is_of_data_port call ≡ true → Does call old new → left_at words new ≤ n
+    by_data (made.Reads port value) here does = read_few old.stage words n value old new refl idle (does.byte (eqb-true port 0x3F5 here)) few
+    by_data (made.Writes port value) here does = write_few old.stage words n value old new refl idle free range goes (does.bytes (eqb-true port 0x3F5 here)) few
+    by_data _ here does = absurd (false≢true here)
 
 -- ---- a device step
-
-same_n : (n : ℕ) → n ≤ n
-same_n n = omega arith
 
 -- what the chip does after the pulses of the step leaves the seek, or takes over its result
 after_few : (words n : ℕ) (old : ChipState) (between : Front) (paced : ChipState) → IsSound old → is_busy old.stage ≡ false → HeadsGoOn words old → TellsEnd old.front.adapter.controller.seeks → StepsFront old.front between
@@ -264,14 +243,10 @@ seeks_last words n (call ∷ calls) old new sound knows was few (between, does, 
 pub used_stands : (words : ℕ) (calls : List Call) (old new : ChipState) → IsUsed old → HeadsGoOn words old → AreSeeking words calls old new
     → steps_in calls < heads_steps words old.pace old.front.adapter.controller.seeks.seek
 used_stands words calls old new used was are =
-    let known = used_known old used in seeks_last words (left_at words old) calls old new known.sound known.knows was (same_n (left_at words old)) are
+    let known = used_known old used in seeks_last words (left_at words old) calls old new known.sound known.knows was (omega arith) are
 
 pub words_most : (settings : Settings) → step_words settings ≤ 1000
 words_most settings = omega arith
 
--- as a seek begins whose pulses come in time, its first pulse is due
-none_waits : (all : ℕ) → max 0 0 + all ≡ all
-none_waits all = omega arith
-
 pub pace_begins : (words unit cylinder : ℕ) (goal : Option ℕ) → heads_steps words (Some (pace_begun unit cylinder goal)) None ≡ pulses_left (pace_begun unit cylinder goal) * (max words 256 + 1) + 257
-pace_begins words unit cylinder goal = none_waits (pulses_left (pace_begun unit cylinder goal) * (max words 256 + 1) + 257)
+pace_begins words unit cylinder goal = omega arith

@@ -1,10 +1,8 @@
 -- What is served, through device steps, the channel and port accesses.
 use Rattle.std.proofs.Common.{◌≡◌, ◌⊎◌, inl, inr, ℕ, ◌+◌, ◌-◌, nat_lt, Bool, true, false, not, ◌&&◌, ◌||◌, ◌==◌, if◌then◌else◌, Option, Some, None, List, [], ◌∷◌, ◌++◌, length, refl, sym, ◌∙◌, ap, subst, append-nil, arith}
-use Rattle.laws_chip.proofs.Common.{and_from, and_parts, eq-eqb, eqb-true, false≢true, IsSizeCode, content_size, has_ended_seek, Past, new_past, Ending, Done, BadCheck, Command, byte_out, taken_in, taken_out, to_memory_of, told_count, MayReadIn, Sent, gave, results_sent, told_in, WordTime, Stopped, after_time, is_executing, AreOfField, ReadMeans, ReadMeansIn, bytes_held, resets, asks, ending_told, given_up, is_idle, mark_of, without_seek, ending_of_phase, head_of, MayWriteIn, took, Short, Long, Fdc, Phase, Taking, Execute, Result, starts_given, write_tells, writes_window, AdapterState, StepsAdapter, WritesAdapter, lines_at, selected_at, BeginsSector, Front, GivesAt, GivesCommand, GivesFront, GivesMoving, GivesTransfer, SeeksFirst, Starts, StartsIf, TakesAt, TakesFront, TakesMoving, WritesFront, begun_if, count_told, is_ready, moving_of, passed_one, results_taken, taken_at, told_front, told_if, with_controller, EndsIf, EndsSector, FollowsStep, MovesOn, SeeksOn, StepsFront, goes_on, has_met_other, is_unwanted, judged_if, passed_over_if, Accounts, AreLeft, AreMoved, BeginsServing, Carries, GoesOn, History, IsFieldDone, IsLastOne, IsFree, IsMarkOf, IsOfOther, IsOfSector, IsRefused, IsTimeOf, KeepsServing, MayMove, Means, MeansJudged, Part, Passes, PassesAt, RefusesFirst, Serves, ServesAt, ServesCounted, ServesStep, ServesUnless, StepsTo, bytes_moved, has_other, has_results, hears_count, history_counted, history_ended, history_given, history_moved, history_passed, history_sought, history_stepped, history_taken, nothing_moved, passed_in, passed_out, results_ended, sector_after, sent_of, still_seeks, is_other, is_skipping, next_of, size_of, Operation, Read, Write, MovingSector, FrontStage, Through, Seeking, Moving, Telling, Transfer}
+use Rattle.laws_chip.proofs.Common.{and_from, and_parts, eq-eqb, eqb-true, false≢true, IsSizeCode, content_size, has_ended_seek, Past, new_past, Ending, Done, BadCheck, Command, byte_out, taken_in, taken_out, to_memory_of, told_count, MayReadIn, Sent, gave, results_sent, told_in, WordTime, Stopped, after_time, is_executing, AreOfField, ReadMeans, ReadMeansIn, bytes_held, resets, asks, ending_told, given_up, is_idle, mark_of, without_seek, ending_of_phase, head_of, MayWriteIn, took, Long, Fdc, Phase, Taking, Execute, Result, starts_given, write_tells, writes_window, AdapterState, StepsAdapter, WritesAdapter, lines_at, selected_at, BeginsSector, Front, GivesAt, GivesCommand, GivesFront, GivesMoving, GivesTransfer, SeeksFirst, Starts, StartsIf, TakesAt, TakesFront, TakesMoving, WritesFront, begun_if, count_told, is_ready, moving_of, passed_one, results_taken, taken_at, told_front, told_if, with_controller, EndsIf, EndsSector, FollowsStep, MovesOn, SeeksOn, StepsFront, goes_on, has_met_other, is_unwanted, judged_if, passed_over_if, Accounts, AreLeft, AreMoved, BeginsServing, Carries, GoesOn, History, IsFieldDone, IsLastOne, IsFree, IsMarkOf, IsOfOther, IsOfSector, IsRefused, IsTimeOf, KeepsServing, MayMove, Means, MeansJudged, Part, Passes, PassesAt, RefusesFirst, Serves, ServesAt, ServesCounted, ServesStep, ServesUnless, StepsTo, bytes_moved, has_other, has_results, hears_count, history_counted, history_ended, history_given, history_moved, history_passed, history_sought, history_stepped, history_taken, nothing_moved, passed_in, passed_out, results_ended, sector_after, sent_of, still_seeks, is_other, is_skipping, next_of, size_of, Operation, Read, Write, MovingSector, FrontStage, Through, Seeking, Moving, Telling, Transfer, front_reset_if as reset_if, front_judged as judged}
 use Rattle.fdc_core.specs.Tellings.{WriteMeans, WriteMeansIn}
 use Rattle.fdc_core.proofs.Meanings.{read_gives, read_tells}
-use Rattle.fdc_sequencer.specs.Fronts.{reset_if}
-use Rattle.fdc_sequencer.specs.Moves.{judged}
 use Rattle.laws_chip.proofs.Judged.{judges}
 use Rattle.laws_chip.proofs.Known.{BadGoes, KnownOn, MovedOn, bytes_told, clash, either_way, in_on, out_on, port_busy, port_mark, port_on, steps_on}
 use Rattle.laws_chip.proofs.Free.{free_executes, given_free, next_size, port_free, sector_size, sought_free, step_dma, step_free}
@@ -77,21 +75,17 @@ read_means : (past : Past) (sent : Sent) (fdc : Fdc) (ending : Ending) → IsSiz
 read_means past sent fdc ending sized was is = by_phase fdc.phase is (read_tells past sent fdc sized was)
   where
     by_phase : (phase : Phase) → ending_of_phase phase ≡ Some ending → ReadMeansIn past sent phase → Means (Read false false) past sent ending
-    by_phase Taking is tells = absurd (cc is)
-    by_phase (Execute execution) is tells = absurd (cc is)
-    by_phase (Result (Short next last)) is tells = absurd (cc is)
     by_phase (Result (Long other results read)) is tells = let same : other ≡ ending = cc is in subst (ReadMeans past sent) same tells.1
+    by_phase _ is tells = absurd (cc is)
 
 write_means : (deleted : Bool) (past : Past) (sent : Sent) (fdc : Fdc) (ending : Ending) → MayMove (Write deleted) past sent fdc → ending_told fdc ≡ Some ending → Means (Write deleted) past sent ending
 write_means deleted past sent fdc ending was is = by_phase fdc.phase is (write_tells past sent deleted fdc was)
   where
     by_phase : (phase : Phase) → ending_of_phase phase ≡ Some ending → WriteMeansIn past sent deleted phase → Means (Write deleted) past sent ending
-    by_phase Taking is tells = absurd (cc is)
-    by_phase (Execute execution) is tells = absurd (cc is)
-    by_phase (Result (Short next last)) is tells = absurd (cc is)
     by_phase (Result (Long other results read)) is tells =
         let same : other ≡ ending = cc is in
         subst (λ e. WriteMeans past sent deleted e (results_sent e sent)) same (subst (WriteMeans past sent deleted other) tells.results_are tells)
+    by_phase _ is tells = absurd (cc is)
 
 pub ended_means : (operation : Operation) (past : Past) (sent : Sent) (fdc : Fdc) (ending : Ending) → IsSizeCode sent.key.n → MayMove operation past sent fdc → ending_told fdc ≡ Some ending
     → Means operation past sent ending
@@ -113,17 +107,15 @@ pub still_busy : (operation : Operation) (past : Past) (sent : Sent) (fdc : Fdc)
 still_busy (Read wanted skip) past sent fdc was none = by_phase fdc.phase was none
   where
     by_phase : (phase : Phase) → MayReadIn past sent phase fdc.asking fdc.fifo.bytes → ending_of_phase phase ≡ None → is_executing phase ≡ true
-    by_phase Taking was none = absurd was
     by_phase (Execute execution) was none = refl
-    by_phase (Result (Short next last)) was none = absurd was
     by_phase (Result (Long ending results read)) was none = absurd (cc none)
+    by_phase _ was none = absurd was
 still_busy (Write deleted) past sent fdc was none = by_phase fdc.phase was none
   where
     by_phase : (phase : Phase) → MayWriteIn past sent deleted phase fdc.asking fdc.fifo → ending_of_phase phase ≡ None → is_executing phase ≡ true
-    by_phase Taking was none = absurd was
     by_phase (Execute execution) was none = refl
-    by_phase (Result (Short next last)) was none = absurd was
     by_phase (Result (Long ending results read)) was none = absurd (cc none)
+    by_phase _ was none = absurd was
 
 -- ---- a device step while a sector is moved
 
@@ -173,12 +165,11 @@ module _ (first : Transfer) (parts : List Part) (past : Past) (counted : Bool) (
     },
   )
 
-  -- the next sector begins, for which the controller is free
-  next_on : (now : Past) (mark : Option Bool) (marked : Bool) (old new : Front) → IsFree old.adapter.controller → bytes_moved operation now ≡ bytes_moved operation past → Accounts operation met moving now mark
-      → IsFieldDone moving.skipped operation now (sent_of moving.transfer) marked → mark ≡ Some marked → goes_on moving marked ≡ true
-      → BeginsSector (next_of moving.transfer) false (has_met_other moving marked) old new
-      → GoesOn [] false first so_far (history_ended true moving.transfer marked now so_far) new
-  next_on now mark marked old new free bytes accounts done mark_is goes begins =
+  ends_if : (b : Bool) (now : Past) (mark : Option Bool) (marked : Bool) (old new : Front) → goes_on moving marked ≡ b → IsFree old.adapter.controller → bytes_moved operation now ≡ bytes_moved operation past
+      → Accounts operation met moving now mark → IsOfSector operation now (sent_of moving.transfer) → IsFieldDone moving.skipped operation now (sent_of moving.transfer) marked → mark ≡ Some marked
+      → EndsIf b moving marked old new
+      → GoesOn [] false first so_far (history_ended b moving.transfer marked now so_far) new
+  ends_if true now mark marked old new goes free bytes accounts of_sector done mark_is ends =
       let part : Part = record { at = moving.transfer; past = now; marked = marked } in
       let would = goes_would moving marked goes in
       let more = moved_more operation first parts part were here (part_moved operation met moving now mark marked same_operation would mark_is accounts done) in
@@ -186,17 +177,11 @@ module _ (first : Transfer) (parts : List Part) (past : Past) (counted : Bool) (
       let other = met_then operation met moving now mark marked same_operation mark_is accounts ∙ sym (other_more operation parts part) in
       let uncounted = sym (would_uncounted moving marked would) ∙ (counts ∙ none_told counted) in
       let fits = subst IsSizeCode (sym (next_size moving.transfer)) accounts.sized in
-      let busy = free_executes (next_of moving.transfer) (lines_at old.adapter) old.adapter.controller begins.between.controller fits free begins.takes.takes in
-      elim (begins_serve first (parts ++ part ∷ []) (next_of moving.transfer) false (has_met_other moving marked) old new more behind other begins) [
+      let busy = free_executes (next_of moving.transfer) (lines_at old.adapter) old.adapter.controller ends.between.controller fits free ends.takes.takes in
+      elim (begins_serve first (parts ++ part ∷ []) (next_of moving.transfer) false (has_met_other moving marked) old new more behind other ends) [
         | inl serves ↦ (bytes_next operation parts part past counted false bytes, uncounted, serves)
-        | inr refused ↦ not_refused (next_of moving.transfer) false (has_met_other moving marked) old new begins busy refused
+        | inr refused ↦ not_refused (next_of moving.transfer) false (has_met_other moving marked) old new ends busy refused
       ]
-
-  ends_if : (b : Bool) (now : Past) (mark : Option Bool) (marked : Bool) (old new : Front) → goes_on moving marked ≡ b → IsFree old.adapter.controller → bytes_moved operation now ≡ bytes_moved operation past
-      → Accounts operation met moving now mark → IsOfSector operation now (sent_of moving.transfer) → IsFieldDone moving.skipped operation now (sent_of moving.transfer) marked → mark ≡ Some marked
-      → EndsIf b moving marked old new
-      → GoesOn [] false first so_far (history_ended b moving.transfer marked now so_far) new
-  ends_if true now mark marked old new goes free bytes accounts of_sector done mark_is ends = next_on now mark marked old new free bytes accounts done mark_is goes ends
   ends_if false now mark marked old new goes free bytes accounts of_sector done mark_is ends =
       tells_on now mark (Done marked) new bytes accounts of_sector done goes mark_is (ap (λ front. front.stage) ends)
 
@@ -492,9 +477,6 @@ other_port (Moving moving) port value first history old new stage_is sized parts
     writes_one first history.parts history.past history.counted moving sized parts here counts old new port value stage_is carries no_byte no_reset writes same
 other_port (Telling results) port value first history old new stage_is sized parts now no_byte no_reset writes same = same_stage first history (Telling results) new (same ∙ stage_is) sized parts now
 
-data_resets : (port value : ℕ) → port ≡ 0x3F5 → resets port value ≡ false
-data_resets port value is = ap (λ p. resets p value) is
-
 pub writes_serve : (port value : ℕ) (old new : Front) → WritesFront port value old new → ServesUnless (resets port value) old new
 writes_serve port value old new writes = by_port (port == 0x3F5) refl
   where
@@ -506,7 +488,7 @@ writes_serve port value old new writes = by_port (port == 0x3F5) refl
     by_port : (b : Bool) → (port == 0x3F5) ≡ b → ServesUnless (resets port value) old new
     by_port true is =
         let here = eqb-true port 0x3F5 is in
-        subst (λ b. ServesUnless b old new) (sym (data_resets port value here))
+        subst (λ b. ServesUnless b old new) (sym (ap (λ p. resets p value) here))
         (λ first history serves. same_front first history old new (writes.bytes here) serves)
     by_port false is = let (wrote, after) = writes.others is in by_reset (resets port value) is refl wrote after
 

@@ -1,8 +1,7 @@
 -- A command of several sectors that the sequencer serves: it begins, goes on through device steps, and its results are
 -- given.
 use Rattle.std.proofs.Common.{◌≡◌, ◌⊎◌, inl, inr, Bool, true, false, if◌then◌else◌, Option, Some, None, [], refl, sym, ◌∙◌, ap, subst}
-use Rattle.laws_chip.proofs.Common.{false≢true, IsSizeCode, has_ended_seek, seek_bits, without_ended, Ending, Done, NoMark, NoSector, NoField, BadCheck, Overrun, NoCount, Protected, Late, Results, Taking, is_held, ending_told, given_up, given_up_if, mark_of, without_seek, Fdc, AdapterState, StepsAdapter, BeginsSector, Front, GivesTransfer, results_outside, results_taken, with_controller, EndsIf, EndsSector, FollowsStep, MovesOn, SeeksOn, StepsFront, goes_on, has_met_other, is_unwanted, judged_if, passed_over_if, results_behind, results_failed, next_of, MovingSector, FrontStage, Seeking, Moving, Telling, Transfer, is_under_way, History, IsFree, ServesAt, history_stepped, nothing_moved, sent_of, is_size, ServesBehind, WaitsForHeads}
-use Rattle.fdc_sequencer.specs.Moves.{judged}
+use Rattle.laws_chip.proofs.Common.{false≢true, IsSizeCode, has_ended_seek, seek_bits, without_ended, Ending, Done, NoMark, NoSector, NoField, BadCheck, Overrun, NoCount, Protected, Late, Results, Taking, is_held, ending_told, given_up, given_up_if, mark_of, without_seek, Fdc, AdapterState, StepsAdapter, BeginsSector, Front, GivesTransfer, results_outside, results_taken, with_controller, EndsIf, EndsSector, FollowsStep, MovesOn, SeeksOn, StepsFront, goes_on, has_met_other, is_unwanted, judged_if, passed_over_if, results_behind, results_failed, next_of, MovingSector, FrontStage, Seeking, Moving, Telling, Transfer, is_under_way, History, IsFree, ServesAt, history_stepped, nothing_moved, sent_of, is_size, ServesBehind, WaitsForHeads, front_judged as judged}
 use Rattle.laws_chip.proofs.Free.{given_free, next_size, sought_free, step_free}
 use Rattle.laws_chip.proofs.Served.{steps_serve}
 use Rattle.laws_chip.proofs.Shown.{tells_results}

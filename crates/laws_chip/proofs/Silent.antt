@@ -1,18 +1,11 @@
 -- After the terminal count no byte passes, and no further sector begins.
 use Rattle.std.proofs.Common.{◌≡◌, inl, inr, ℕ, ◌+◌, ◌-◌, ◌==◌, nat_lt, Bool, true, false, not, ◌&&◌, ◌||◌, Option, Some, None, List, [], ◌∷◌, ◌++◌, length, if◌then◌else◌, refl, sym, ◌∙◌, ap, subst}
-use Rattle.laws_chip.proofs.Common.{and_parts, eqb-true, false≢true, DriveState, at_index, Fifo, wants, Past, ReadOutcome, Ending, Done, Overrun, has_ended_seek, with_polls, WriteNext, On, needs_byte, phase_told, task_told, MayReadIn, MayReadTask, Sent, ending_of, is_listening, is_read, is_reading, moves_bytes, MayWriteIn, MayWriteTask, Phase, Execute, Result, Task, ReadTask, WriteTask, Format, Reading, Writing, asking_told, fifo_told, to_memory_of, told_count, ExecutesTask, is_executing, resets, after_heard, at_stage, gone_on_reading, is_full, over_or_on, pushed, asks, finished, is_gated, is_held, polled, StepsNowhere, TaskStepsNowhere, WordTime, Wrote, Stopped, after_time, ending_told, given_up, mark_of, WritesIn, WritesTask, WriteDoes, after_next, without_byte, Fdc, AdapterState, StepsAdapter, WritesAdapter, lines_at, selected_at, Front, GivesAt, TakesAt, WritesFront, begun_if, count_told, moving_of, told_front, with_controller, EndsIf, EndsSector, FollowsStep, MovesOn, SeeksOn, goes_on, is_unwanted, judged_if, passed_over_if, Operation, Read, Write, MovingSector, FrontStage, Through, Seeking, Moving, Telling, Transfer, AreWithin, Changes, Counts, Gather, Gives, Grows, Steps, Takes, passed_in_all, History, MayMove, Serves, ServesAt, history_counted, history_ended, history_given, history_moved, history_sought, history_stepped, history_taken, passed_in, passed_out}
+use Rattle.laws_chip.proofs.Common.{and_parts, eqb-true, false≢true, DriveState, at_index, Fifo, wants, Past, ReadOutcome, Ending, Done, Overrun, has_ended_seek, WriteNext, On, needs_byte, phase_told, task_told, MayReadIn, MayReadTask, Sent, ending_of, is_listening, is_read, is_reading, moves_bytes, MayWriteIn, MayWriteTask, Phase, Execute, Result, Task, ReadTask, WriteTask, Format, Reading, Writing, asking_told, fifo_told, to_memory_of, told_count, ExecutesTask, is_executing, resets, after_heard, at_stage, gone_on_reading, is_full, over_or_on, pushed, asks, finished, is_gated, polled, StepsNowhere, TaskStepsNowhere, WordTime, Wrote, Stopped, after_time, ending_told, given_up, mark_of, WritesIn, WritesTask, WriteDoes, after_next, without_byte, Fdc, AdapterState, StepsAdapter, WritesAdapter, lines_at, Front, GivesAt, TakesAt, WritesFront, begun_if, count_told, moving_of, told_front, with_controller, EndsIf, EndsSector, FollowsStep, MovesOn, SeeksOn, is_unwanted, judged_if, passed_over_if, Operation, Read, Write, MovingSector, FrontStage, Through, Seeking, Moving, Telling, Transfer, AreWithin, Changes, Counts, Gather, Gives, Grows, Steps, Takes, passed_in_all, History, MayMove, Serves, ServesAt, history_counted, history_ended, history_given, history_moved, history_sought, history_stepped, history_taken, passed_in, passed_out, FollowsWord as Follows, phases_is_moving as is_moving, phases_is_over as is_over, Taking as Command, TaskReadId as ReadId, front_reset_if as reset_if, WriteNextEnded as Ended, SectorCallsCall as Call, SectorCallsDoes as Does, SectorCallsWrites as Writes, chip_passed_by as passed_by}
 use Rattle.fdc_stages.specs.Readings as heard
-use Rattle.fdc_stages.specs.declared.writing.WriteNext.TheVariants.{Ended}
-use Rattle.fdc_phases.specs.Phases.{is_moving, is_over}
-use Rattle.fdc_phases.specs.declared.phases.Phase.TheVariants.{Command}
-use Rattle.fdc_phases.specs.declared.phases.Task.TheVariants.{ReadId}
-use Rattle.fdc_core.specs.Listening.{Follows}
-use Rattle.fdc_sequencer.specs.Fronts.{reset_if}
-use Rattle.laws_chip.specs.SectorCalls.{Call, Does, Writes, passed_by}
 use Rattle.laws_chip.proofs.Called.{call_serves}
 use Rattle.laws_chip.proofs.Given.{ignored, served_on}
 use Rattle.laws_chip.proofs.Served.{counts_serve}
-use Rattle.laws_chip.proofs.Known.{clash, port_same, which_drive}
+use Rattle.laws_chip.proofs.Known.{at_drive, clash, polled_by, port_same}
 
 -- ---- the controller
 
@@ -44,9 +37,7 @@ kind_of (Read wanted skip) past sent fdc was = by_phase fdc.phase was
   where
     by_task : (task : Task) (h s : ℕ) → MayReadTask past sent h s task fdc.asking fdc.fifo.bytes → IsKindTask task
     by_task (ReadTask reading) h s was = tt
-    by_task (WriteTask writing) h s was = tt
-    by_task (ReadId search) h s was = absurd was
-    by_task (Format formatting) h s was = absurd was
+    by_task _ h s was = absurd was
 
     by_phase : (phase : Phase) → MayReadIn past sent phase fdc.asking fdc.fifo.bytes → IsKind phase
     by_phase (Execute execution) was = by_task execution.task execution.head_drive execution.steps was
@@ -54,10 +45,8 @@ kind_of (Read wanted skip) past sent fdc was = by_phase fdc.phase was
 kind_of (Write deleted) past sent fdc was = by_phase fdc.phase was
   where
     by_task : (task : Task) (h s : ℕ) → MayWriteTask past sent deleted h s task fdc.asking fdc.fifo → IsKindTask task
-    by_task (ReadTask reading) h s was = tt
     by_task (WriteTask writing) h s was = tt
-    by_task (ReadId search) h s was = absurd was
-    by_task (Format formatting) h s was = absurd was
+    by_task _ h s was = absurd was
 
     by_phase : (phase : Phase) → MayWriteIn past sent deleted phase fdc.asking fdc.fifo → IsKind phase
     by_phase (Execute execution) was = by_task execution.task execution.head_drive execution.steps was
@@ -118,9 +107,6 @@ some_or false b is = absurd (false≢true is)
 fetches_none : (asking ended : Bool) (fifo : Fifo) → fifo.bytes ≡ [] → wants true asking ended fifo ≡ false
 fetches_none asking ended fifo none = none_and (not (length fifo.bytes == 0)) _ (ap (λ (bytes : List ℕ). not (length bytes == 0)) none)
 
-fills_none : (asking counted : Bool) (fifo : Fifo) → counted ≡ true → wants false asking counted fifo ≡ false
-fills_none asking counted fifo is = none_and _ _ (some_or counted _ is)
-
 reading_on : (head_drive steps : ℕ) (reading : Reading) (old : Fdc) → reading.counted ≡ true → old.fifo.bytes ≡ [] → Muted (gone_on_reading head_drive steps reading old)
 reading_on head_drive steps reading old counted none = by_ending (ending_of reading) (length old.fifo.bytes == 0)
   where
@@ -138,7 +124,7 @@ heard_muted head_drive steps reading (heard.Byte stage value) old counted none =
 heard_muted head_drive steps reading (heard.Ended ending) old counted none = tt
 
 next_muted : (head_drive steps : ℕ) (writing : Writing) (next : WriteNext) (old : Fdc) → writing.counted ≡ true → Muted (after_next head_drive steps writing next old)
-next_muted head_drive steps writing (On stage) old counted = (counted, fills_none old.asking writing.counted old.fifo counted)
+next_muted head_drive steps writing (On stage) old counted = (counted, (none_and _ _ (some_or writing.counted _ counted)))
 next_muted head_drive steps writing (Ended ending) old counted = tt
 
 writes_muted : (time : WordTime) (head_drive steps : ℕ) (writing : Writing) (old : Fdc) (before : DriveState) (new : Fdc) → WriteDoes time head_drive steps writing old before new → writing.counted ≡ true → Muted new
@@ -147,12 +133,8 @@ writes_muted (Wrote opened closed index word) head_drive steps writing old befor
 writes_muted Stopped head_drive steps writing old before new does counted = subst Muted (sym does.after_is) tt
 writes_muted _ head_drive steps writing old before new (due, does) counted = subst Muted (sym does.after_is) (next_muted head_drive (steps + 1) writing does.next old counted)
 
-polled_fifo : (b : Bool) (old : Fdc) → (if b then record old { poll_due = false; interrupt = true; seeks = with_polls old.seeks } else old).fifo ≡ old.fifo
-polled_fifo true old = refl
-polled_fifo false old = refl
-
 polled_bytes : (old : Fdc) → (polled old).fifo.bytes ≡ old.fifo.bytes
-polled_bytes old = ap (λ fifo. fifo.bytes) (polled_fifo (old.poll_due && not (is_held old)) old)
+polled_bytes old = polled_by (λ (fdc : Fdc). fdc.fifo.bytes ≡ old.fifo.bytes) old refl refl
 
 -- the same, by what the controller executes
 listens_task : (task : Task) (h s : ℕ) (asking : Bool) (bytes : List ℕ) (polls new : Fdc) (index : Bool) (word : ℕ) → MutedTask task asking bytes → polls.fifo.bytes ≡ bytes
@@ -192,16 +174,11 @@ nowhere_in _ polls new does = tt
 step_muted : (old new : AdapterState) → StepsAdapter old new → is_executing old.controller.phase ≡ true → Muted old.controller → Muted new.controller
 step_muted old new steps busy was =
     let fdc = old.controller in
-    elim (which_drive (selected_at old)) [
-      | inl at ↦ let works = (steps.at_first at).0 in
-          listens_muted fdc.phase fdc (polled fdc) new.controller (at_index old.first) works.reads.word busy was (polled_bytes fdc) works.reads.follows
-          (writes_in fdc.phase fdc.asking fdc.fifo (polled fdc) old.first new.first new.controller works.writes)
-      | inr (inl at) ↦ let works = (steps.at_second at).0 in
-          listens_muted fdc.phase fdc (polled fdc) new.controller (at_index old.second) works.reads.word busy was (polled_bytes fdc) works.reads.follows
-          (writes_in fdc.phase fdc.asking fdc.fifo (polled fdc) old.second new.second new.controller works.writes)
-      | inr (inr at) ↦ let works = (steps.at_none at).0 in
-          listens_muted fdc.phase fdc (polled fdc) new.controller false 0 busy was (polled_bytes fdc) works.reads (nowhere_in fdc.phase (polled fdc) new.controller works.nowhere)
-    ]
+    let listens = listens_muted fdc.phase fdc (polled fdc) new.controller in
+    at_drive old new steps
+    (λ before after works. listens (at_index before) works.reads.word busy was (polled_bytes fdc) works.reads.follows
+    (writes_in fdc.phase fdc.asking fdc.fifo (polled fdc) before after new.controller works.writes))
+    (λ alone. listens false 0 busy was (polled_bytes fdc) alone.reads (nowhere_in fdc.phase (polled fdc) new.controller alone.nowhere))
 
 -- ---- the front
 
@@ -214,9 +191,6 @@ IsSilentAt _ fdc = Unit {0}
 abbrev IsSilent : Front → Type 0
 IsSilent front = IsSilentAt front.stage front.adapter.controller
 
-goes_counted : (moving : MovingSector) (marked : Bool) → moving.counted ≡ true → goes_on moving marked ≡ false
-goes_counted moving marked counted = none_and _ _ (none_and (not moving.counted) _ (ap not counted))
-
 stage_silent : (stage : FrontStage) (new : Front) → new.stage ≡ stage → IsSilentAt stage new.adapter.controller → IsSilent new
 stage_silent stage new is silent = subst (λ s. IsSilentAt s new.adapter.controller) (sym is) silent
 
@@ -228,7 +202,7 @@ record GoesSilent (history now : History) (new : Front) : Type 0 where
 module _ (history : History) (past : Past) (moving : MovingSector) (counted : moving.counted ≡ true) (new : Front) where
   silent_ends : (was : Option Bool) (ending : Ending) (mark : Option Bool) (old : Front) → EndsSector was moving ending old new → GoesSilent history (history_moved (Some ending) moving mark past history) new
   silent_ends was (Done marked) mark old ends =
-      let none = goes_counted moving marked counted in
+      let none = (none_and _ _ (none_and (not moving.counted) _ (ap not counted))) in
       let is : EndsIf false moving marked old new = subst (λ b. EndsIf b moving marked old new) none ends in
       record { silent = stage_silent _ new (ap (λ f. f.stage) is) tt; parts = ap (λ b. (history_ended b moving.transfer marked past history).parts) none }
   silent_ends was ending mark old ends = record { silent = stage_silent _ new (ap (λ f. f.stage) ends) tt; parts = refl }
@@ -357,9 +331,6 @@ module _ (first : Transfer) (served history : History) where
   silent_call call grown old new does stays serves was then_served then_serves is =
       subst (λ h. StaysSilent call history h new) (sym is) (same_silent call history old new refl (ignored call old new tt does (served_on first served old serves) stays) was)
 
-none_more : (first second : List ℕ) → first ≡ [] → second ≡ [] → first ++ second ≡ []
-none_more first second one two = ap (λ bytes. bytes ++ second) one ∙ two
-
 -- no byte passes, and no sector is over
 pub calls_silent : (calls : List Call) (first : Transfer) (served history grown : History) (old new : Front) (within : AreWithin calls old new) → Serves first served old → IsSilent old
     → Gather calls old new within history grown → (passed_in_all calls ≡ []) × (grown.parts ≡ history.parts)
@@ -368,7 +339,7 @@ calls_silent (call ∷ calls) first served history grown old new (between, does,
     let one = call_serves call first served old between does within serves in
     let silent = silent_call first served history call mid old between does within serves was one.history one.serves grows in
     let more = calls_silent calls first one.history mid grown between new rest one.serves silent.silent gather in
-    (none_more (passed_by call) (passed_in_all calls) silent.none more.0, more.1 ∙ silent.parts)
+    ((ap (λ bytes. bytes ++ (passed_in_all calls)) silent.none ∙ more.0), more.1 ∙ silent.parts)
 
 -- where the terminal count is heard, the front becomes silent
 pub count_silent : (first : Transfer) (served : History) (old : Front) → Serves first served old → IsSilent (told_front old)

@@ -1,15 +1,13 @@
 -- A READ ID or a FORMAT TRACK of the inner controller: it begins, goes on through device steps, and its results wait.
-use Rattle.std.proofs.Common.{◌≡◌, ◌⊎◌, inl, inr, ℕ, ◌+◌, ◌<◌, Bool, true, false, not, ◌&&◌, if◌then◌else◌, Some, None, [], refl, sym, ◌∙◌, ap, subst, arith}
-use Rattle.laws_chip.proofs.Common.{false≢true, Chrn, DriveState, at_index, Fifo, emptied, seek_bits, with_polls, Results, Ending, Done, Late, FormatNext, Numbers, SearchOutcome, results_of, IsFormattingTrack, IsReadingId, ending_of_phase, is_listening, Long, Phase, Taking, Execute, Result, Task, Formatting, BeginsData, FormatDoes, after_laid, ExecutesIn, ExecutesTask, StepsOn, after_searched, finished, is_held, EndsIn, IsCounted, polled, FormatsNowhere, StepsNowhere, TaskStepsNowhere, WordTime, Wrote, Stopped, given_up_if, results_of_phase, WritesIn, WritesTask, without_byte, Fdc, AdapterState, StepsAdapter, selected_at, Front, results_at, results_outside, results_taken, taken_at, with_controller, StepsFront, Through, ExecutesBehind, executes_single, is_single}
-use Rattle.fdc_commands.specs.declared.command.Command.TheVariants.{FormatTrack, ReadId}
+use Rattle.std.proofs.Common.{◌≡◌, ◌⊎◌, inl, inr, ℕ, ◌+◌, ◌<◌, Bool, true, false, ◌&&◌, if◌then◌else◌, Some, None, [], refl, sym, ◌∙◌, ap, subst, arith}
+use Rattle.laws_chip.proofs.Common.{false≢true, Chrn, DriveState, at_index, Fifo, emptied, seek_bits, Results, Ending, Done, Late, FormatNext, Numbers, SearchOutcome, results_of, IsFormattingTrack, IsReadingId, ending_of_phase, is_listening, Long, Phase, Taking, Execute, Result, Task, Formatting, BeginsData, FormatDoes, after_laid, ExecutesIn, ExecutesTask, StepsOn, after_searched, finished, is_held, EndsIn, IsCounted, polled, FormatsNowhere, StepsNowhere, TaskStepsNowhere, WordTime, Wrote, Stopped, given_up_if, results_of_phase, WritesIn, WritesTask, without_byte, Fdc, AdapterState, StepsAdapter, Front, results_at, results_outside, results_taken, taken_at, with_controller, StepsFront, Through, ExecutesBehind, executes_single, is_single, CommandFormatTrack as FormatTrack, CommandReadId as ReadId, core_steps_left as steps_left, phases_no_key as no_key}
 use Rattle.fdc_stages.specs.declared.formatting.FormatNext.TheVariants as laid
 use Rattle.fdc_stages.specs.declared.searching.Search.{Search}
 use Rattle.fdc_stages.specs.Searches as searched
-use Rattle.fdc_phases.specs.Answers.{no_key}
 use Rattle.fdc_phases.specs.declared.phases.Task.TheVariants as task
-use Rattle.fdc_core.specs.Steps.{steps_left}
-use Rattle.laws_chip.proofs.Known.{which_drive}
+use Rattle.laws_chip.proofs.Known.{adapter_ends, at_drive, polled_by}
 use Rattle.laws_chip.proofs.FirstSectors.{IsBase}
+use Rattle.laws_chip.proofs.Free.{without_seeks}
 use Rattle.laws_chip.proofs.Rests.{adapter_base, through_step}
 use Rattle.laws_chip.proofs.Standing.{IsObeyed, Stands}
 
@@ -19,9 +17,6 @@ id_single : (unit : ℕ) (begins : Task) → IsReadingId unit begins → is_sing
 id_single unit (task.ReadId search) is = refl
 id_single unit _ is = absurd is
 
-none_counted : 0 < 65536
-none_counted = omega arith
-
 pub id_executes : (unit : ℕ) (start new : Front) → Stands start → IsObeyed (ReadId unit) start new → ExecutesBehind new × IsBase start.adapter.controller new.adapter.controller
 id_executes unit start new stands obeyed =
     let begins : BeginsData (ReadId unit) (record start.adapter.controller { command = [] }) new.adapter.controller = (obeyed.obeys.0 stands.rests).1 stands.by_dma in
@@ -29,7 +24,7 @@ id_executes unit start new stands obeyed =
       record {
         through = obeyed.through;
         executes = ap (λ (fdc : Fdc). executes_single fdc.phase) is ∙ id_single unit begins.0 begins.1;
-        counted = subst (λ (fdc : Fdc). IsCounted fdc.phase) (sym is) none_counted;
+        counted = subst (λ (fdc : Fdc). IsCounted fdc.phase) (sym is) (omega arith);
         rests = ap (λ (fdc : Fdc). seek_bits fdc.seeks) is ∙ stands.rests;
       },
       record { dor = ap (λ (fdc : Fdc). fdc.dor) is; non_dma = ap (λ (fdc : Fdc). fdc.non_dma) is; command = ap (λ (fdc : Fdc). fdc.command) is },
@@ -46,7 +41,7 @@ format_executes unit n sectors gap fill start new stands obeyed =
       record {
         through = obeyed.through;
         executes = ap (λ (fdc : Fdc). executes_single fdc.phase) is ∙ format_single unit (record { n = n; sectors = sectors; gap3 = gap; fill = fill }) begins.0 begins.1;
-        counted = subst (λ (fdc : Fdc). IsCounted fdc.phase) (sym is) none_counted;
+        counted = subst (λ (fdc : Fdc). IsCounted fdc.phase) (sym is) (omega arith);
         rests = ap (λ (fdc : Fdc). seek_bits fdc.seeks) is ∙ stands.rests;
       },
       record { dor = ap (λ (fdc : Fdc). fdc.dor) is; non_dma = ap (λ (fdc : Fdc). fdc.non_dma) is; command = ap (λ (fdc : Fdc). fdc.command) is },
@@ -77,10 +72,6 @@ searched_singly head_drive steps (searched.Missed ending) old = ends_singly endi
 id_singly : (head_drive steps : ℕ) (search : Search) (index : Bool) (word : ℕ) (old new : Fdc) → StepsOn head_drive steps (task.ReadId search) index word old new → GoesSingly old new
 id_singly head_drive steps search index word old new (inl (last, is)) = singly_as old _ new (ends_singly Late head_drive no_key old old refl) is
 id_singly head_drive steps search index word old new (inr (few, (after, hears, is))) = singly_as old _ new (searched_singly head_drive (steps + 1) after old) is
-
-without_seeks : (needs : Bool) (old : Fdc) → (without_byte needs old).seeks ≡ old.seeks
-without_seeks true old = refl
-without_seeks false old = refl
 
 laid_singly : (head_drive steps : ℕ) (formatting : Formatting) (next : FormatNext) (old mid : Fdc) → mid.seeks ≡ old.seeks → GoesSingly old (after_laid head_drive steps formatting next mid)
 laid_singly head_drive steps formatting (laid.On stage) old mid same = record { seeks = same; now = inl refl }
@@ -123,28 +114,10 @@ module _ (polls new : Fdc) where
 adapter_singly : (old new : AdapterState) → StepsAdapter old new → executes_single old.controller.phase ≡ true → GoesSingly (polled old.controller) new.controller
 adapter_singly old new steps single =
     let fdc = old.controller in
-    elim (which_drive (selected_at old)) [
-      | inl at ↦ let works = (steps.at_first at).0 in
-          phase_singly (polled fdc) new.controller fdc.phase (at_index old.first) works.reads.word fdc.asking fdc.fifo old.first new.first single works.reads.follows.executes works.writes
-      | inr (inl at) ↦ let works = (steps.at_second at).0 in
-          phase_singly (polled fdc) new.controller fdc.phase (at_index old.second) works.reads.word fdc.asking fdc.fifo old.second new.second single works.reads.follows.executes works.writes
-      | inr (inr at) ↦ phase_alone (polled fdc) new.controller fdc.phase single (steps.at_none at).0.nowhere
-    ]
-
-polled_bits : (old : Fdc) → seek_bits (polled old).seeks ≡ seek_bits old.seeks
-polled_bits old = by_poll (old.poll_due && not (is_held old))
-  where
-    by_poll : (b : Bool) → seek_bits (if b then record old { poll_due = false; interrupt = true; seeks = with_polls old.seeks } else old).seeks ≡ seek_bits old.seeks
-    by_poll true = refl
-    by_poll false = refl
-
--- each device step leaves fewer device steps
-pub adapter_ends : (old new : AdapterState) → StepsAdapter old new → EndsIn old.controller.phase new.controller.phase
-adapter_ends old new steps = elim (which_drive (selected_at old)) [
-  | inl at ↦ (steps.at_first at).0.ends
-  | inr (inl at) ↦ (steps.at_second at).0.ends
-  | inr (inr at) ↦ (steps.at_none at).0.ends
-]
+    at_drive old new steps
+    (λ before after works.
+    phase_singly (polled fdc) new.controller fdc.phase (at_index before) works.reads.word fdc.asking fdc.fifo before after single works.reads.follows.executes works.writes)
+    (λ alone. phase_alone (polled fdc) new.controller fdc.phase single alone.nowhere)
 
 pub single_fewer : (old new : Phase) → executes_single old ≡ true → EndsIn old new → (steps_left new < steps_left old) × IsCounted new
 single_fewer (Execute execution) new single ends = ends
@@ -164,7 +137,7 @@ executes_step old new step none was =
     let fdc = old.adapter.controller in
     let goes = adapter_singly old.adapter step.between step.steps was.executes in
     let ends = single_fewer fdc.phase step.between.controller.phase was.executes (adapter_ends old.adapter step.between step.steps) in
-    let rests = ap seek_bits goes.seeks ∙ (polled_bits fdc ∙ was.rests) in
+    let rests = ap seek_bits goes.seeks ∙ (polled_by (λ (polls : Fdc). seek_bits polls.seeks ≡ seek_bits fdc.seeks) fdc refl refl ∙ was.rests) in
     let is = through_step old new step was.through in
     subst (λ (front : Front). (ExecutesBehind front ⊎ WaitsBehind front) × IsBase fdc front.adapter.controller) (sym is) (
       elim goes.now [

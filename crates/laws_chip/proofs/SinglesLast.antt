@@ -1,13 +1,13 @@
 -- A READ ID or a FORMAT TRACK of the inner controller ends: each device step leaves fewer.
-use Rattle.std.proofs.Common.{◌≡◌, inl, inr, ℕ, ◌+◌, ◌-◌, ◌<◌, ◌≤◌, Bool, true, false, not, ◌&&◌, ◌==◌, Option, option_map, List, [], ◌∷◌, bit_and, refl, sym, ◌∙◌, ap, subst, arith}
-use Rattle.laws_chip.proofs.Common.{eqb-false, false≢true, missing_mark, Results, phase_told, Phase, Execute, IsCounted, Fdc, Front, GivesFront, TakesFront, front_told, told_front, told_if, results_taken, StepsFront, ChipState, with_front, is_size, Ends, EndsAddress, EndsAddressIf, EndsAt, EndsAs, EndsData, EndsIndex, EndsSent, MayEnd, is_over, judged, looks_for_cylinder, verified, without_one, Follows, FollowsTask, Place, Index, Address, Data, ChipStage, Busy, ChipTask, Track, Call, Does, steps_in, steps_of, AreAt, ExecutesBehind, IsSound, executes_single, has_command}
-use Rattle.fdc_core.specs.Steps.{steps_left}
+use Rattle.std.proofs.Common.{◌≡◌, inl, inr, ℕ, ◌+◌, ◌-◌, ◌<◌, ◌≤◌, Bool, true, false, not, ◌&&◌, ◌==◌, option_map, List, [], ◌∷◌, bit_and, refl, sym, ◌∙◌, ap, subst, arith}
+use Rattle.laws_chip.proofs.Common.{eqb-false, false≢true, missing_mark, Results, phase_told, Phase, Execute, IsCounted, Fdc, Front, GivesFront, front_told, told_if, results_taken, StepsFront, ChipState, with_front, is_size, Ends, EndsAddress, EndsAddressIf, EndsAt, EndsAs, EndsData, EndsIndex, EndsSent, is_over, judged, looks_for_cylinder, verified, without_one, Follows, FollowsTask, Place, Index, Address, Data, ChipStage, Busy, ChipTask, Track, Call, Does, steps_in, steps_of, AreAt, ExecutesBehind, IsSound, executes_single, has_command, core_steps_left as steps_left}
 use Rattle.fdc_chip.specs.declared.stage.ChipTask.TheVariants as task
 use Rattle.laws_chip.specs.Calls as made
 use Rattle.laws_chip.proofs.Channels.{counts_executes, front_gives, front_takes, gives_executes, keeps_executes, port_executes, front_left, takes_executes}
 use Rattle.laws_chip.proofs.FormatsEnd.{FormatsOn, formats, formats_step, told_formats}
 use Rattle.laws_chip.proofs.Rests.{through_step}
-use Rattle.laws_chip.proofs.Singles.{adapter_ends, executes_none, executes_step, single_fewer, waits_shown}
+use Rattle.laws_chip.proofs.Known.{adapter_ends}
+use Rattle.laws_chip.proofs.Singles.{executes_none, executes_step, single_fewer, waits_shown}
 use Rattle.laws_chip.proofs.SoundCalls.{call_sound}
 use Rattle.laws_chip.proofs.SoundParts.{busy_at, is_busy}
 use Rattle.laws_chip.proofs.UnderWay.{not_through}
@@ -83,16 +83,6 @@ pub record StaysSingle (n : ℕ) (old new : Front) : Type 0 where
 same_left : (n m : ℕ) → n ≡ m → n + 0 ≤ m
 same_left n m same = omega arith
 
-less_left : (n m : ℕ) → n < m → n + 1 ≤ m
-less_left n m less = omega arith
-
-same_single : (old new : Front) → new ≡ old → ExecutesBehind old → StaysSingle 0 old new
-same_single old new is was = record {
-  executes = subst ExecutesBehind (sym is) was;
-  left = same_left (steps_left new.adapter.controller.phase) (steps_left old.adapter.controller.phase) (ap (λ (front : Front). steps_left front.adapter.controller.phase) is);
-  formats = λ was. ap (λ (front : Front). formats front.adapter.controller.phase) is ∙ was;
-}
-
 phase_left : (old new : Front) → new.adapter.controller.phase ≡ old.adapter.controller.phase → ExecutesBehind new → StaysSingle 0 old new
 phase_left old new same executes =
     record {
@@ -112,18 +102,23 @@ still_formats : (phase : Phase) → executes_single phase ≡ true → FormatsOn
 still_formats (Execute execution) single on = on
 still_formats _ single on = absurd (false≢true single)
 
-may_single : (what : ChipTask) (old : ChipState) (between : Front) (new : ChipState) → old.front.adapter.controller.command ≡ [] → StepsFront old.front between → ExecutesBehind old.front → MayEnd what (with_front between old) new
-    → stage_kind new.stage ≡ kind_of what → StaysSingle 1 old.front new.front
-may_single what old between new whole step was may same =
+-- for a VERIFY the inner controller executes neither READ ID nor FORMAT TRACK
+not_verify : {A : Type 0} (left : ℕ) (old : ChipState) → IsSound old → old.stage ≡ Busy (task.Verify left) → ExecutesBehind old.front → A
+not_verify left old sound at was = absurd (not_through old.front (busy_at old (task.Verify left) at sound).under_way was.through)
+
+follows_single : (what : ChipTask) (old : ChipState) (between : Front) (new : ChipState) → IsSound old → old.stage ≡ Busy what → StepsFront old.front between → ExecutesBehind old.front
+    → FollowsTask what (with_front between old) new → stage_kind new.stage ≡ kind_of what → StaysSingle 1 old.front new.front
+follows_single (task.Verify left) old between new sound at step was follows same = not_verify left old sound at was
+follows_single what old between new sound at step was may same =
     let set = with_front between old in
     let left = step_fewer old.front between step was in
-    elim (executes_step old.front between step whole was).0 [
+    elim (executes_step old.front between step sound.whole was).0 [
       | inl still ↦
           let at : new ≡ set = subst (λ r. EndsAs (option_map (judged set) r) what set new) (executes_none between still) may in
           subst (λ (chip : ChipState). StaysSingle 1 old.front chip.front) (sym at)
           (record {
             executes = still;
-            left = less_left (steps_left between.adapter.controller.phase) (steps_left old.front.adapter.controller.phase) left;
+            left = omega arith;
             formats = λ formatted. still_formats between.adapter.controller.phase still.executes (formats_step old.front between step was.through formatted);
           })
       | inr waits ↦
@@ -132,19 +127,6 @@ may_single what old between new whole step was may same =
           absurd (ends_leave what results (with_front (results_taken between) old) new ends same)
     ]
 
--- for a VERIFY the inner controller executes neither READ ID nor FORMAT TRACK
-not_verify : {A : Type 0} (left : ℕ) (old : ChipState) → IsSound old → old.stage ≡ Busy (task.Verify left) → ExecutesBehind old.front → A
-not_verify left old sound at was = absurd (not_through old.front (busy_at old (task.Verify left) at sound).under_way was.through)
-
-follows_single : (what : ChipTask) (old : ChipState) (between : Front) (new : ChipState) → IsSound old → old.stage ≡ Busy what → StepsFront old.front between → ExecutesBehind old.front
-    → FollowsTask what (with_front between old) new → stage_kind new.stage ≡ kind_of what → StaysSingle 1 old.front new.front
-follows_single (task.Verify left) old between new sound at step was follows same = not_verify left old sound at was
-follows_single what old between new sound at step was may same = may_single what old between new sound.whole step was may same
-
--- the channel
-takes_single : (old : Front) (byte : Option ℕ) (new : Front) → TakesFront old byte new → ExecutesBehind old → StaysSingle 0 old new
-takes_single old byte new takes was = phase_left old new (front_takes old byte new was.through takes).1.phase (takes_executes old byte new takes was)
-
 gives_single : (byte : ℕ) (old : Front) (given : Bool) (new : Front) → GivesFront byte old given new → ExecutesBehind old → StaysSingle 0 old new
 gives_single byte old given new gives was = phase_left old new (front_gives byte old given new was.through gives).1.phase (gives_executes byte old given new gives was)
 
@@ -152,8 +134,16 @@ told_left : (phase : Phase) → steps_left (phase_told phase) ≡ steps_left pha
 told_left (Execute execution) = refl
 told_left _ = refl
 
-counts_single : (old new : Front) → new ≡ told_front old → ExecutesBehind old → StaysSingle 0 old new
-counts_single old new is was =
+-- a call that is no device step
+pub makes_single : (b : Bool) (old new : Front) → Makes b old new → ExecutesBehind old → StaysSingle 0 old new
+makes_single b old new (makes.Same is) was = record {
+  executes = subst ExecutesBehind (sym is) was;
+  left = same_left (steps_left new.adapter.controller.phase) (steps_left old.adapter.controller.phase) (ap (λ (front : Front). steps_left front.adapter.controller.phase) is);
+  formats = λ was. ap (λ (front : Front). formats front.adapter.controller.phase) is ∙ was;
+}
+makes_single b old new (makes.Takes byte takes) was = phase_left old new (front_takes old byte new was.through takes).1.phase (takes_executes old byte new takes was)
+makes_single b old new (makes.Gives byte given gives) was = gives_single byte old given new gives was
+makes_single b old new (makes.Counts is) was =
     let at : new ≡ record old { adapter = told_if true old.adapter } = subst (λ stage. new ≡ front_told stage old) was.through is in
     record {
       executes = counts_executes old new is was;
@@ -161,13 +151,6 @@ counts_single old new is was =
           (ap (λ (front : Front). steps_left front.adapter.controller.phase) at ∙ told_left old.adapter.controller.phase);
       formats = λ formatted. ap (λ (front : Front). formats front.adapter.controller.phase) at ∙ told_formats old.adapter.controller.phase formatted;
     }
-
--- a call that is no device step
-pub makes_single : (b : Bool) (old new : Front) → Makes b old new → ExecutesBehind old → StaysSingle 0 old new
-makes_single b old new (makes.Same is) was = same_single old new is was
-makes_single b old new (makes.Takes byte takes) was = takes_single old byte new takes was
-makes_single b old new (makes.Gives byte given gives) was = gives_single byte old given new gives was
-makes_single b old new (makes.Counts is) was = counts_single old new is was
 makes_single b old new (makes.Writes port value writes no_data quiet) was =
     phase_left old new (front_left port value old new writes no_data quiet).phase (port_executes port value old new writes no_data quiet was)
 makes_single b old new (makes.Changes changes keeps) was = phase_left old new (ap (λ (fdc : Fdc). fdc.phase) keeps.controller) (keeps_executes old new keeps was)
@@ -196,9 +179,6 @@ left_most _ = omega arith
 none_less : (left n : ℕ) → 1 ≤ left → left ≤ n → 0 < n
 none_less left n some few = omega arith
 
-pub left_on : (old new steps n : ℕ) → new + steps ≤ old → old ≤ n → new ≤ n - steps
-left_on old new steps n fewer few = omega arith
-
 pub steps_less : (steps more n : ℕ) → more < n - steps → steps + more < n
 steps_less steps more n less = omega arith
 
@@ -210,7 +190,7 @@ singles_last (call ∷ calls) what n old new sound at was few (between, does, wr
     let on = single_call call what old between sound at was does (ap is_busy still) (ap stage_kind still) in
     let steps = steps_of call in
     steps_less steps (steps_in calls) n (singles_last calls what (n - steps) between new (call_sound call old between does writes sound) still on.executes
-    (left_on (steps_left old.front.adapter.controller.phase) (steps_left between.front.adapter.controller.phase) steps n on.left few) rest)
+    (omega arith) rest)
 
 pub single_last : (what : ChipTask) (calls : List Call) (old new : ChipState) → IsSound old → old.stage ≡ Busy what → ExecutesBehind old.front → AreAt (Busy what) calls old new → steps_in calls < 65536
 single_last what calls old new sound at was are = singles_last calls what 65536 old new sound at was (left_most old.front.adapter.controller.phase) are

@@ -1,10 +1,8 @@
 -- An implied seek ends: each device step brings it nearer.
-use Rattle.std.proofs.Common.{◌≡◌, inl, inr, ℕ, ◌+◌, ◌-◌, ◌≤◌, nat_lt, Bool, true, false, not, ◌||◌, ◌==◌, if◌then◌else◌, Option, Some, None, refl, sym, ◌∙◌, ap, subst, arith}
-use Rattle.laws_chip.proofs.Common.{ForSome, false≢true, not-true, or_parts, nat_tests, IsMotion, Seeks, ended, has_ended, has_ended_seek, is_seeking, neighbour, recalibrated, sought, stepped_seek, with_motion, with_polls, Motion, Phase, Execute, is_executing, RestsIn, polled, seek_stepped, Fdc, AdapterState, StepsAdapter, selected_at}
-use Rattle.fdc_commands.specs.Seeking.{stepped}
+use Rattle.std.proofs.Common.{◌≡◌, ℕ, ◌+◌, ◌-◌, ◌≤◌, nat_lt, Bool, true, false, not, ◌||◌, ◌==◌, if◌then◌else◌, Option, Some, None, refl, sym, ◌∙◌, ap, subst, arith}
+use Rattle.laws_chip.proofs.Common.{ForSome, false≢true, not-true, nat_tests, IsMotion, Seeks, ended, has_ended, has_ended_seek, is_seeking, neighbour, recalibrated, sought, stepped_seek, with_motion, Motion, Phase, Execute, is_executing, RestsIn, polled, seek_stepped, Fdc, AdapterState, StepsAdapter, commands_stepped as stepped, DriveSeek as Seek}
 use Rattle.fdc_commands.specs.declared.motion.Motion.TheVariants as motion
-use Rattle.fdc_commands.specs.declared.motion.Seek.{Seek}
-use Rattle.laws_chip.proofs.Known.{which_drive}
+use Rattle.laws_chip.proofs.Known.{by_rests, polled_by}
 
 -- the device steps that a seek still takes
 abbrev pub motion_left : Motion → ℕ
@@ -27,9 +25,6 @@ ends_here old drive cylinder status left = record { fewer = omega arith; runs = 
 goes_nearer : (old : Seeks) (drive : ℕ) (still : Motion) (left : ℕ) → motion_left still ≤ left - 1 → IsNearer left (with_motion old drive still)
 goes_nearer old drive still left fewer = record { fewer = fewer; runs = λ none. ap not none }
 
-outward_left : (pulses : ℕ) → (pulses == 0) ≡ false → pulses - 1 + 1 ≤ pulses + 1 - 1
-outward_left pulses some = grind (arith, nat_tests)
-
 neighbour_left : (cylinder target : ℕ) (b : Bool) → nat_lt cylinder target ≡ b → (cylinder == target) ≡ false
     → motion_left (motion.Toward (if b then cylinder + 1 else cylinder - 1) target) + 1 ≤ motion_left (motion.Toward cylinder target)
 neighbour_left cylinder target true is differs = grind (arith, nat_tests)
@@ -40,7 +35,7 @@ motion_nearer old drive (motion.Outward pulses) track0 runs = by_last (track0 ||
   where
     by_last : (b : Bool) → (track0 || (pulses == 0)) ≡ b → IsNearer (motion_left (motion.Outward pulses)) (if b then ended old drive 0 (recalibrated drive track0) else with_motion old drive (motion.Outward (pulses - 1)))
     by_last true is = ends_here old drive 0 (recalibrated drive track0) (motion_left (motion.Outward pulses))
-    by_last false is = goes_nearer old drive (motion.Outward (pulses - 1)) (motion_left (motion.Outward pulses)) (outward_left pulses (or_parts track0 (pulses == 0) is).1)
+    by_last false is = goes_nearer old drive (motion.Outward (pulses - 1)) (motion_left (motion.Outward pulses)) (grind (arith, nat_tests))
 motion_nearer old drive (motion.Toward cylinder target) track0 runs = by_there (cylinder == target) refl
   where
     by_there : (b : Bool) → (cylinder == target) ≡ b
@@ -85,11 +80,7 @@ record Polls (old polls : Fdc) : Type 0 where
   runs : is_seeking polls.seeks ≡ is_seeking old.seeks
 
 polls_of : (old : Fdc) → Polls old (polled old)
-polls_of old = by_poll _
-  where
-    by_poll : (b : Bool) → Polls old (if b then record old { poll_due = false; interrupt = true; seeks = with_polls old.seeks } else old)
-    by_poll true = record { phase_is = refl; seek = refl; runs = refl }
-    by_poll false = record { phase_is = refl; seek = refl; runs = refl }
+polls_of old = polled_by (Polls old) old (record { phase_is = refl; seek = refl; runs = refl }) (record { phase_is = refl; seek = refl; runs = refl })
 
 idle_rests : (phase : Phase) (track0 : Bool) (polls new : Fdc) → is_executing phase ≡ false → RestsIn phase track0 polls new → new ≡ seek_stepped track0 polls
 idle_rests (Execute execution) track0 polls new idle rests = absurd (false≢true (sym idle))
@@ -111,8 +102,4 @@ rests_on old new track0 idle runs rests =
     }
 
 pub adapter_seeks : (old new : AdapterState) → StepsAdapter old new → is_executing old.controller.phase ≡ false → is_seeking old.controller.seeks ≡ true → NearsEnd old.controller new.controller
-adapter_seeks old new steps idle runs = elim (which_drive (selected_at old)) [
-  | inl at ↦ rests_on old.controller new.controller (old.first.cylinder == 0) idle runs (steps.at_first at).0.rests
-  | inr (inl at) ↦ rests_on old.controller new.controller (old.second.cylinder == 0) idle runs (steps.at_second at).0.rests
-  | inr (inr at) ↦ rests_on old.controller new.controller false idle runs (steps.at_none at).0.rests
-]
+adapter_seeks old new steps idle runs = by_rests old new steps (λ track0 rests. rests_on old.controller new.controller track0 idle runs rests)

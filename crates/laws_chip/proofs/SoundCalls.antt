@@ -1,16 +1,14 @@
 -- A sound chip through each call.
 use Rattle.std.proofs.Common.{◌≡◌, inl, inr, ℕ, ◌+◌, ◌<◌, nat_le, Bool, true, false, not, ◌&&◌, ◌==◌, if◌then◌else◌, Option, List, [], ◌∷◌, length, bit_and, bit_or, refl, sym, ◌∙◌, ap, subst, arith}
-use Rattle.laws_chip.proofs.Common.{agree_below_at, and_parts, eqb-true, false≢true, not-true, or_cases, DriveState, at_rest, rate_chosen, Taking, Writes, dor_resets, dsr_resets, resets, is_gated, is_held, reset, Fdc, Lines, lines_at, Front, KeepsFront, WritesFront, Through, answer_bytes, is_of_data, ChipState, IsNewChip, KeepsChip, is_data, passes, passes_by_channel, passes_by_port, with_front, code_of, with_byte, CollectsIf, ComesIf, GivesChipIf, GivesIf, ReadsAt, ReadsChip, ReadsIf, TakesByte, TakesIf, WritesChip, byte_told, counted_if, latched_by, given_one, is_whole, may_come, quieted_if, reset_if, value_behind, with_next, is_by_port, ChipAnswer, Order, ChipStage, Ready, Busy, ChipTask, IsOfFour, AreMade, Call, Does, WritesByte, IsBusyWith, IsSound, IsSoundAt, RestsBehind}
-use Rattle.fdc_commands.specs.Seeking.{Seeking}
+use Rattle.laws_chip.proofs.Common.{agree_below_at, and_parts, eqb-true, false≢true, not-true, or_cases, DriveState, at_rest, rate_chosen, Taking, Writes, dor_resets, dsr_resets, resets, is_gated, is_held, reset, Fdc, Lines, lines_at, Front, KeepsFront, WritesFront, Through, answer_bytes, is_of_data, ChipState, IsNewChip, is_data, passes, passes_by_channel, passes_by_port, with_front, code_of, with_byte, CollectsIf, ComesIf, GivesChipIf, GivesIf, ReadsAt, ReadsChip, ReadsIf, TakesByte, TakesIf, byte_told, counted_if, latched_by, given_one, is_whole, may_come, quieted_if, reset_if, value_behind, with_next, is_by_port, ChipAnswer, Order, ChipStage, Ready, Busy, ChipTask, IsOfFour, AreMade, Call, Does, WritesByte, IsBusyWith, IsSound, IsSoundAt, RestsBehind, chip_count_told as count_told, ChipTelling as Telling, Seeks as Seeking}
 use Rattle.fdc_sequencer.specs.Fronts as fronts
 use Rattle.fdc_chip.specs.Pins.{ResetsByPin, pin_settings}
-use Rattle.fdc_chip.specs.Ports.{count_told}
-use Rattle.fdc_chip.specs.declared.stage.ChipStage.TheVariants.{Telling}
 use Rattle.fdc_chip.specs.declared.stage.ChipTask.TheVariants as task
 use Rattle.laws_chip.specs.Calls as made
 use Rattle.laws_chip.proofs.Attended.{attended_sound}
 use Rattle.laws_chip.proofs.Channels.{counts_busy, counts_front_base, front_left, gives_busy, gives_front_base, keeps_busy, port_busy, takes_busy, takes_front_base}
 use Rattle.laws_chip.proofs.FirstSectors.{IsBase}
+use Rattle.laws_chip.proofs.Known.{port_sets}
 use Rattle.laws_chip.proofs.Rests.{base_same}
 use Rattle.laws_chip.proofs.SoundParts as parts
 use Rattle.laws_chip.proofs.SoundParts.{IsBasis, basis_busy, basis_rests, basis_same, basis_set, busy_at, is_busy, keep_sound, passing_of, same_sound, sound_basis, sound_set, stays_sound}
@@ -183,27 +181,11 @@ pub record IsAnew (old new : Fdc) : Type 0 where
   pub poll : new.poll_due ≡ true
   pub down : new.interrupt ≡ false
 
-anew_as : (old set new : Fdc) → IsAnew old set → new ≡ set → IsAnew old new
-anew_as old set new anew is = subst (IsAnew old) (sym is) anew
-
-reset_anew : (b : Bool) (old set : Fdc) → b ≡ true → set.non_dma ≡ old.non_dma → IsAnew old (if b then reset set else set)
-reset_anew true old set is same = record { takes = refl; command = refl; seeks = refl; non_dma = same; poll = refl; down = refl }
-reset_anew false old set is same = absurd (false≢true is)
-
 port_anew : (port value : ℕ) (lines : Lines) (old new : Fdc) → Writes port value lines old new → (port == 0x3F5) ≡ false → resets port value ≡ true → IsAnew old new
-port_anew port value lines old new writes no_byte anew = either_way (port == 0x3F2)
-    (λ output.
-    let is : dor_resets value ≡ true = sym (ap (λ b. if b then dor_resets value else (if port == 0x3F4 then dsr_resets value else false)) output) ∙ anew in
-    anew_as old _ new (reset_anew (dor_resets value) old (record old { dor = record { 0 = value } }) is refl) (writes.output (eqb-true port 0x3F2 output)))
-    (λ no_output. either_way (port == 0x3F4)
-    (λ select.
-    let is : dsr_resets value ≡ true =
-    sym (ap (λ b. if b then dsr_resets value else false) select)
-    ∙ (sym (ap (λ b. if b then dor_resets value else (if port == 0x3F4 then dsr_resets value else false)) no_output) ∙ anew) in
-    anew_as old _ new (reset_anew (dsr_resets value) old (record old { rate = rate_chosen value }) is refl) (writes.select (eqb-true port 0x3F4 select)))
-    (λ no_select. absurd (false≢true
-    (sym (ap (λ b. if b then dsr_resets value else false) no_select)
-    ∙ (sym (ap (λ b. if b then dor_resets value else (if port == 0x3F4 then dsr_resets value else false)) no_output) ∙ anew)))))
+port_anew port value lines old new writes no_byte anew =
+    let sets = port_sets port value lines old new writes no_byte in
+    subst (IsAnew old) (sym (sets.is ∙ ap (λ b. if b then reset sets.set else sets.set) anew))
+    (record { takes = refl; command = refl; seeks = refl; non_dma = sets.same.non_dma; poll = refl; down = refl })
 
 pub front_anew : (port value : ℕ) (old new : Front) → WritesFront port value old new → (port == 0x3F5) ≡ false → resets port value ≡ true → IsAnew old.adapter.controller new.adapter.controller × (new.stage ≡ Through)
 front_anew port value old new writes no_byte anew =
@@ -273,15 +255,6 @@ port_write false port value old new quiet no_data sound out writes rest =
       seek = subst (λ (seeks : Seeking). IsOfFour seeks.seek) (sym left.seeks) was.seek;
     }
 
-writes_sound : (port value : ℕ) (old new : ChipState) → value < 256 → IsSound old → WritesChip port value old new → IsSound new
-writes_sound port value old new few sound writes = either_way (port == 0x3F5)
-    (λ here. data_write old.stage value old new refl few sound (writes.bytes (eqb-true port 0x3F5 here)))
-    (λ no_data.
-    let (front, rest) = writes.others no_data in
-    let given = value_behind port value in
-    port_write (resets port given) port given (latched_by port value old) new refl no_data (sound_set old (latched_by port value old) sound)
-    (port_lets_out port value (lines_at old.front.adapter) old.front.adapter.controller new.front.adapter.controller few (front.others no_data).0.writes no_data sound.lets_out) front rest)
-
 -- ---- media
 
 rests_kept : (old new : Front) → KeepsFront old new → RestsBehind old → RestsBehind new
@@ -291,14 +264,6 @@ rests_kept old new keeps was = record {
   seek = subst (λ (fdc : Fdc). IsOfFour fdc.seeks.seek) (sym keeps.controller) was.seek;
 }
 
-changes_sound : (old new : ChipState) → KeepsChip old new → IsSound old → IsSound new
-changes_sound old new keeps sound =
-    let controller = keeps.front.controller in
-    stays_sound old new sound
-    (record { dor = ap (λ (fdc : Fdc). fdc.dor) controller; non_dma = ap (λ (fdc : Fdc). fdc.non_dma) controller; command = ap (λ (fdc : Fdc). fdc.command) controller ∙ sound.whole })
-    (ap (λ (chip : ChipState). chip.stage) keeps.rest) (ap (λ (chip : ChipState). chip.count) keeps.rest) (ap (λ (chip : ChipState). chip.order) keeps.rest)
-    (keep_sound old.stage old.front new.front (rests_kept old.front new.front keeps.front) (λ what. keeps_busy what old.front new.front keeps.front) sound.now)
-
 -- ---- all calls
 
 pub call_sound : (call : Call) (old new : ChipState) → Does call old new → WritesByte call → IsSound old → IsSound new
@@ -307,8 +272,19 @@ call_sound (made.Takes byte) old new does few sound = takes_sound (passes_by_cha
 call_sound (made.Gives byte was) old new does few sound = gives_sound (passes_by_channel old) byte was old new refl sound does
 call_sound made.Counts old new does few sound = counts_at old.stage old new refl sound does
 call_sound (made.Reads port value) old new does few sound = reads_sound port value old new sound does
-call_sound (made.Writes port value) old new does few sound = writes_sound port value old new few sound does
-call_sound made.Changes old new does few sound = changes_sound old new does sound
+call_sound (made.Writes port value) old new does few sound = either_way (port == 0x3F5)
+    (λ here. data_write old.stage value old new refl few sound (does.bytes (eqb-true port 0x3F5 here)))
+    (λ no_data.
+    let (front, rest) = does.others no_data in
+    let given = value_behind port value in
+    port_write (resets port given) port given (latched_by port value old) new refl no_data (sound_set old (latched_by port value old) sound)
+    (port_lets_out port value (lines_at old.front.adapter) old.front.adapter.controller new.front.adapter.controller few (front.others no_data).0.writes no_data sound.lets_out) front rest)
+call_sound made.Changes old new does few sound =
+    let controller = does.front.controller in
+    stays_sound old new sound
+    (record { dor = ap (λ (fdc : Fdc). fdc.dor) controller; non_dma = ap (λ (fdc : Fdc). fdc.non_dma) controller; command = ap (λ (fdc : Fdc). fdc.command) controller ∙ sound.whole })
+    (ap (λ (chip : ChipState). chip.stage) does.rest) (ap (λ (chip : ChipState). chip.count) does.rest) (ap (λ (chip : ChipState). chip.order) does.rest)
+    (keep_sound old.stage old.front new.front (rests_kept old.front new.front does.front) (λ what. keeps_busy what old.front new.front does.front) sound.now)
 call_sound (made.Straps on) old new does few sound = subst IsSound (sym does) (sound_set old (record old { strapped = on }) sound)
 call_sound (made.StrapsSteps on) old new does few sound = subst IsSound (sym does) (sound_set old (record old { paced = on }) sound)
 

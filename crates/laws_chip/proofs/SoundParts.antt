@@ -1,8 +1,8 @@
 -- What makes a chip sound, from what the chip was.
-use Rattle.std.proofs.Common.{◌≡◌, ◌<◌, Bool, true, false, not, ◌&&◌, ◌==◌, [], refl, sym, ◌∙◌, ap, subst}
-use Rattle.laws_chip.proofs.Common.{and_parts, eqb-true, false≢true, is_gated, is_held, Front, ChipState, passes, passes_at, with_front, is_format, Order, ChipStage, Ready, Busy, ChipTask, IsBusyWith, IsSound, IsSoundAt, RestsBehind}
+use Rattle.std.proofs.Common.{◌≡◌, inl, inr, ◌<◌, Bool, true, false, not, ◌&&◌, ◌==◌, [], refl, sym, ◌∙◌, ap, subst}
+use Rattle.laws_chip.proofs.Common.{and_parts, eqb-true, false≢true, is_gated, is_held, Front, ChipState, passes, passes_at, with_front, is_format, Order, ChipStage, Ready, Busy, ChipTask, IsBusyWith, IsSound, IsSoundAt, RestsBehind, ServesBehind, is_under_way, SentTask as Sent}
 use Rattle.laws_chip.proofs.FirstSectors.{IsBase, base_gated, base_held}
-use Rattle.laws_chip.proofs.UnderWay.{clash, either_way}
+use Rattle.laws_chip.proofs.UnderWay.{clash, either_way, not_through}
 
 -- ---- stages
 
@@ -127,3 +127,9 @@ sound_set old new sound = record { by_dma = sound.by_dma; whole = sound.whole; h
 
 pub same_sound : (old new : ChipState) → new ≡ old → IsSound old → IsSound new
 same_sound old new is sound = subst IsSound (sym is) sound
+
+pub serves_of : (chip : ChipState) → IsSound chip → chip.stage ≡ Busy Sent → is_under_way chip.front.stage ≡ true → ServesBehind chip.front
+serves_of chip sound at under = elim (busy_at chip Sent at sound) [
+  | inl serves ↦ serves
+  | inr executes ↦ absurd (not_through chip.front under executes.through)
+]

@@ -1,10 +1,7 @@
 -- A sound chip through device steps.
 use Rattle.std.proofs.Common.{◌≡◌, ◌⊎◌, inl, inr, ℕ, zero, suc, nat_le, Bool, true, false, not, ◌&&◌, ◌==◌, if◌then◌else◌, Option, Some, None, [], bit_and, refl, sym, ◌∙◌, ap, subst}
-use Rattle.laws_chip.proofs.Common.{option_map, and_parts, not-true, Chrn, missing_mark, Results, Front, TakesFront, interrupts_outside, is_ready_behind, results_outside, results_taken, told_front, StepsFront, ChipState, asks_chip, interrupts_chip, with_front, code_of, GivesOn, drained, identifying, implies, is_size, moves_heads, moving, Ends, EndsAddress, EndsAddressIf, EndsAs, EndsAt, EndsData, EndsIndex, EndsSent, LooksOn, MayEnd, ReadsOn, is_over, judged, looks_for_cylinder, met_key, sector_met, told_results, track_at, unit_of, verified, without_one, EndsPace, GoesOnIf, Paces, PulsesIf, is_due, is_over_pace, step_words, Follows, FollowsTask, RunsChip, StepsChip, Swallows, SwallowsAs, PacedSeek, Place, Index, Address, Data, ChipStage, Ready, Held, Busy, ChipTask, Track, ExecutesBehind, IsBusyAt, IsBusyWith, IsSound, RestsBehind, ServesBehind}
-use Rattle.fdc_commands.specs.declared.command.Command.TheVariants.{ReadId}
-use Rattle.fdc_chip.specs.Paces.{stepped}
+use Rattle.laws_chip.proofs.Common.{option_map, and_parts, not-true, Chrn, missing_mark, Results, Front, TakesFront, interrupts_outside, is_ready_behind, results_outside, results_taken, told_front, StepsFront, ChipState, asks_chip, interrupts_chip, with_front, code_of, GivesOn, drained, identifying, implies, is_size, moves_heads, moving, Ends, EndsAddress, EndsAddressIf, EndsAs, EndsAt, EndsData, EndsIndex, EndsSent, LooksOn, MayEnd, ReadsOn, is_over, judged, looks_for_cylinder, met_key, sector_met, told_results, track_at, unit_of, verified, without_one, EndsPace, GoesOnIf, Paces, PulsesIf, is_due, is_over_pace, step_words, Follows, FollowsTask, RunsChip, StepsChip, Swallows, SwallowsAs, PacedSeek, Place, Index, Address, Data, ChipStage, Ready, Held, Busy, ChipTask, Track, ExecutesBehind, IsBusyAt, IsBusyWith, IsSound, RestsBehind, ServesBehind, chip_stepped as stepped, ChipTelling as Telling, CommandReadId as ReadId}
 use Rattle.fdc_chip.specs.Steps.{RunsChipWith, SwallowsBy}
-use Rattle.fdc_chip.specs.declared.stage.ChipStage.TheVariants.{Telling}
 use Rattle.fdc_chip.specs.declared.stage.ChipTask.TheVariants as task
 use Rattle.laws_chip.proofs.Attended.{attended_sound, done_sound, given_moves, recalibrated_rests}
 use Rattle.laws_chip.proofs.Channels.{IsOverBehind, counts_busy, counts_front_base, counts_over, takes_busy, takes_front_base, takes_over}

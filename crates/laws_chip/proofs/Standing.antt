@@ -1,10 +1,6 @@
 -- A front whose controller takes a command and executes it, and a command that is given to it.
 use Rattle.std.proofs.Common.{◌≡◌, ℕ, suc, ◌<◌, ◌^◌, Bool, true, false, not, ◌==◌, if◌then◌else◌, List, [], ◌∷◌, Option, Some, None, bit_and, bit_or, refl, sym, ◌∙◌, ap, subst, arith}
-use Rattle.laws_chip.proofs.Common.{option_map_or, and_parts, and_from, false≢true, not-false, not-true, seek_bits, is_begun, whole, Invalid, Command, Phase, Taking, TakesAs, is_taking, main_status, phase_bits, takes_in, is_held, is_idle, Fdc, Lines, lines_at, Commands, CommandsIf, Front, GivesCommand, is_ready, is_ready_at, status_at, FrontStage, Through, is_size, moves_heads, IsFreeBehind, IsOfFour}
-use Rattle.fdc_commands.specs.declared.motion.Seek.{Seek}
-use Rattle.fdc_commands.specs.declared.bytes.Accepted.TheVariants.{Ready}
-use Rattle.fdc_commands.specs.declared.command.Command.TheVariants.{FormatTrack}
-use Rattle.fdc_core.specs.Commands.{Obeys}
+use Rattle.laws_chip.proofs.Common.{option_map_or, and_parts, and_from, false≢true, not-false, not-true, seek_bits, is_begun, whole, Invalid, Command, Phase, Taking, TakesAs, is_taking, main_status, phase_bits, takes_in, is_held, is_idle, Fdc, Lines, lines_at, Commands, CommandsIf, Front, GivesCommand, is_ready, is_ready_at, status_at, FrontStage, Through, is_size, moves_heads, IsFreeBehind, IsOfFour, ReadyCommand as Ready, CommandFormatTrack as FormatTrack, DriveSeek as Seek, FdcObeys as Obeys}
 
 -- the controller takes the first byte of a command, and executes what comes: no seek bit is set, and SPECIFY didn't set
 -- ND

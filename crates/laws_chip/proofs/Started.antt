@@ -1,9 +1,6 @@
 -- How the controller's own command for a sector begins.
 use Rattle.std.proofs.Common.{◌≡◌, ◌⊎◌, inl, inr, ℕ, zero, suc, ◌+◌, nat_le, Bool, true, false, not, ◌&&◌, ◌||◌, ◌==◌, if◌then◌else◌, Option, None, [], length, refl, sym, ◌∙◌, ap, subst, arith, zero-add}
-use Rattle.laws_chip.proofs.Common.{false≢true, and_from, and_parts, eqb-true, leb-true, Chrn, IsSizeCode, content_size, emptied, seek_bits, is_begun, Invalid, Command, ReadData, WriteData, WriteDeleted, Past, new_past, BeginsData, TakesAs, answered, told_count, ReadsField, address_words, heard_words, Sent, told_in, is_executing, is_taking, TakesWhole, is_idle, mark_of, MayWrite, Short, Fdc, Lines, Result, AdapterState, moving_of, sector_alone, told_if, Accounts, Carries, IsFree, IsOfOther, MayMove, bytes_moved, sent_of, command_for, command_of, is_skipping, size_of, Operation, Read, Write, MovingSector, Transfer}
-use Rattle.fdc_commands.specs.declared.bytes.Accepted.TheVariants.{Ready}
-use Rattle.fdc_commands.specs.declared.command.Command.TheVariants.{Seek}
-use Rattle.fdc_core.specs.Commands.{Obeys}
+use Rattle.laws_chip.proofs.Common.{false≢true, and_from, and_parts, eqb-true, leb-true, Chrn, IsSizeCode, content_size, emptied, seek_bits, is_begun, Invalid, Command, ReadData, WriteData, WriteDeleted, Past, new_past, BeginsData, TakesAs, answered, told_count, ReadsField, address_words, heard_words, Sent, told_in, is_executing, is_taking, TakesWhole, is_idle, mark_of, MayWrite, Short, Fdc, Lines, Result, AdapterState, moving_of, sector_alone, told_if, Accounts, Carries, IsFree, IsOfOther, MayMove, bytes_moved, sent_of, command_for, command_of, is_skipping, size_of, Operation, Read, Write, MovingSector, Transfer, ReadyCommand as Ready, SeekCommand as Seek, FdcObeys as Obeys}
 use Rattle.fdc_core.specs.Heard.{MayRead}
 use Rattle.laws_chip.proofs.Known.{clash, either_way, told_busy, told_on}
 use Rattle.laws_chip.proofs.Marks.{fresh_mark, told_mark}
@@ -29,9 +26,6 @@ in_range n is = let (some, few) = and_parts (nat_le 1 n) (nat_le n 6) is in (leb
 -- 80 is answered in place of a command
 abbrev IsAnswered : Fdc → Type 0
 IsAnswered fdc = fdc.phase ≡ Result (Short 0x80 None)
-
-idle_answer : (fdc : Fdc) → IsAnswered fdc → is_executing fdc.phase ≡ false
-idle_answer fdc is = ap is_executing is
 
 -- nothing stands in the way of the command, if the controller executes it
 module _ (P : Type 0) (seeks : ℕ) (non_dma : Bool) (old new : Fdc) where
@@ -135,7 +129,7 @@ answered_idle at lines old new takes idle = elim (command_taken at lines old new
 pub begun_busy : (at : Transfer) (lines : Lines) (old new : Fdc) → TakesWhole (Ready (command_of at)) lines old new → is_executing new.phase ≡ true → Begun at.opcode.operation (sent_of at) new
 begun_busy at lines old new takes busy = elim (command_taken at lines old new takes) [
   | inl begun ↦ begun
-  | inr answers ↦ clash (is_executing new.phase) (idle_answer new answers) busy
+  | inr answers ↦ clash (is_executing new.phase) (ap is_executing answers) busy
 ]
 
 -- ---- the seek that comes before

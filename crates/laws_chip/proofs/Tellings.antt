@@ -1,11 +1,10 @@
 -- The results that the sequencer gives, taken by the chip in the step in which they come.
 use Rattle.std.proofs.Common.{◌≡◌, inl, inr, ℕ, Bool, true, false, not, ◌&&◌, ◌||◌, ◌==◌, if◌then◌else◌, Option, Some, None, bit_or, refl, sym, ◌∙◌, ap, subst}
-use Rattle.laws_chip.proofs.Common.{option_map, and_left, and_right, Results, Front, asks_outside, is_through, results_outside, results_taken, taken_at, ChipState, asks_chip, interrupts_chip, passes, passes_at, shows_behind, with_front, EndsAs, EndsSent, cylinder_bits, done_if, fits_selected, has_room, judged, looks_for_cylinder, results_judged, with_cylinder_passed, is_format, is_by_port, Follows, StepsChip, Busy, Sought, AddsCylinder, AreOfCylinder, LooksFor, LooksOrTells, Tells}
+use Rattle.laws_chip.proofs.Common.{option_map, and_left, and_right, Results, Front, asks_outside, is_through, results_outside, results_taken, taken_at, ChipState, asks_chip, interrupts_chip, passes, passes_at, shows_behind, with_front, EndsAs, EndsSent, cylinder_bits, done_if, fits_selected, has_room, judged, looks_for_cylinder, results_judged, with_cylinder_passed, is_format, is_by_port, Follows, StepsChip, Busy, Sought, AddsCylinder, AreOfCylinder, LooksFor, LooksOrTells, Tells, SentTask as Sent}
 use Rattle.std.proofs.lemmas.Nat.{or_comm}
 use Rattle.fdc_registers.specs.St2.{wrong_cylinder, bad_cylinder}
 use Rattle.fdc_sequencer.specs.declared.stage.FrontStage.TheVariants as behind
 use Rattle.laws_chip.proofs.Shown.{tells_results}
-use Rattle.fdc_chip.specs.declared.stage.ChipTask.TheVariants.{Sent}
 
 -- ---- ---- the results of a front that gives them
 

@@ -1,7 +1,6 @@
 -- A READ TRACK ends: it looks for the index, and each sector that it reads leaves one fewer.
 use Rattle.std.proofs.Common.{◌≡◌, inl, inr, ℕ, zero, suc, ◌+◌, ◌-◌, ◌*◌, ◌%◌, ◌<◌, ◌≤◌, Bool, true, false, not, ◌&&◌, ◌||◌, ◌==◌, if◌then◌else◌, Option, Some, None, is_some, option_map, List, [], ◌∷◌, bit_and, refl, sym, ◌∙◌, ap, subst, arith}
-use Rattle.laws_chip.proofs.Common.{eqb-false, false≢true, Chrn, missing_mark, overrun, Results, IsInRange, Front, GivesTransfer, ReadsSector, results_outside, results_taken, sector_alone, StepsFront, is_last, transfer_with, Read, Transfer, HasRecords, most_steps, ChipState, with_front, Obeys, TransfersIf, absent_key, implies, is_size, reading_one, sectors_of_track, track_begun, transfer_sent, with_last, EndsAddress, EndsAddressIf, EndsAt, EndsAs, EndsData, EndsIndex, LooksOn, ReadsOn, is_over, judged, met_key, sector_met, without_one, Follows, StepsChip, ReadTrack, Order, Place, Index, Address, Data, Busy, ChipTask, Track, IsFreeBehind, Call, Does, is_step, steps_in, steps_of, AreTracked, IsTracking, most_track_steps, IsBusyAt, IsSound, ServesBehind, has_command}
-use Rattle.fdc_core.specs.Steps.{steps_left}
+use Rattle.laws_chip.proofs.Common.{eqb-false, false≢true, Chrn, missing_mark, overrun, Results, IsInRange, Front, GivesTransfer, ReadsSector, results_outside, results_taken, sector_alone, StepsFront, is_last, transfer_with, Read, Transfer, HasRecords, most_steps, ChipState, with_front, Obeys, TransfersIf, absent_key, implies, is_size, reading_one, track_begun, transfer_sent, with_last, EndsAddress, EndsAddressIf, EndsAt, EndsAs, EndsData, EndsIndex, LooksOn, ReadsOn, is_over, judged, met_key, sector_met, without_one, Follows, StepsChip, ReadTrack, Order, Place, Index, Address, Data, Busy, ChipTask, Track, IsFreeBehind, Call, Does, is_step, steps_in, steps_of, AreTracked, most_track_steps, IsBusyAt, IsSound, ServesBehind, has_command, core_steps_left as steps_left}
 use Rattle.laws_chip.specs.SectorCalls as behind
 use Rattle.laws_chip.specs.SectorLasting as lasting
 use Rattle.laws_chip.proofs.Lasted.{Lasts, call_lasts, calls_last, field_lasts, first_lasts, lasts_some}
@@ -12,7 +11,7 @@ use Rattle.laws_chip.proofs.FirstSectors.{first_begins}
 use Rattle.laws_chip.proofs.ServedSteps.{serves_step, tells_shown}
 use Rattle.laws_chip.proofs.SinglesLast.{left_most, left_some, step_fewer, makes_single, steps_less}
 use Rattle.laws_chip.proofs.SoundCalls.{call_sound}
-use Rattle.laws_chip.proofs.SoundParts.{busy_at, is_busy}
+use Rattle.laws_chip.proofs.SoundParts.{busy_at}
 use Rattle.laws_chip.proofs.Standing.{Stands, stands_free}
 use Rattle.laws_chip.proofs.UnderWay.{clash, either_way, not_through}
 use Rattle.laws_chip.proofs.VerifiesLast.{IsWithin, makes_within}
@@ -139,21 +138,21 @@ reads_leave n track key old new some spent (reads, rest) = record {
   leaves = (65792, field_sector_lasts track.unit (sector_met key track) old.front new.front reads, spent);
 }
 
--- a command that gives its results isn't under way
-told_none : {A : Type 0} (new : ChipState) → IsTracking new → is_busy new.stage ≡ false → A
-told_none new tracks told = absurd (false≢true (sym told ∙ ap is_busy tracks.reads))
+-- a command that gives its results is no longer under way
+told_none : {A : Type 0} (new : ChipState) → has_command new.stage ≡ true → has_command new.stage ≡ false → A
+told_none new works told = clash (has_command new.stage) told works
 
-index_leaves : (b : Bool) (n : ℕ) (track : Track) (old new : ChipState) → 1 ≤ track.left → SpentAt Index n track.left → IsTracking new → EndsIndex b track old new → Leaves (n - 1) new
-index_leaves true n track old new some spent tracks is = told_none new tracks (ap (λ (chip : ChipState). is_busy chip.stage) is)
-index_leaves false n track old new some spent tracks looks = looks_leave n track old new some spent looks
+index_leaves : (b : Bool) (n : ℕ) (track : Track) (old new : ChipState) → 1 ≤ track.left → SpentAt Index n track.left → has_command new.stage ≡ true → EndsIndex b track old new → Leaves (n - 1) new
+index_leaves true n track old new some spent works is = told_none new works (ap (λ (chip : ChipState). has_command chip.stage) is)
+index_leaves false n track old new some spent works looks = looks_leave n track old new some spent looks
 
-met_leaves : (b : Bool) (n : ℕ) (results : Results) (track : Track) (old new : ChipState) → 1 ≤ track.left → SpentAt Address n track.left → IsTracking new → EndsAddressIf b results track old new → Leaves (n - 1) new
-met_leaves true n results track old new some spent tracks reads = reads_leave n track results.key old new some spent reads
-met_leaves false n results track old new some spent tracks is = told_none new tracks (ap (λ (chip : ChipState). is_busy chip.stage) is)
+met_leaves : (b : Bool) (n : ℕ) (results : Results) (track : Track) (old new : ChipState) → 1 ≤ track.left → SpentAt Address n track.left → has_command new.stage ≡ true → EndsAddressIf b results track old new → Leaves (n - 1) new
+met_leaves true n results track old new some spent works reads = reads_leave n track results.key old new some spent reads
+met_leaves false n results track old new some spent works is = told_none new works (ap (λ (chip : ChipState). has_command chip.stage) is)
 
-address_leaves : (b : Bool) (n : ℕ) (results : Results) (track : Track) (old new : ChipState) → 1 ≤ track.left → SpentAt Address n track.left → IsTracking new → EndsAddress b results track old new → Leaves (n - 1) new
-address_leaves true n results track old new some spent tracks is = told_none new tracks (ap (λ (chip : ChipState). is_busy chip.stage) is)
-address_leaves false n results track old new some spent tracks ends = met_leaves ((results.st1.0 == 0) && is_size track.key.n) n results track old new some spent tracks ends
+address_leaves : (b : Bool) (n : ℕ) (results : Results) (track : Track) (old new : ChipState) → 1 ≤ track.left → SpentAt Address n track.left → has_command new.stage ≡ true → EndsAddress b results track old new → Leaves (n - 1) new
+address_leaves true n results track old new some spent works is = told_none new works (ap (λ (chip : ChipState). has_command chip.stage) is)
+address_leaves false n results track old new some spent works ends = met_leaves ((results.st1.0 == 0) && is_size track.key.n) n results track old new some spent works ends
 
 -- the sector was one of those that were left, and it isn't the last
 one_fewer : (n left : ℕ) → 1 ≤ left → 131328 * left ≤ n - 1 + 131328 → 131328 * (left - 1) ≤ n - 1
@@ -167,22 +166,22 @@ not_last : (counted last overran : Bool) → ((counted || last) || overran) ≡ 
 not_last false false overran on = refl
 not_last _ _ overran on = absurd (false≢true (sym on))
 
-data_leaves : (b : Bool) (n : ℕ) (results : Results) (track : Track) (old new : ChipState) → 1 ≤ track.left → SpentAt Data n track.left → IsTracking new → is_over results (without_one results track) ≡ b
+data_leaves : (b : Bool) (n : ℕ) (results : Results) (track : Track) (old new : ChipState) → 1 ≤ track.left → SpentAt Data n track.left → has_command new.stage ≡ true → is_over results (without_one results track) ≡ b
     → EndsData b (without_one results track) old new → Leaves (n - 1) new
-data_leaves true n results track old new some spent tracks over is = told_none new tracks (ap (λ (chip : ChipState). is_busy chip.stage) is)
-data_leaves false n results track old new some spent tracks over looks =
+data_leaves true n results track old new some spent works over is = told_none new works (ap (λ (chip : ChipState). has_command chip.stage) is)
+data_leaves false n results track old new some spent works over looks =
     let more = not_last track.counted (track.left - 1 == 0) (not (bit_and results.st1.0 overrun == 0)) over in
     looks_leave n (without_one results track) old new (positive (track.left - 1) (eqb-false (track.left - 1) 0 more)) (one_fewer n track.left some spent) looks
 
 -- ---- a device step
 
-place_leaves : (place : Place) (n : ℕ) (track : Track) (results : Results) (old new : ChipState) → 1 ≤ track.left → SpentAt place n track.left → IsTracking new → EndsAt place track results old new → Leaves (n - 1) new
-place_leaves Index n track results old new some spent tracks ends = index_leaves (not (bit_and results.st1.0 missing_mark == 0)) n track old new some spent tracks ends
-place_leaves Address n track results old new some spent tracks ends = address_leaves track.counted n results track old new some spent tracks ends
-place_leaves Data n track results old new some spent tracks ends = data_leaves (is_over results (without_one results track)) n results track old new some spent tracks refl ends
+place_leaves : (place : Place) (n : ℕ) (track : Track) (results : Results) (old new : ChipState) → 1 ≤ track.left → SpentAt place n track.left → has_command new.stage ≡ true → EndsAt place track results old new → Leaves (n - 1) new
+place_leaves Index n track results old new some spent works ends = index_leaves (not (bit_and results.st1.0 missing_mark == 0)) n track old new some spent works ends
+place_leaves Address n track results old new some spent works ends = address_leaves track.counted n results track old new some spent works ends
+place_leaves Data n track results old new some spent works ends = data_leaves (is_over results (without_one results track)) n results track old new some spent works refl ends
 
-step_leaves : (n : ℕ) (old new : ChipState) → IsSound old → Leaves n old → StepsChip old new → IsTracking new → Leaves (n - 1) new
-step_leaves n old new sound was step tracks =
+step_leaves : (n : ℕ) (old new : ChipState) → IsSound old → Leaves n old → StepsChip old new → has_command new.stage ≡ true → Leaves (n - 1) new
+step_leaves n old new sound was step works =
     by_end (results_outside step.between) refl (subst (λ stage. Follows stage set new) was.at step.follows)
   where
     set : ChipState
@@ -194,7 +193,7 @@ step_leaves n old new sound was step tracks =
     by_end : (waiting : Option Results) → results_outside step.between ≡ waiting → EndsAs (option_map (judged set) waiting) (task.Track was.track) set new → Leaves (n - 1) new
     by_end (Some results) waits ends =
         place_leaves was.track.place n was.track (judged set results) (with_front (results_taken step.between) set) new was.some
-        (spent_at was.track.place n was.track.left old.front busy was.some was.leaves) tracks ends
+        (spent_at was.track.place n was.track.left old.front busy was.some was.leaves) works ends
     by_end None silent is = subst (Leaves (n - 1)) (sym is) (record {
       track = was.track;
       at = was.at;
@@ -204,13 +203,9 @@ step_leaves n old new sound was step tracks =
 
 -- ---- ---- other calls
 
--- as many device steps are left
-none_off : (here steps : ℕ) → steps ≡ 0 → here - steps ≡ here
-none_off here steps none = omega arith
-
 serves_within : (here : ℕ) (old new : Front) → ServesBehind old → Lasts here old → IsWithin 0 old new → Lasts here new
 serves_within here old new was lasts within =
-    subst (λ n. Lasts n new) (none_off here (lasting.steps_in within.calls) within.steps_are) (calls_last within.calls here was.first was.history old new within.within was.serves lasts)
+    subst (λ n. Lasts n new) (omega arith) (calls_last within.calls here was.first was.history old new within.within was.serves lasts)
 
 as_many : (now was more n : ℕ) → now + 0 ≤ was → was + more ≤ n → now + more ≤ n
 as_many now was more n fewer few = omega arith
@@ -224,10 +219,10 @@ pub none_of : (call : Call) → is_step call ≡ false → steps_of call ≡ 0
 none_of made.Steps other = absurd (false≢true (sym other))
 none_of _ other = refl
 
-other_leaves : (call : Call) (n : ℕ) (old new : ChipState) → IsSound old → IsSound new → Leaves n old → Does call old new → is_step call ≡ false → IsTracking new → Leaves n new
-other_leaves call n old new sound still was does other tracks =
+other_leaves : (call : Call) (n : ℕ) (old new : ChipState) → IsSound old → IsSound new → Leaves n old → Does call old new → is_step call ≡ false → has_command new.stage ≡ true → Leaves n new
+other_leaves call n old new sound still was does other works =
     let track = was.track in
-    let keeps = call_stays call (task.Track track) old new does was.at other (ap has_command tracks.reads) in
+    let keeps = call_stays call (task.Track track) old new does was.at other works in
     let (counted, at) = keeps.stage in
     let now : Track = record track { counted = counted } in
     record {
@@ -242,27 +237,21 @@ other_leaves call n old new sound still was does other tracks =
 off_none : (n : ℕ) → n ≡ n - 0
 off_none n = omega arith
 
-pub call_leaves : (call : Call) (n : ℕ) (old new : ChipState) → IsSound old → IsSound new → Leaves n old → Does call old new → IsTracking new → Leaves (n - steps_of call) new
-call_leaves call n old new sound still was does tracks = either_way (is_step call)
+pub call_leaves : (call : Call) (n : ℕ) (old new : ChipState) → IsSound old → IsSound new → Leaves n old → Does call old new → has_command new.stage ≡ true → Leaves (n - steps_of call) new
+call_leaves call n old new sound still was does works = either_way (is_step call)
     (λ steps. by_step call steps does)
-    (λ other. subst (λ m. Leaves m new) (off_none n ∙ ap (λ m. n - m) (sym (none_of call other))) (other_leaves call n old new sound still was does other tracks))
+    (λ other. subst (λ m. Leaves m new) (off_none n ∙ ap (λ m. n - m) (sym (none_of call other))) (other_leaves call n old new sound still was does other works))
   where
     by_step : (call : Call) → is_step call ≡ true → Does call old new → Leaves (n - steps_of call) new
-    by_step made.Steps is step = step_leaves n old new sound was step tracks
+    by_step made.Steps is step = step_leaves n old new sound was step works
     by_step _ is does = absurd (false≢true is)
-
-index_some : (here left n : ℕ) → 1 ≤ left → here + 131328 * left ≤ n → 0 < n
-index_some here left n some few = omega arith
-
-address_some : (here left n : ℕ) → 1 ≤ left → here + (65792 + 131328 * left) ≤ n + 131328 → 0 < n
-address_some here left n some few = omega arith
 
 data_some : (here left n : ℕ) → 1 ≤ here → 1 ≤ left → here + 131328 * left ≤ n + 131328 → 0 < n
 data_some here left n one some few = omega arith
 
 pub leaves_some : (place : Place) (n left : ℕ) (front : Front) → IsBusyAt place front → 1 ≤ left → LeavesAt place n left front → 0 < n
-leaves_some Index n left front serves some (here, lasts, few) = index_some here left n some few
-leaves_some Address n left front executes some few = address_some (steps_left front.adapter.controller.phase) left n some few
+leaves_some Index n left front serves some (here, lasts, few) = omega arith
+leaves_some Address n left front executes some few = omega arith
 leaves_some Data n left front serves some (here, lasts, few) = data_some here left n (some_here here front serves lasts) some few
 
 tracks_last : (calls : List Call) (n : ℕ) (old new : ChipState) → IsSound old → Leaves n old → AreTracked calls old new → steps_in calls < n
@@ -270,7 +259,7 @@ tracks_last [] n old new sound was same = leaves_some was.track.place n was.trac
 tracks_last (call ∷ calls) n old new sound was (between, does, writes, tracks, rest) =
     let still = call_sound call old between does writes sound in
     steps_less (steps_of call) (steps_in calls) n
-    (tracks_last calls (n - steps_of call) between new still (call_leaves call n old between sound still was does tracks) rest)
+    (tracks_last calls (n - steps_of call) between new still (call_leaves call n old between sound still was does (ap has_command tracks.reads)) rest)
 
 -- ---- ---- how the command begins
 
@@ -280,9 +269,6 @@ all_left last = by_none (last == 0) refl
     by_none : (b : Bool) → (last == 0) ≡ b → 1 ≤ (if b then 256 else last)
     by_none true none = omega arith
     by_none false some = positive last (eqb-false last 0 some)
-
-at_most : (n : ℕ) → n ≤ n
-at_most n = omega arith
 
 pub track_leaves : (old begun : ChipState) → is_size old.order.key.n ≡ true → IsFreeBehind old.front → Obeys (ReadTrack true) old begun → IsInRange begun.front.adapter.controller → Leaves (most_track_steps old.order) begun
 track_leaves old begun size free obeys range =
@@ -296,7 +282,7 @@ track_leaves old begun size free obeys range =
       track = track_begun (implies noted) old.order;
       at = sent.stage;
       some = all_left old.order.last_sector;
-      leaves = (65792, first_sector (implies noted) key old.order sent.set begun.front sent.stands refl sent.gives range, at_most (65792 + 131328 * sectors_of_track old.order));
+      leaves = (65792, first_sector (implies noted) key old.order sent.set begun.front sent.stands refl sent.gives range, (omega arith));
     }
 
 pub track_last : (calls : List Call) (old begun new : ChipState) → is_size old.order.key.n ≡ true → IsFreeBehind old.front → Obeys (ReadTrack true) old begun → IsSound begun → IsInRange begun.front.adapter.controller

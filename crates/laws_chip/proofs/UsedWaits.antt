@@ -65,9 +65,6 @@ obeys_free _ old new is = ap (λ (chip : ChipState). is_held_at chip.stage) is
 
 -- ---- a command that is held
 
-at_most : (n : ℕ) → n ≤ n
-at_most n = omega arith
-
 known_moves : (found : ChipOpcode) (byte : ℕ) (old begun : ChipState) → IsKnown old → byte < 256 → needs_heads found ≡ true → Completes found byte old → WritesChip 0x3F5 byte old begun → begun.stage ≡ Held → HeadsMove (heads_of begun) begun
 known_moves found byte old begun known few heads last writes held = either_way (still_moves old)
     (λ moves.
@@ -79,7 +76,7 @@ known_moves found byte old begun known few heads last writes held = either_way (
     let four = known.ranges.controller.seeks.pending in
     let runs = drained_runs start idle four (known.knows.tells (ap is_busy (started old begun known last))) in
     subst (λ chip. HeadsMove (heads_of chip) chip) (sym now)
-    (record { runs = runs; some = heads_some (drained start) (taken_idle start idle four) runs move; within = at_most (heads_of (drained start)) }))
+    (record { runs = runs; some = heads_some (drained start) (taken_idle start idle four) runs move; within = (omega arith) }))
     (λ stands.
     let done = byte_free found byte old begun known.sound few heads last writes stands in
     clash (is_held_at begun.stage) (obeys_free found done.set begun done.obeys) (ap is_held_at held))

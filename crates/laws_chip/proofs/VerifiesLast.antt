@@ -1,7 +1,7 @@
 -- A VERIFY is a READ DATA of the sequencer, whose bytes go nowhere, and it ends as that READ DATA does. So does a
 -- transfer.
 use Rattle.std.proofs.Common.{◌≡◌, ℕ, zero, suc, ◌+◌, ◌*◌, ◌<◌, Bool, true, false, ◌==◌, if◌then◌else◌, Option, Some, None, List, [], ◌∷◌, ◌++◌, refl, sym, ◌∙◌, ap, subst}
-use Rattle.laws_chip.proofs.Common.{false≢true, Results, IsInRange, Front, GivesTransfer, TakesAt, front_told, told_front, results_taken, size_of, FrontStage, Through, Seeking, Moving, Telling, Transfer, HasByteNumbers, is_under_way, most_steps, ChipState, with_front, Obeys, TransfersIf, implies, is_size, sectors_verified, transfer_sent, verifying, with_last, EndsAs, EndsSent, looks_for_cylinder, results_judged, verified, Follows, StepsChip, Swallows, SwallowsAs, VerifyCode, ChipStage, Busy, BeginsBehind, IsBegun, IsFreeBehind, AreServed, Call, Does, steps_in, steps_of, AreVerified, IsVerifying, has_command}
+use Rattle.laws_chip.proofs.Common.{false≢true, Results, IsInRange, Front, GivesTransfer, TakesAt, front_told, told_front, results_taken, size_of, FrontStage, Through, Seeking, Moving, Telling, Transfer, HasByteNumbers, is_under_way, most_steps, ChipState, with_front, Obeys, TransfersIf, implies, is_size, sectors_verified, transfer_sent, verifying, with_last, EndsAs, EndsSent, looks_for_cylinder, results_judged, verified, Follows, Swallows, SwallowsAs, VerifyCode, ChipStage, Busy, BeginsBehind, IsBegun, IsFreeBehind, AreServed, Call, Does, steps_in, steps_of, AreVerified, IsVerifying, has_command}
 use Rattle.laws_chip.specs.SectorCalls as behind
 use Rattle.laws_chip.specs.SectorLasting as lasting
 use Rattle.laws_chip.proofs.Called.{both_within}
@@ -130,16 +130,6 @@ verify_same (Some results) left old new still ends =
     let told = verified old.order results in
     absurd (false≢true (sym (verify_over (looks_for_cylinder old.order told) told (with_front (results_taken old.front) old) new ends) ∙ still))
 
-step_within : (left : ℕ) (old new : ChipState) → old.stage ≡ Busy (Verify left) → StepsChip old new → IsVerifying new → IsWithin 1 old.front new.front
-step_within left old new at step still =
-    let (set, all, may) = subst (λ stage. Follows stage (with_front step.between old) new) at step.follows in
-    let same = verify_same (results_judged set) left set new (ap is_verify still.verifies) may in
-    let front : new.front ≡ all.front = ap (λ (chip : ChipState). chip.front) same ∙ ap (λ (chip : ChipState). chip.front) all.after in
-    let under : is_under_way all.front.stage ≡ true = sym (ap (λ (f : Front). is_under_way f.stage) front) ∙ still.under_way in
-    let swallows = swallows_within 16 left all.now step.between all.front under all.swallows in
-    let one = one_within behind.Steps old.front step.between step.steps swallows.before in
-    subst (IsWithin 1 old.front) (sym front) (then_within 1 0 old.front step.between all.front one swallows.within)
-
 -- ---- ---- other calls
 
 pub makes_within : (b : Bool) (old new : Front) → Makes b old new → is_under_way new.stage ≡ true → IsWithin 0 old new
@@ -151,7 +141,14 @@ makes_within b old new (makes.Writes port value writes no_data quiet) under = on
 makes_within b old new (makes.Changes changes keeps) under = one_within behind.Changes old new keeps under
 
 pub call_within : (call : Call) (left : ℕ) (old new : ChipState) → old.stage ≡ Busy (Verify left) → Does call old new → IsVerifying new → IsWithin (steps_of call) old.front new.front
-call_within made.Steps left old new at does still = step_within left old new at does still
+call_within made.Steps left old new at does still =
+    let (set, all, may) = subst (λ stage. Follows stage (with_front does.between old) new) at does.follows in
+    let same = verify_same (results_judged set) left set new (ap is_verify still.verifies) may in
+    let front : new.front ≡ all.front = ap (λ (chip : ChipState). chip.front) same ∙ ap (λ (chip : ChipState). chip.front) all.after in
+    let under : is_under_way all.front.stage ≡ true = sym (ap (λ (f : Front). is_under_way f.stage) front) ∙ still.under_way in
+    let swallows = swallows_within 16 left all.now does.between all.front under all.swallows in
+    let one = one_within behind.Steps old.front does.between does.steps swallows.before in
+    subst (IsWithin 1 old.front) (sym front) (then_within 1 0 old.front does.between all.front one swallows.within)
 call_within call left old new at does still =
     makes_within (is_change call) old.front new.front (call_stays call (Verify left) old new does at refl (ap has_command still.verifies)).front still.under_way
 

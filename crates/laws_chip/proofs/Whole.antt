@@ -1,7 +1,6 @@
 -- A command from its beginning to its results.
 use Rattle.std.proofs.Common.{◌≡◌, inl, inr, ℕ, false, List, ◌++◌, refl, sym, ◌∙◌}
-use Rattle.laws_chip.proofs.Common.{AreWithin, Served, Front, Serves, all_bytes, nothing_moved, Operation, Read, Write, Telling, Transfer, Results}
-use Rattle.laws_chip.specs.SectorCalls.{Begins, Call}
+use Rattle.laws_chip.proofs.Common.{AreWithin, Served, Front, Serves, all_bytes, nothing_moved, Operation, Read, Write, Telling, Transfer, Results, SectorCallsBegins as Begins, SectorCallsCall as Call}
 use Rattle.laws_chip.proofs.Called.{calls_serve}
 use Rattle.laws_chip.proofs.Outcome.{passes_of, results_say}
 use Rattle.laws_chip.proofs.Served.{begins_serving}

@@ -1,13 +1,11 @@
 -- The last byte of a command: the inner controller is free for it, and it begins; or it is held until heads stand.
 use Rattle.std.proofs.Common.{if◌then◌else◌, ◌≡◌, ℕ, zero, suc, ◌+◌, ◌%◌, ◌<◌, nat_le, Bool, true, false, not, ◌||◌, ◌==◌, Option, Some, None, is_some, refl, sym, ◌∙◌, ap, subst}
-use Rattle.laws_chip.proofs.Common.{and_from, and_right, eqb-true, false≢true, or_parts, Front, is_ready, pending_outside, sensed_outside, ChipState, passes_by_channel, passes_by_port, with_front, code_of, parameters, Attends, AttendsIf, AttendsTo, drained, implies, is_moving, is_size, is_told, kept, moves_heads, needs_heads, transfer_sent, with_result, Paces, CollectsIf, ComesIf, GivesChipIf, GivesIf, ReadsAt, ReadsIf, TakesByte, TakesIf, WritesChip, latched_by, given_one, is_whole, may_come, reset_if, with_next, Follows, StepsChip, ChipOpcode, Specify, SenseInterrupt, DumpRegisters, Version, Perpendicular, Lock, Order, Ready, Held, BeginsUnless, Completes, CompletesTransfer, IsBegun, IsDoneFree, IsFreeBehind, IsHeldFor, IsTransferOf, completed, still_moves, Call, Does, is_reset, is_step, IsSound, RestsBehind}
+use Rattle.laws_chip.proofs.Common.{and_from, and_right, false≢true, or_parts, Front, is_ready, pending_outside, sensed_outside, ChipState, with_front, code_of, parameters, Attends, AttendsIf, AttendsTo, drained, implies, is_moving, is_size, is_told, kept, moves_heads, needs_heads, transfer_sent, with_result, Paces, CollectsIf, ComesIf, TakesByte, WritesChip, is_whole, may_come, with_next, Follows, StepsChip, ChipOpcode, Specify, SenseInterrupt, DumpRegisters, Version, Perpendicular, Lock, Order, Ready, Held, BeginsUnless, Completes, CompletesTransfer, IsBegun, IsDoneFree, IsFreeBehind, IsHeldFor, IsTransferOf, completed, still_moves, Call, Does, is_of_data_port, is_reset, is_step, waits_for_heads, IsSound, RestsBehind, TransferCode as Transfer}
 use Rattle.fdc_chip.specs.Doing.{drained_by}
-use Rattle.fdc_chip.specs.Ports.{count_told}
-use Rattle.fdc_chip.specs.declared.code.ChipOpcode.TheVariants.{Transfer}
 use Rattle.laws_chip.specs.Calls as made
 use Rattle.laws_chip.proofs.Attended.{free_stands}
 use Rattle.laws_chip.proofs.CommandsBegun.{transfer_begun}
-use Rattle.laws_chip.proofs.PassedOn.{other_read}
+use Rattle.laws_chip.proofs.HeadsKept.{call_heads, data_same}
 use Rattle.laws_chip.proofs.Rests.{IsResting, drained_rests}
 use Rattle.laws_chip.proofs.SoundCalls.{code_few, comes_free}
 use Rattle.laws_chip.proofs.SoundParts as parts
@@ -195,41 +193,9 @@ step_begins order old new step sound held whole =
 
 -- ---- ---- the command is held through each other call
 
-front_held : (order : Order) (old new : ChipState) → new ≡ with_front new.front old → IsHeldFor order old → IsHeldFor order new
-front_held order old new rest was =
-    record { held = ap (λ (chip : ChipState). chip.stage) rest ∙ was.held; order_is = ap (λ (chip : ChipState). chip.order) rest ∙ was.order_is }
-
-same_held : (order : Order) (old new : ChipState) → new ≡ old → IsHeldFor order old → IsHeldFor order new
-same_held order old new is was = subst (IsHeldFor order) (sym is) was
-
-takes_held : (b : Bool) (order : Order) (byte : Option ℕ) (old new : ChipState) → IsHeldFor order old → TakesIf b old byte new → IsHeldFor order new
-takes_held true order byte old new was (takes, rest) = front_held order old new rest was
-takes_held false order byte old new was (none, is) = same_held order old new is was
-
-gives_held : (b : Bool) (order : Order) (byte : ℕ) (given : Bool) (old new : ChipState) → IsHeldFor order old → GivesChipIf b byte old given new → IsHeldFor order new
-gives_held true order byte given old new was (gives, rest) = front_held order (given_one given old) new rest (record { held = was.held; order_is = was.order_is })
-gives_held false order byte given old new was (none, is) = same_held order old new is was
-
-read_held : (b : Bool) (order : Order) (value : ℕ) (old new : ChipState) → IsHeldFor order old → ReadsIf b old value new → IsHeldFor order new
-read_held true order value old new was reads = front_held order old new reads.rest was
-read_held false order value old new was (none, is) = same_held order old new is was
-
-write_held : (b : Bool) (order : Order) (value : ℕ) (old new : ChipState) → IsHeldFor order old → GivesIf b value old new → IsHeldFor order new
-write_held true order value old new was gives = front_held order (given_one gives.was old) new gives.rest (record { held = was.held; order_is = was.order_is })
-write_held false order value old new was is = same_held order old new is was
-
 pub call_held : (order : Order) (call : Call) (old new : ChipState) → IsHeldFor order old → Does call old new → is_step call ≡ false → is_reset call ≡ false → IsHeldFor order new
-call_held order made.Steps old new was does no_step no_reset = absurd (false≢true (sym no_step))
-call_held order (made.Takes byte) old new was does no_step no_reset = takes_held (passes_by_channel old) order byte old new was does
-call_held order (made.Gives byte given) old new was does no_step no_reset = gives_held (passes_by_channel old) order byte given old new was does
-call_held order made.Counts old new was does no_step no_reset = same_held order old new (subst (λ stage. new ≡ count_told stage old) was.held does) was
-call_held order (made.Reads port value) old new was does no_step no_reset = either_way (port == 0x3F5)
-    (λ here. read_held (passes_by_port old) order value old new was (subst (λ stage. ReadsAt stage old value new) was.held (does.byte (eqb-true port 0x3F5 here))))
-    (λ no_data. same_held order old new (other_read port value old new no_data does) was)
-call_held order (made.Writes port value) old new was does no_step no_reset = either_way (port == 0x3F5)
-    (λ here. write_held (passes_by_port old) order value old new was (subst (λ stage. TakesByte stage value old new) was.held (does.bytes (eqb-true port 0x3F5 here))))
-    (λ no_data. front_held order (latched_by port value old) new (subst (λ b. new ≡ with_front new.front (reset_if b (latched_by port value old))) no_reset (does.others no_data).1)
-    (record { held = was.held; order_is = was.order_is }))
-call_held order made.Changes old new was does no_step no_reset = front_held order old new does.rest was
-call_held order _ old new was does no_step no_reset =
-    record { held = ap (λ (chip : ChipState). chip.stage) does ∙ was.held; order_is = ap (λ (chip : ChipState). chip.order) does ∙ was.order_is }
+call_held order call old new was does no_step quiet = either_way (is_of_data_port call)
+    (λ here. subst (IsHeldFor order) (sym (data_same call old new was.held does here)) was)
+    (λ other.
+    let keeps = call_heads call old new (ap waits_for_heads was.held) does no_step quiet other in
+    record { held = keeps.stage ∙ was.held; order_is = keeps.order ∙ was.order_is })

@@ -1,8 +1,8 @@
 -- A command begins in an inner controller that is free: so many device steps at most are left of it.
 use Rattle.std.proofs.Common.{◌≡◌, inl, inr, ℕ, ◌+◌, ◌*◌, ◌≤◌, Bool, true, false, ◌&&◌, Some, [], refl, ◌∙◌, ap, subst, arith}
-use Rattle.laws_chip.proofs.Common.{and_parts, false≢true, Chrn, Numbers, BeginsData, Fdc, GivesCommand, size_of, FrontStage, Through, Seeking, Moving, Telling, Transfer, HasByteNumbers, HasByteRecords, is_under_way, most_steps, sectors_from, ServesAt, nothing_moved, ChipState, code_of, FormatsIf, Obeys, Refuses, TransfersIf, absent_key, formatting, identifying, implies, is_size, no_key, reading_one, sectors_of_track, sectors_verified, track_begun, transfer_sent, verifying, with_keys, with_last, ChipOpcode, Order, BeginsBehind, IsDoneFree, IsFreeBehind, IsWorking, most_steps_of, sectors_of, most_track_steps, IsSound}
+use Rattle.laws_chip.proofs.Common.{and_parts, false≢true, Chrn, Numbers, BeginsData, Fdc, GivesCommand, size_of, Transfer, is_under_way, most_steps, ChipState, code_of, FormatsIf, Obeys, Refuses, TransfersIf, absent_key, formatting, identifying, implies, is_size, no_key, reading_one, sectors_of_track, sectors_verified, track_begun, transfer_sent, verifying, with_keys, with_last, ChipOpcode, Order, BeginsBehind, IsDoneFree, IsFreeBehind, IsWorking, most_steps_of, sectors_of, most_track_steps, IsSound}
 use Rattle.fdc_commands.specs.declared.command.Command.TheVariants as command
-use Rattle.laws_chip.proofs.Lasted.{first_lasts}
+use Rattle.laws_chip.proofs.Lasted.{begun_records, first_lasts}
 use Rattle.fdc_chip.specs.declared.code.ChipOpcode.TheVariants as code
 use Rattle.fdc_chip.specs.declared.stage.ChipTask.TheVariants as task
 use Rattle.laws_chip.proofs.BusyLeft.{BusyLeft, ServedLeft, leaves_left, more_left}
@@ -58,41 +58,26 @@ format_begins true mfm old new stands is begins =
     }
 format_begins false mfm old new stands is begins = refused_begins no_key mfm old new stands begins
 
-format_starts : (mfm : Bool) (old new : ChipState) → IsFreeBehind old.front → Obeys (code.FormatTrack mfm) old new → BusyLeft 65536 new
-format_starts mfm old new free obeys =
-    let set = with_keys old.order.key.h (with_last old.order.key.h old) in
-    format_begins (mfm && is_size old.order.key.c) mfm set new (stands_free old.front free) refl obeys
-
 -- ---- ---- a command of sectors
-
--- the numbers of the first sector are those of the sequencer
-first_records : (stage : FrontStage) (first : Transfer) (fdc : Fdc) → ServesAt stage first (nothing_moved false) fdc → is_under_way stage ≡ true → HasByteNumbers stage → HasByteRecords first
-first_records Through first fdc now under bytes = absurd now
-first_records (Telling results) first fdc now under bytes = absurd (false≢true under)
-first_records (Seeking at counted) first fdc (here, nothing) under bytes = subst HasByteRecords here bytes
-first_records (Moving moving) first fdc (here, counts, carries) under bytes = subst HasByteRecords here bytes
-
-one_more : (sectors : ℕ) → 256 + 65536 * sectors + 65536 ≤ 256 + 65536 * (sectors + 1)
-one_more sectors = omega arith
 
 order_left : (seeks : Bool) (order : Order) (new : ChipState) → BeginsBehind (transfer_sent seeks order) new.front → is_under_way new.front.stage ≡ true → IsWorking new → ServedLeft (256 + 65536 * (sectors_of order + 1)) new
 order_left seeks order new begins under working =
     let first = transfer_sent seeks order in
-    let records = first_records new.front.stage first new.front.adapter.controller begins.serves.now under working.ranges.records in
+    let records = begun_records new.front.stage first new.front.adapter.controller begins.serves.now under working.ranges.records in
     record {
       under = under;
       here = most_steps first;
       lasts = first_lasts first begins.start new.front begins.begins (λ more. records) working.ranges.controller;
-      few = one_more (sectors_from first);
+      few = omega arith;
     }
 
-some_sectors : (sectors : ℕ) → 65536 ≤ 256 + 65536 * (sectors + 1)
-some_sectors sectors = omega arith
-
 -- the medium can't have such a command
+refused_left : (n : ℕ) (mfm : Bool) (old new : ChipState) → 65536 ≤ n → IsFreeBehind old.front → Refuses old.order.key mfm (with_last old.order.last_sector old) new → BusyLeft n new
+refused_left n mfm old new some free refuses =
+    more_left 65536 n new some (refused_begins old.order.key mfm (with_last old.order.last_sector old) new (stands_free old.front free) refuses)
+
 refused_sectors : (sectors : ℕ) (mfm : Bool) (old new : ChipState) → IsFreeBehind old.front → Refuses old.order.key mfm (with_last old.order.last_sector old) new → BusyLeft (256 + 65536 * (sectors + 1)) new
-refused_sectors sectors mfm old new free refuses =
-    more_left 65536 (256 + 65536 * (sectors + 1)) new (some_sectors sectors) (refused_begins old.order.key mfm (with_last old.order.last_sector old) new (stands_free old.front free) refuses)
+refused_sectors sectors mfm old new free refuses = refused_left (256 + 65536 * (sectors + 1)) mfm old new (omega arith) free refuses
 
 transfer_starts : (mfm : Bool) (old new : ChipState) → IsFreeBehind old.front → Obeys (code.Transfer mfm) old new → IsWorking new → BusyLeft (most_steps_of (code.Transfer mfm) old.order) new
 transfer_starts false old new free obeys working = refused_sectors (sectors_of old.order) false old new free obeys
@@ -112,12 +97,8 @@ verify_starts true old new free obeys working = either_way (is_size old.order.ke
     refused_sectors (sectors_of (verifying old.order)) true old new free
     (subst (λ b. TransfersIf b true (task.Verify (sectors_verified old.order * size_of old.order.key.n)) (verifying old.order) (with_last old.order.last_sector old) new) unsized obeys))
 
-some_track : (left : ℕ) → 65536 ≤ 65792 + 131328 * left
-some_track left = omega arith
-
 refused_track : (left : ℕ) (mfm : Bool) (old new : ChipState) → IsFreeBehind old.front → Refuses old.order.key mfm (with_last old.order.last_sector old) new → BusyLeft (65792 + 131328 * left) new
-refused_track left mfm old new free refuses =
-    more_left 65536 (65792 + 131328 * left) new (some_track left) (refused_begins old.order.key mfm (with_last old.order.last_sector old) new (stands_free old.front free) refuses)
+refused_track left mfm old new free refuses = refused_left (65792 + 131328 * left) mfm old new (omega arith) free refuses
 
 track_starts : (mfm : Bool) (old new : ChipState) → IsFreeBehind old.front → Obeys (code.ReadTrack mfm) old new → IsWorking new → BusyLeft (most_steps_of (code.ReadTrack mfm) old.order) new
 track_starts false old new free obeys working = refused_track (sectors_of_track old.order) false old new free obeys
@@ -141,7 +122,9 @@ is_data _ = false
 starts : (found : ChipOpcode) (old new : ChipState) → is_data found ≡ true → IsSound new → code_of old.order.code ≡ Some found → IsFreeBehind old.front → Obeys found old new → IsWorking new
     → BusyLeft (most_steps_of found old.order) new
 starts (code.ReadId mfm) old new kind sound is free obeys working = id_starts mfm old new sound is free obeys
-starts (code.FormatTrack mfm) old new kind sound is free obeys working = format_starts mfm old new free obeys
+starts (code.FormatTrack mfm) old new kind sound is free obeys working =
+    let set = with_keys old.order.key.h (with_last old.order.key.h old) in
+    format_begins (mfm && is_size old.order.key.c) mfm set new (stands_free old.front free) refl obeys
 starts (code.Transfer mfm) old new kind sound is free obeys working = transfer_starts mfm old new free obeys working
 starts (code.Verify mfm) old new kind sound is free obeys working = verify_starts mfm old new free obeys working
 starts (code.ReadTrack mfm) old new kind sound is free obeys working = track_starts mfm old new free obeys working

@@ -69,9 +69,6 @@ held_works found order call old new kind is sound held does quiet = either_way (
 none_left : (n : ℕ) → 0 < n → n ≤ 0 → ⊥
 none_left n some none = omega arith
 
-fewer_left : (n steps more : ℕ) → n ≤ steps + more → n - steps ≤ more
-fewer_left n steps more few = omega arith
-
 module _ (found : ChipOpcode) (order : Order) (kind : is_data found ≡ true) (heads : needs_heads found ≡ true) (is : code_of order.code ≡ Some found) where
   -- a command that is over after a call was executed, and its results are told
   over_tells : (n : ℕ) (call : Call) (old new : ChipState) → IsSound old → WorkLeft (most_steps_of found order) order n old → Does call old new → is_reset call ≡ false → has_command new.stage ≡ false
@@ -88,7 +85,7 @@ module _ (found : ChipOpcode) (order : Order) (kind : is_data found ≡ true) (h
       (λ works.
       let still = call_sound call old between does writes sound in
       let working : IsWorking between = record { works = works; ranges = ranges } in
-      inr (works, works_end calls (n - steps_of call) between new still working (work_call found order kind heads is call n old between sound still worked working was does) rest (fewer_left n (steps_of call) (steps_in calls) many)))
+      inr (works, works_end calls (n - steps_of call) between new still working (work_call found order kind heads is call n old between sound still worked working was does) rest (omega arith)))
       (λ over. inl (over_tells n call old between sound was does quiet over))
 
 pub given_ends : (found : ChipOpcode) → is_data found ≡ true → needs_heads found ≡ true → (wait byte : ℕ) (calls : List Call) (old begun new : ChipState) → IsGiven wait found byte old begun → (are : AreWithoutReset calls begun new)

@@ -1,10 +1,11 @@
 -- A command that was given ends: it waits for heads, if it is held, and each of its device steps leaves fewer.
-use Rattle.std.proofs.Common.{◌≡◌, ◌⊎◌, inl, inr, ℕ, zero, suc, ◌+◌, ◌-◌, ◌<◌, ◌≤◌, true, false, not, ◌&&◌, ◌==◌, Option, Some, List, [], ◌∷◌, refl, sym, ◌∙◌, ap, subst, arith}
-use Rattle.laws_chip.proofs.Common.{and_left, and_right, eqb-true, false≢true, ChipState, passes, passes_at, passes_by_port, code_of, implies, needs_heads, is_format, GivesIf, ReadsAt, ReadsIf, TakesByte, is_by_port, ChipOpcode, Order, Held, IsHeldFor, completed, still_moves, AreWorking, IsGiven, HeadsMove, IsWorking, WaitsFor, heads_of, most_steps_of, Call, Does, is_reset, is_step, steps_in, steps_of, HeadsPaced, is_of_data_port, HeadsGo, IsSoundInRange, most_of, IsSound}
+use Rattle.std.proofs.Common.{◌≡◌, ◌⊎◌, inl, inr, ℕ, zero, suc, ◌+◌, ◌-◌, ◌<◌, ◌≤◌, true, false, ◌&&◌, ◌==◌, Option, Some, List, [], ◌∷◌, refl, sym, ◌∙◌, subst, arith}
+use Rattle.laws_chip.proofs.Common.{false≢true, ChipState, code_of, implies, needs_heads, ChipOpcode, Order, Held, IsHeldFor, completed, still_moves, AreWorking, IsGiven, HeadsMove, IsWorking, WaitsFor, heads_of, most_steps_of, Call, Does, is_reset, is_step, steps_in, steps_of, HeadsPaced, is_of_data_port, HeadsGo, IsSoundInRange, most_of, IsSound}
 use Rattle.laws_chip.specs.Bounds as bounds
 use Rattle.laws_chip.specs.Calls as made
 use Rattle.laws_chip.proofs.BusyLeft.{BusyLeft, call_left, left_positive, more_left}
 use Rattle.laws_chip.proofs.HeadsGoing.{heads_some}
+use Rattle.laws_chip.proofs.HeadsKept.{data_same}
 use Rattle.laws_chip.proofs.HeadsWait.{move_call, move_step}
 use Rattle.laws_chip.proofs.NextStages.{works_quiet}
 use Rattle.laws_chip.proofs.PulsesGoing.{paced_some}
@@ -30,21 +31,6 @@ WorkLeft most order n chip = BusyLeft n chip ⊎ HeldLeft most n order chip
 
 -- ---- a call that is no device step
 
--- a held command passes no bytes
-none_pass : (chip : ChipState) → chip.stage ≡ Held → passes_by_port chip ≡ false
-none_pass chip at =
-    and_right (is_by_port chip.settings) (passes chip) (and_left (passes_at chip.stage) (not (is_format chip.order && (chip.keys == 0))) (ap passes_at at))
-
--- an access of the data port leaves all as it is
-data_same : (call : Call) (old new : ChipState) → old.stage ≡ Held → Does call old new → is_of_data_port call ≡ true → new ≡ old
-data_same (made.Reads port value) old new at does here =
-    let reads : ReadsIf (passes_by_port old) old value new = subst (λ stage. ReadsAt stage old value new) at (does.byte (eqb-true port 0x3F5 here)) in
-    (subst (λ b. ReadsIf b old value new) (none_pass old at) reads).1
-data_same (made.Writes port value) old new at does here =
-    let gives : GivesIf (passes_by_port old) value old new = subst (λ stage. TakesByte stage value old new) at (does.bytes (eqb-true port 0x3F5 here)) in
-    subst (λ b. GivesIf b value old new) (none_pass old at) gives
-data_same _ old new at does here = absurd (false≢true here)
-
 other_waits : (wait : ℕ) (call : Call) (old new : ChipState) → old.stage ≡ Held → WaitsFor wait old → Does call old new → is_step call ≡ false → is_reset call ≡ false → is_of_data_port call ≡ false → WaitsFor wait new
 other_waits wait call old new at (bounds.move was) does no_step quiet other = bounds.move (move_call wait call old new at does no_step quiet other was)
 other_waits wait call old new at (bounds.go drive goal was) does no_step quiet other = bounds.go drive goal (call_going wait drive goal Held call old new refl was does no_step quiet other)
@@ -66,26 +52,11 @@ held_call most n order call old new was does no_step quiet = record {
 
 -- ---- ---- a device step
 
-one_waited : (wait most n : ℕ) → wait + 1 + most ≤ n → wait + most ≤ n - 1
-one_waited wait most n few = omega arith
-
-all_waited : (wait most n : ℕ) → wait + 1 + most ≤ n → most ≤ n - 1
-all_waited wait most n few = omega arith
-
 pulse_waited : (pulses goal wait most n : ℕ) → pulses + 1 + goal ≤ wait → wait + most ≤ n → (pulses + goal ≤ wait - 1) × (wait - 1 + most ≤ n - 1)
 pulse_waited pulses goal wait most n more few = (omega arith, omega arith)
 
-pulses_waited : (pulses goal wait most n : ℕ) → pulses + 1 + goal ≤ wait → wait + most ≤ n → goal + most ≤ n - 1
-pulses_waited pulses goal wait most n more few = omega arith
-
 move_some : (all left : ℕ) → 1 ≤ all → all ≤ left → 1 ≤ left
 move_some all left some few = omega arith
-
-move_waited : (wait most n : ℕ) → 1 ≤ wait → wait + most ≤ n → wait - 1 + most ≤ n - 1
-move_waited wait most n some few = omega arith
-
-move_done : (wait most n : ℕ) → 1 ≤ wait → wait + most ≤ n → most ≤ n - 1
-move_done wait most n some few = omega arith
 
 next : (n : ℕ) → suc n ≡ n + 1
 next n = omega arith
@@ -99,8 +70,8 @@ module _ (found : ChipOpcode) (order : Order) (kind : is_data found ≡ true) (h
   go_step (suc wait) n drive goal old new sound still working held was few does =
       let all : wait + 1 + most ≤ n = subst (λ m. m + most ≤ n) (next wait) few in
       elim (held_step wait drive goal found order old new sound held is heads (subst (λ m. HeadsGo m drive goal Held old) (next wait) was) does) [
-        | inl (on, going) ↦ inr (record { held = on; wait = wait; waits = bounds.go drive goal going; few = one_waited wait most n all })
-        | inr done ↦ inl (more_left most (n - 1) new (all_waited wait most n all) (done_left found order (implies old) new kind still is done working))
+        | inl (on, going) ↦ inr (record { held = on; wait = wait; waits = bounds.go drive goal going; few = (omega arith) })
+        | inr done ↦ inl (more_left most (n - 1) new (omega arith) (done_left found order (implies old) new kind still is done working))
       ]
 
   pace_step : (pulses wait n drive : ℕ) (goal : Option ℕ) (old new : ChipState) → IsSoundInRange old → IsSoundInRange new → IsHeldFor order old → HeadsPaced pulses drive goal Held old → pulses + most_of goal ≤ wait → wait + most ≤ n
@@ -113,15 +84,15 @@ module _ (found : ChipOpcode) (order : Order) (kind : is_data found ≡ true) (h
         | inl going ↦
             let (fewer, left) = pulse_waited pulses (most_of goal) wait most n all few in
             inr (record { held = on; wait = wait - 1; waits = bounds.pace pulses drive goal going fewer; few = left })
-        | inr going ↦ inr (record { held = on; wait = most_of goal; waits = bounds.go drive goal going; few = pulses_waited pulses (most_of goal) wait most n all few })
+        | inr going ↦ inr (record { held = on; wait = most_of goal; waits = bounds.go drive goal going; few = (omega arith) })
       ]
 
   moved_step : (wait n : ℕ) (old new : ChipState) → IsSound old → IsSound new → IsWorking old → IsWorking new → IsHeldFor order old → HeadsMove wait old → wait + most ≤ n → Does made.Steps old new → WorkLeft most order (n - 1) new
   moved_step wait n old new sound still worked working held was few does =
       let some = move_some (heads_of old) wait was.some was.within in
       elim (move_step wait found order old new sound worked.ranges.controller working.ranges.controller held is heads was does) [
-        | inl (on, going) ↦ inr (record { held = on; wait = wait - 1; waits = bounds.move going; few = move_waited wait most n some few })
-        | inr done ↦ inl (more_left most (n - 1) new (move_done wait most n some few) (done_left found order (implies old) new kind still is done working))
+        | inl (on, going) ↦ inr (record { held = on; wait = wait - 1; waits = bounds.move going; few = (omega arith) })
+        | inr done ↦ inl (more_left most (n - 1) new (omega arith) (done_left found order (implies old) new kind still is done working))
       ]
 
   held_by_step : (n : ℕ) (old new : ChipState) → IsSound old → IsSound new → IsWorking old → IsWorking new → HeldLeft most n order old → Does made.Steps old new → WorkLeft most order (n - 1) new
@@ -174,12 +145,6 @@ module _ (found : ChipOpcode) (order : Order) (kind : is_data found ≡ true) (h
 
 -- ---- the last byte
 
-at_most : (wait most : ℕ) → most ≤ wait + most
-at_most wait most = omega arith
-
-same_most : (n : ℕ) → n ≤ n
-same_most n = omega arith
-
 -- the command begins, or is held
 pub given_left : (wait : ℕ) (found : ChipOpcode) (byte : ℕ) (old begun : ChipState) → is_data found ≡ true → needs_heads found ≡ true → IsGiven wait found byte old begun
     → WorkLeft (most_steps_of found (completed byte old)) (completed byte old) (wait + most_steps_of found (completed byte old)) begun
@@ -191,10 +156,10 @@ given_left wait found byte old begun kind heads given =
     (λ moves.
     let held = attended_held found (attending byte old) begun (byte_attends found byte old begun given.sound given.few heads given.last given.writes) heads
     (same_moves (attending byte old) old refl refl ∙ moves) in
-    inr (record { held = held; wait = wait; waits = given.waits held.held; few = same_most (wait + most) }))
+    inr (record { held = held; wait = wait; waits = given.waits held.held; few = (omega arith) }))
     (λ stands.
     let done = byte_free found byte old begun given.sound given.few heads given.last given.writes stands in
-    inl (more_left most (wait + most) begun (at_most wait most) (done_left found order (implies old) begun kind still given.last.whole done given.working)))
+    inl (more_left most (wait + most) begun (omega arith) (done_left found order (implies old) begun kind still given.last.whole done given.working)))
 
 pub given_lasts : (found : ChipOpcode) → is_data found ≡ true → needs_heads found ≡ true → (wait byte : ℕ) (calls : List Call) (old begun new : ChipState) → IsGiven wait found byte old begun → AreWorking calls begun new
     → steps_in calls < wait + most_steps_of found (completed byte old)

@@ -1,9 +1,6 @@
 -- Whatever history the calls gather, the sectors are the same, and so are the bytes that were taken of each.
 use Rattle.std.proofs.Common.{◌≡◌, inl, inr, ℕ, suc, ◌-◌, ◌==◌, Bool, true, false, Option, Some, None, List, [], ◌∷◌, ◌++◌, length, refl, sym, ◌∙◌, ap, subst}
-use Rattle.laws_chip.proofs.Common.{Disk, Results, has_ended_seek, Past, Ending, Done, gave, told_in, IsContent, took, WordTime, after_time, ending_told, mark_of, Fdc, Front, goes_on, is_unwanted, judged_if, MovingSector, FrontStage, Seeking, Moving, Transfer, AreWithin, Counts, Gather, Gives, Grows, Steps, Takes, History, Part, history_counted, history_ended, history_given, history_moved, history_sought, history_stepped, history_taken, sector_after, AreWritten, HasWindow, IsDone, IsWrittenTo}
-use Rattle.laws_chip.specs.SectorCalls.{Call, Does}
-use Rattle.laws_chip.specs.Media.{Place}
-use Rattle.laws_chip.specs.Written.{IsBegun}
+use Rattle.laws_chip.proofs.Common.{Disk, Results, has_ended_seek, Past, Ending, Done, gave, told_in, IsContent, took, WordTime, after_time, ending_told, mark_of, Fdc, Front, goes_on, judged_if, MovingSector, FrontStage, Seeking, Moving, Transfer, AreWithin, Counts, Gather, Gives, Grows, Steps, Takes, History, Part, history_counted, history_ended, history_given, history_moved, history_sought, history_stepped, history_taken, sector_after, AreWritten, HasWindow, IsDone, IsWrittenTo, MediumPlace as Place, SectorCallsCall as Call, SectorCallsDoes as Does, WrittenIsBegun as IsBegun}
 use Rattle.laws_chip.proofs.Known.{time_counted, time_taken}
 
 -- the same sectors, and the same bytes were taken of each
@@ -44,10 +41,7 @@ told_same true past now (taken, counted) = (taken, refl)
 told_same false past now same = same
 
 time_same : (time again : WordTime) (past now : Past) → IsSame past now → IsSame (after_time time past) (after_time again now)
-time_same time again past now (taken, counted) = (
-  time_taken time past ∙ (taken ∙ sym (time_taken again now)),
-  time_counted time past ∙ (counted ∙ sym (time_counted again now)),
-)
+time_same time again past now (taken, counted) = search (time_taken, time_counted)
 
 with_past : (one other : History) (past now : Past) → IsAlike one other → IsSame past now → IsAlike (record one { past = past }) (record other { past = now })
 with_past one other past now was same = record { parts = was.parts; past = same }
@@ -63,8 +57,7 @@ ended_alike false at marked past now one other same was = with_past one other pa
 
 moved_alike : (ending : Option Ending) (moving : MovingSector) (mark : Option Bool) (past now : Past) (one other : History) → IsSame past now → IsAlike one other
     → IsAlike (history_moved ending moving mark past one) (history_moved ending moving mark now other)
-moved_alike None moving mark past now one other same was =
-    with_past one other (told_in (is_unwanted moving mark) past) (told_in (is_unwanted moving mark) now) was (told_same (is_unwanted moving mark) past now same)
+moved_alike None moving mark past now one other same was = search (with_past, told_same)
 moved_alike (Some (Done marked)) moving mark past now one other same was = ended_alike (goes_on moving marked) moving.transfer marked past now one other same was
 moved_alike (Some ending) moving mark past now one other same was = with_past one other past now was same
 
@@ -75,14 +68,12 @@ stepped_alike (Moving moving) time again fdc one other was =
 stepped_alike stage time again fdc one other was = was
 
 taken_alike : (stage : FrontStage) (byte : Option ℕ) (one other : History) → IsAlike one other → IsAlike (history_taken stage byte one) (history_taken stage byte other)
-taken_alike (Moving moving) None one other was = was
 taken_alike (Moving moving) (Some byte) one other was =
     let last = moving.left - 1 == 0 in
     with_past one other (told_in last (gave byte one.past)) (told_in last (gave byte other.past)) was (told_same last (gave byte one.past) (gave byte other.past) was.past)
 taken_alike stage byte one other was = was
 
 given_alike : (stage : FrontStage) (byte : ℕ) (given : Bool) (one other : History) → IsAlike one other → IsAlike (history_given stage byte given one) (history_given stage byte given other)
-given_alike (Moving moving) byte false one other was = was
 given_alike (Moving moving) byte true one other was =
     let last = moving.left - 1 == 0 in
     with_past one other (told_in last (took byte one.past)) (told_in last (took byte other.past)) was

@@ -1,11 +1,7 @@
 -- A write over a medium that stays in, through a device step: the sector goes on, or it is over. Then the next one
 -- begins, or results are given.
 use Rattle.std.proofs.Common.{◌≡◌, inl, inr, ℕ, zero, suc, ◌≤◌, ◌==◌, Bool, true, false, not, ◌&&◌, if◌then◌else◌, Option, Some, None, List, [], ◌∷◌, ◌++◌, length, refl, sym, ◌∙◌, ap, subst, arith}
-use Rattle.laws_chip.proofs.Common.{and_parts, false≢true, Disk, IsSizeCode, has_ended_seek, is_begun, Results, Past, new_past, Ending, Done, told_in, head_of, Phase, Execute, Result, Works, is_executing, is_taking, takes_in, is_held, polled, WordTime, IsTime, after_time, ending_told, given_up, given_up_if, is_idle, mark_of, without_seek, MayWrite, Fdc, AdapterState, StepsAdapter, drive_at, selected_at, Front, begun_if, moving_of, told_if, with_controller, EndsIf, EndsSector, FollowsStep, MovesOn, SeeksOn, StepsFront, goes_on, has_met_other, is_unwanted, judged_if, passed_over_if, results_behind, results_failed, is_other, is_skipping, next_of, size_of, Operation, Write, MovingSector, FrontStage, Through, Seeking, Moving, Telling, Transfer, Grows, Steps, IsClean, AreMoved, History, IsMoved, IsTimeOf, MayMove, Part, Passes, PassesAt, Serves, ServesAt, StopsAtEnd, bytes_moved, history_ended, history_moved, history_sought, history_stepped, sector_after, sent_of, AreWritten, HasWindow, IsOverCylinder, IsOverCylinderWhile}
-use Rattle.fdc_phases.specs.declared.phases.Phase.TheVariants.{Command}
-use Rattle.fdc_sequencer.specs.Moves.{judged}
-use Rattle.laws_chip.specs.SectorCalls.{Call, Does}
-use Rattle.laws_chip.specs.Media.{Place}
+use Rattle.laws_chip.proofs.Common.{and_parts, false≢true, Disk, IsSizeCode, has_ended_seek, is_begun, Results, Past, new_past, Ending, Done, told_in, head_of, Phase, Execute, Result, Works, is_executing, is_taking, takes_in, is_held, polled, WordTime, IsTime, after_time, ending_told, given_up, given_up_if, is_idle, mark_of, without_seek, MayWrite, Fdc, AdapterState, StepsAdapter, drive_at, selected_at, Front, begun_if, moving_of, told_if, with_controller, EndsIf, EndsSector, FollowsStep, MovesOn, SeeksOn, StepsFront, goes_on, has_met_other, is_unwanted, judged_if, passed_over_if, results_behind, results_failed, is_other, is_skipping, next_of, size_of, Operation, Write, MovingSector, FrontStage, Through, Seeking, Moving, Telling, Transfer, Grows, Steps, IsClean, AreMoved, History, IsMoved, IsTimeOf, MayMove, Part, Passes, PassesAt, Serves, ServesAt, StopsAtEnd, bytes_moved, history_ended, history_moved, history_sought, history_stepped, sector_after, sent_of, AreWritten, HasWindow, IsOverCylinder, IsOverCylinderWhile, Taking as Command, front_judged as judged, MediumPlace as Place, SectorCallsCall as Call, SectorCallsDoes as Does}
 use Rattle.laws_chip.proofs.Called.{call_serves}
 use Rattle.laws_chip.proofs.Courses.{sector_more, sector_opcode, written_whole}
 use Rattle.laws_chip.proofs.Known.{BadGoes, KnownOn, MarkGoes, polled_rate, time_counted, time_taken, which_drive}
@@ -241,7 +237,7 @@ module _ (place : Place) (deleted : Bool) (first : Transfer) (writes : first.opc
       let works = bay_works place.bay old.adapter between placed.bay placed.selects step.steps in
       let may : MayWrite history.past (sent_of moving.transfer) deleted fdc = subst (λ o. MayMove o history.past (sent_of moving.transfer) fdc) writes carries.moves in
       let timed = timed_in place moving.transfer deleted underway.disk history.past (drive_at old.adapter place.bay) (drive_at between place.bay) (polled fdc) between.controller fdc.asking fdc.fifo underway.like.valid
-      (polled_rate (fdc.poll_due && not (is_held fdc)) fdc ∙ placed.rate)
+      (polled_rate fdc ∙ placed.rate)
       (subst (λ a. IsAtSector place a underway.disk history.past true (drive_at old.adapter place.bay)) (sym there) underway.sector) fdc.phase carries.busy may works.writes in
       let now = after_time timed.time history.past in
       let known : KnownOn operation history.past (sent_of moving.transfer) (mark_of fdc) (λ _. Unit {0}) between.controller = record {

@@ -1,15 +1,11 @@
 -- A write at the drive of its medium: a word time, and what a sector that is over left there.
 use Rattle.std.proofs.Common.{◌≡◌, inl, inr, ℕ, ◌+◌, ◌*◌, ◌<◌, ◌≤◌, Bool, true, false, Some, None, List, [], ◌++◌, length, get_or, take, refl, sym, ◌∙◌, ap, subst, arith, length-append}
-use Rattle.laws_chip.proofs.Common.{false≢true, get_or-append, append-nil, ext_get_or, get_or-take, length-take, last_count, Chrn, Disk, IsDisk, IsWithTrack, IsAddressAt, content_size, DriveState, Fifo, Past, new_past, HasBegun, IsFirstOf, WritesWhole, Ending, Sent, told_in, ending_of_phase, head_of, IsContent, MayWriteIn, MayWriteTask, Long, Phase, Execute, Result, Task, is_executing, WordTime, IsTime, after_time, WritesIn, WritesTask, MayWrite, Fdc, start_of, Outset, track_heard, ArePut, IsAtWindow, start_in, IsTurningIn, led, turn_led, address_heard, address_in, heard_met, drive_at, Front, Transfer, StopsAtEnd, sent_of, HasWindow, HasWords, IsOverCylinder, KeepsSpeed, StaysPut, track_on}
+use Rattle.laws_chip.proofs.Common.{false≢true, get_or-append, append-nil, ext_get_or, get_or-take, length-take, last_count, Chrn, Disk, IsDisk, IsWithTrack, IsAddressAt, content_size, DriveState, Fifo, Past, new_past, HasBegun, IsFirstOf, WritesWhole, Ending, Sent, told_in, ending_of_phase, head_of, IsContent, MayWriteIn, MayWriteTask, Long, Phase, Execute, Result, Task, is_executing, WordTime, IsTime, after_time, WritesIn, WritesTask, MayWrite, Fdc, start_of, Outset, track_heard, ArePut, IsAtWindow, start_in, IsTurningIn, led, turn_led, address_heard, address_in, heard_met, drive_at, Front, Transfer, StopsAtEnd, sent_of, HasWindow, HasWords, IsOverCylinder, KeepsSpeed, StaysPut, track_on, Taking as Command, WriteTask as Write, MediumPlace as Place, WrittenIsBegun as IsBegun}
 use Rattle.flop_base.specs.Lists.{with_items}
 use Rattle.sector_map.proofs.RegularTracks.{length-track_of}
 use Rattle.track_model.specs.Windows.{IsCuttable, cut_of, window_word}
 use Rattle.track_model.specs.Writing.{window}
 use Rattle.track_model.proofs.Written.{length-window}
-use Rattle.fdc_phases.specs.declared.phases.Phase.TheVariants.{Command}
-use Rattle.fdc_phases.specs.declared.phases.Task.TheVariants.{Write}
-use Rattle.laws_chip.specs.Media.{Place}
-use Rattle.laws_chip.specs.Written.{IsBegun}
 use Rattle.laws_chip.proofs.Known.{write_stops}
 use Rattle.laws_chip.proofs.LateWriting.{IsWindowLed, window_bytes, window_first, window_over, window_stays, window_timed}
 
@@ -58,8 +54,7 @@ sector_begins place at disk front is medium like =
 -- whatever bytes were moved
 pub sector_moves : (place : Place) (at : Transfer) (disk : Disk) (past : Past) (executes : Bool) (drive : DriveState) (given taken : List ℕ) (counted : Bool) → IsAtSector place at disk past executes drive
     → IsAtSector place at disk (record past { given = given; taken = taken; counted = counted }) executes drive
-sector_moves place at disk past executes drive given taken counted (from, since, was, began) =
-    (from, since, window_bytes (outset_on place at disk from since) past executes drive given taken counted was, began)
+sector_moves place at disk past executes drive given taken counted (from, since, was, began) = grind (arith, window_bytes)
 
 pub sector_told : (place : Place) (at : Transfer) (disk : Disk) (past : Past) (executes : Bool) (drive : DriveState) (b : Bool) → IsAtSector place at disk past executes drive
     → IsAtSector place at disk (told_in b past) executes drive

@@ -1,4 +1,5 @@
-use Rattle.laws_chip.proofs.PassedOn.{call_serving, step_goes_on}
+use Rattle.laws_chip.proofs.NextStages.{call_serving}
+use Rattle.laws_chip.proofs.PassedOn.{step_goes_on}
 use Rattle.laws_chip.proofs.transfers.a_served_chip_goes_on.Goals as goal
 
 pub returns-clause-steps : goal.returns-clause-steps
