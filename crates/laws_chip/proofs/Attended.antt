@@ -1,15 +1,12 @@
 -- A whole command of a sound chip: it is done, begun or held, and the chip stays sound.
 use Rattle.std.proofs.Common.{◌≡◌, inl, inr, ℕ, ◌*◌, ◌<◌, ◌%◌, Bool, true, false, ◌&&◌, ◌==◌, if◌then◌else◌, Option, Some, None, [], is_some, bit_and, slice_index, refl, sym, ◌∙◌, ap, subst, arith}
 use Rattle.laws_chip.proofs.Common.{and_parts, or_parts, pulses_within, seek_bits, with_motion, Command, Motion, Outward, Toward, is_idle, Fdc, Front, GivesCommand, GivesTransfer, with_controller, recalibrated_at, recalibrated_outside, size_of, ChipState, KeepsRest, code_of, AttendsIf, AttendsTo, Begins, BeginsReadId, FormatsIf, GivesOn, MovesIf, Obeys, Transfers, TransfersIf, absent_key, configured, configuring, drained, formatting, identifying, implies, is_moving, is_size, moves_heads, moving, needs_heads, no_key, reading_one, ready, relative_target, sectors_verified, track_begun, transfer_sent, verifying, with_keys, with_last, cylinder_of, ChipOpcode, ReadTrack, Recalibrate, ReadId, FormatTrack, Seek, RelativeSeek, Configure, Verify, Order, Ready, ChipTask, IsOfFour, ExecutesBehind, IsBusyWith, IsSound, RestsBehind, ServesBehind, TransferCode as Transfer}
+use Rattle.laws_chip.proofs.CommandsBegun.{IsSent, begins_sent, configured_stands, sought_sent}
+use Rattle.laws_chip.proofs.Rests.{IsResting, base_on, base_same, drained_rests, stands_rests, format_executes, id_executes}
+use Rattle.laws_chip.proofs.SoundParts.{IsBasis, basis_busy, basis_rests, basis_same, basis_set, is_busy, first_serves}
+use Rattle.laws_chip.proofs.UnderWay.{IsObeyed, Stands, format_obeyed, given_obeyed, heads_stand, IsBase}
 use Rattle.fdc_commands.specs.declared.command.Command.TheVariants as command
 use Rattle.fdc_chip.specs.declared.stage.ChipTask.TheVariants as task
-use Rattle.laws_chip.proofs.CommandsBegun.{IsSent, begins_sent, configured_stands, sought_sent}
-use Rattle.laws_chip.proofs.FirstSectors.{IsBase}
-use Rattle.laws_chip.proofs.Rests.{IsResting, base_on, base_same, drained_rests, stands_rests}
-use Rattle.laws_chip.proofs.ServedSteps.{first_serves}
-use Rattle.laws_chip.proofs.Singles.{format_executes, id_executes}
-use Rattle.laws_chip.proofs.SoundParts.{IsBasis, basis_busy, basis_rests, basis_same, basis_set, is_busy}
-use Rattle.laws_chip.proofs.Standing.{IsObeyed, Stands, format_obeyed, given_obeyed, heads_stand}
 
 -- ---- ---- the inner controller does nothing
 

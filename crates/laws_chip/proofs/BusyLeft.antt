@@ -1,21 +1,19 @@
 -- How many device steps are left of a command that is executed: each call leaves fewer, by the device step that it is.
 use Rattle.std.proofs.Common.{◌≡◌, ◌⊎◌, inl, inr, ℕ, ◌+◌, ◌-◌, ◌*◌, ◌<◌, ◌≤◌, Bool, true, false, ◌&&◌, ◌==◌, Option, Some, None, option_map, [], ◌∷◌, if◌then◌else◌, refl, sym, ◌∙◌, ap, subst, arith}
 use Rattle.laws_chip.proofs.Common.{and_right, false≢true, Chrn, Results, Front, results_taken, StepsFront, is_under_way, ChipState, with_front, EndsAs, EndsSent, MayEnd, as_done, done_if, has_key, has_room, is_not_found, judged, looks_for_cylinder, results_judged, says_cut, verified, Follows, StepsChip, Place, Index, Address, Data, Busy, ChipTask, Track, has_command, Call, Does, IsServing, is_reset, is_step, steps_of, is_read_id, IsVerifying, ExecutesBehind, IsSound, ServesBehind, core_steps_left as steps_left}
-use Rattle.laws_chip.specs.SectorCalls as behind
 use Rattle.laws_chip.proofs.Lasted.{Lasts, call_lasts, calls_last}
-use Rattle.fdc_chip.specs.declared.stage.ChipTask.TheVariants as task
-use Rattle.laws_chip.specs.Calls as made
-use Rattle.laws_chip.proofs.FormatsEnd.{FormatsOn, formats, formats_step}
 use Rattle.laws_chip.proofs.NextStages.{KeepsTask, call_keeps, call_serving, works_quiet, is_change}
 use Rattle.laws_chip.proofs.PassedOn.{all_passed, none_wait}
-use Rattle.laws_chip.proofs.ServedSteps.{serves_step, tells_shown}
-use Rattle.laws_chip.proofs.Singles.{WaitsBehind, executes_none, executes_step, waits_shown}
 use Rattle.laws_chip.proofs.SinglesLast.{StaysSingle, kind_of, left_most, left_some, single_call, stage_kind}
-use Rattle.laws_chip.proofs.SoundParts.{busy_at, is_busy, serves_of}
+use Rattle.laws_chip.proofs.SoundParts.{busy_at, is_busy, serves_of, serves_step, tells_shown}
 use Rattle.laws_chip.proofs.TracksLast.{Leaves, LeavesAt, call_leaves, leaves_some, some_here, none_of}
 use Rattle.laws_chip.proofs.UnderWay.{clash, either_way, not_through}
-use Rattle.laws_chip.proofs.VerifiesLast.{IsWithin, call_within}
+use Rattle.laws_chip.proofs.VerifiesLast.{IsWithin, call_within, FormatsOn, formats, formats_step}
 use Rattle.laws_chip.proofs.Identified.{no_look}
+use Rattle.laws_chip.proofs.Rests.{WaitsBehind, executes_none, executes_step, waits_shown}
+use Rattle.laws_chip.specs.SectorCalls as behind
+use Rattle.fdc_chip.specs.declared.stage.ChipTask.TheVariants as task
+use Rattle.laws_chip.specs.Calls as made
 
 -- ---- what is left
 

@@ -1,15 +1,14 @@
 -- What the inner controller executes, through the channel, the terminal count, ports and media.
 use Rattle.std.proofs.Common.{◌≡◌, ◌⊎◌, inl, inr, ℕ, ◌-◌, Bool, true, false, ◌==◌, if◌then◌else◌, Option, [], refl, sym, ◌∙◌, ap, subst}
 use Rattle.laws_chip.proofs.Common.{false≢true, seek_bits, phase_told, Phase, Taking, Execute, Task, told_count, Writes, resets, is_held, reset, IsCounted, Fdc, Lines, lines_at, Front, GivesFront, KeepsFront, TakesAt, TakesFront, WritesFront, count_told, passed_one, told_front, told_if, MovingSector, FrontStage, Through, Seeking, Moving, Telling, is_under_way, KeepsServing, ServesUnless, history_counted, history_given, history_taken, Place, Address, ChipTask, ExecutesBehind, IsBusyAt, IsBusyWith, ServesBehind, WaitsForHeads, executes_single, is_single}
-use Rattle.fdc_phases.specs.declared.phases.Task.TheVariants as task
 use Rattle.laws_chip.proofs.Called.{media_serve}
 use Rattle.laws_chip.proofs.Served.{counts_serve, gives_serve, takes_serve, writes_serve}
-use Rattle.fdc_chip.specs.declared.stage.ChipTask.TheVariants as chip
-use Rattle.laws_chip.proofs.FirstSectors.{IsBase}
 use Rattle.laws_chip.proofs.Known.{port_sets}
-use Rattle.laws_chip.proofs.ServedSteps.{TellsBehind}
-use Rattle.laws_chip.proofs.Singles.{WaitsBehind}
-use Rattle.laws_chip.proofs.UnderWay.{BytePasses, Own, OfSector, Quiet, counts_under, gives_pass, pass_under, port_stage, takes_pass, writes_under}
+use Rattle.laws_chip.proofs.UnderWay.{BytePasses, Own, OfSector, Quiet, counts_under, gives_pass, pass_under, port_stage, takes_pass, writes_under, IsBase}
+use Rattle.laws_chip.proofs.Rests.{WaitsBehind}
+use Rattle.laws_chip.proofs.SoundParts.{TellsBehind}
+use Rattle.fdc_phases.specs.declared.phases.Task.TheVariants as task
+use Rattle.fdc_chip.specs.declared.stage.ChipTask.TheVariants as chip
 
 -- the results of what was executed are there
 abbrev pub IsOverBehind : Front → Type 0

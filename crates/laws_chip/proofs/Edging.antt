@@ -2,13 +2,13 @@
 use Rattle.std.proofs.Common.{◌≡◌, ℕ, ◌+◌, Bool, true, false, not, ◌&&◌, ◌||◌, ◌==◌, nat_lt, if◌then◌else◌, Option, Some, None, is_some, slice_index, refl, sym, ◌∙◌, ap, subst}
 use Rattle.laws_chip.proofs.Common.{option_map_or, and_from, and_left, and_parts, and_right, eqb-true, false≢true, Results, to_memory_of, asks, Fdc, Front, TakesAt, asks_at, asks_outside, interrupts_outside, told_front, with_controller, FrontStage, ChipState, KeepsRest, interrupts_chip, is_data, passes, passes_at, passes_by_channel, passes_by_port, shows_behind, with_front, Opens, RemembersIf, begun, sensing, Interrupting, status_of, is_format, GivesChipIf, ReadsAt, ReadsChip, ReadsIf, TakesIf, byte_told, counted_if, given_one, quieted_if, told_chip, is_by_port, ChipAnswer, ChipStage, Ready, Busy, ChipTask, Track, Call, Does, chip_count_told as count_told, ChipTelling as Telling, AdaptersTakes as Takes}
 use Rattle.std.specs.Prelude.{option_map, slice_set}
-use Rattle.fdc_sequencer.specs.declared.stage.FrontStage.TheVariants as behind
 use Rattle.fdc_chip.specs.Interrupts.{first_pending, sensed}
+use Rattle.laws_chip.specs.Edges.{EndsAnswer, is_of_channel}
+use Rattle.laws_chip.proofs.UnderWay.{clash, either_way}
+use Rattle.fdc_sequencer.specs.declared.stage.FrontStage.TheVariants as behind
 use Rattle.fdc_chip.specs.declared.answer.ChipAnswer.TheVariants as answer
 use Rattle.fdc_chip.specs.declared.stage.ChipTask.TheVariants as task
 use Rattle.laws_chip.specs.Calls as call
-use Rattle.laws_chip.specs.Edges.{EndsAnswer, is_of_channel}
-use Rattle.laws_chip.proofs.UnderWay.{clash, either_way}
 
 -- ---- INT by what it is made of
 

@@ -1,26 +1,24 @@
 -- FORMAT TRACK over a medium at speed: the sector IDs that were given are laid.
 use Rattle.std.proofs.Common.{◌≡◌, inl, inr, ℕ, zero, suc, ◌+◌, ◌%◌, ◌≤◌, Bool, true, false, not, ◌&&◌, ◌==◌, if◌then◌else◌, Option, Some, None, List, [], ◌∷◌, ◌++◌, length, refl, sym, ◌∙◌, ap, subst, arith, length-append, append-nil, append_assoc}
 use Rattle.laws_chip.proofs.Common.{and_parts, eqb-true, false≢true, IsDisk, DriveState, is_protected, rate_of, Dor, Fifo, emptied, IsAtPart, Numbers, is_first, is_next, Past, new_past, heard, kept_out, wrote, FormatNext, stepped, told_in, head_of, is_reading, rate_fits, IsFormattingOn, MayFormatIn, MayFormatTask, took, Phase, Taking, Execute, Result, Task, Formatting, BeginsData, taken_in, to_memory_of, told_count, Outset, IsTurningIn, IsAtDrive, FormatDoes, after_laid, is_executing, asks, is_gated, polled, IsHeardTime, IsTime, KeptOut, Saw, Stopped, WordTime, Wrote, after_time, WritesIn, WritesTask, MayFormat, Fdc, in_formats, told_formats, format_tells, lays_track, drive_less, kept_on, saw_on, still_unprotected, stopped_on, wrote_on, AdapterState, StepsAdapter, drive_at, selected_at, Front, GivesAt, GivesFront, TakesAt, TakesFront, told_front, told_if, with_controller, GivesCommand, StepsFront, Through, ChipState, passes_by_channel, passes_by_port, with_front, FormatsIf, Obeys, is_size, with_keys, with_last, GivesChipIf, GivesIf, ReadsAt, ReadsIf, TakesByte, TakesIf, StepsChip, Busy, passed_in, IsFreeBehind, Call, Does, AreAt, ExecutesBehind, IsSound, executes_single, SentTask as Sent, CommandFormatTrack as FormatTrack}
-use Rattle.fdc_stages.specs.declared.formatting.FormatNext.TheVariants as next
 use Rattle.fdc_stages.specs.declared.formatting.FormatPart.{FormatPart}
 use Rattle.fdc_stages.specs.declared.formatting.FormatPart.TheVariants.{Await, Due, Lay, Barred}
 use Rattle.fdc_phases.specs.Formatting.{is_ended}
-use Rattle.fdc_phases.specs.declared.phases.Task.TheVariants as task
-use Rattle.fdc_sequencer.specs.Fronts as fronts
-use Rattle.fdc_chip.specs.Ports as ports
-use Rattle.fdc_chip.specs.declared.code.ChipOpcode.TheVariants as code
 use Rattle.laws_chip.proofs.LateWriting.{window_none}
-use Rattle.laws_chip.specs.Calls as made
 use Rattle.laws_chip.specs.FormatTracks.{GiveAll, GivesAs, GivesByte, IsFormatBegun, LaysKeys, LetDrives, TurnsAtSpeed, lets_drives, numbers_of}
 use Rattle.laws_chip.proofs.Channels.{counts_executes, gives_executes}
 use Rattle.laws_chip.proofs.CommandsBegun.{begins_sent}
 use Rattle.laws_chip.proofs.PassedOn.{no_results, other_read, step_same}
 use Rattle.laws_chip.proofs.Known.{adapter_stays, polled_rate, time_taken}
-use Rattle.laws_chip.proofs.Rests.{through_step}
-use Rattle.laws_chip.proofs.Singles.{executes_step, format_executes, waits_shown}
+use Rattle.laws_chip.proofs.Rests.{through_step, executes_step, format_executes, waits_shown}
 use Rattle.laws_chip.proofs.SoundCalls.{call_sound}
-use Rattle.laws_chip.proofs.Standing.{format_obeyed, stands_free}
-use Rattle.laws_chip.proofs.UnderWay.{either_way}
+use Rattle.laws_chip.proofs.UnderWay.{either_way, format_obeyed, stands_free}
+use Rattle.fdc_stages.specs.declared.formatting.FormatNext.TheVariants as next
+use Rattle.fdc_phases.specs.declared.phases.Task.TheVariants as task
+use Rattle.fdc_sequencer.specs.Fronts as fronts
+use Rattle.fdc_chip.specs.Ports as ports
+use Rattle.fdc_chip.specs.declared.code.ChipOpcode.TheVariants as code
+use Rattle.laws_chip.specs.Calls as made
 
 -- ---- parts of a FORMAT
 

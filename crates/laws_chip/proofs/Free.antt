@@ -1,9 +1,9 @@
 -- Which command for a sector is refused: none, if the controller is free for it. What keeps the controller free.
 use Rattle.std.proofs.Common.{◌≡◌, inl, inr, ℕ, zero, suc, ◌+◌, nat_le, Bool, true, false, ◌&&◌, ◌==◌, if◌then◌else◌, Option, Some, None, List, length, refl, sym, ◌∙◌, ap, subst, slice_set}
 use Rattle.laws_chip.proofs.Common.{and_from, false≢true, le-leb, Chrn, IsSizeCode, DriveState, at_index, Fifo, has_ended_seek, seek_bits, without_ended, Invalid, Command, ReadData, WriteData, WriteDeleted, Past, ReadOutcome, needs_byte, Ending, Overrun, WriteNext, On, MayReadIn, MayReadTask, Sent, ending_of, is_listening, MayWriteIn, MayWriteTask, Phase, Taking, Execute, Result, Task, ReadTask, WriteTask, Reading, Writing, BeginsData, TakesAs, ExecutesIn, ExecutesTask, StepsOn, is_executing, Writes, resets, after_heard, at_stage, gone_on_reading, is_full, over_or_on, pushed, finished, polled, StepsNowhere, TaskStepsNowhere, WritesNowhere, WordTime, Saw, KeptOut, Wrote, Stopped, TakesWhole, ending_told, given_up, given_up_if, without_seek, WritesIn, WritesTask, WriteDoes, after_next, without_byte, Fdc, Lines, AdapterState, StepsAdapter, command_for, command_of, next_cylinder, next_of, next_record, other_head, Operation, Read, Write, Transfer, IsFree, MayMove, sector_after, Seeks as Seeking, ReadyCommand as Ready, DriveSeek as Seek, FdcObeys as Obeys, WriteNextEnded as Ended}
-use Rattle.fdc_stages.specs.Readings as heard
 use Rattle.laws_chip.proofs.Known.{adapter_stays, at_drive, polled_by, port_same}
 use Rattle.laws_chip.proofs.Started.{without_bytes}
+use Rattle.fdc_stages.specs.Readings as heard
 
 -- ---- a device step leaves the seeks, while a command for a sector is executed
 

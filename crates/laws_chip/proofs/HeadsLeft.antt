@@ -2,13 +2,12 @@
 -- SPECIFY sets.
 use Rattle.std.proofs.Common.{◌≡◌, ℕ, suc, ◌+◌, ◌-◌, ◌*◌, ◌%◌, ◌^◌, ◌<◌, ◌≤◌, max, nat_le, nat_lt, Bool, true, false, not, ◌&&◌, ◌==◌, if◌then◌else◌, Option, Some, None, List, [], length, bit_and, bit_or, refl, sym, ◌∙◌, ap, subst, arith}
 use Rattle.laws_chip.proofs.Common.{option_map_or, mul-le-mul_right, suc-mul, and_from, and_parts, false≢true, leb-false, leb-true, not-true, nat_tests, has_ended_seek, pulses_within, seek_bits, with_motion, Motion, Outward, Ended, DriveSeek, is_held, is_idle, Fdc, Front, GivesCommand, is_ready, is_ready_at, status_at, with_controller, StepsFront, recalibrated_at, recalibrated_outside, ChipState, with_front, drained, drained_by, moves_heads, moving, GoesOnIf, Paces, PulsesIf, is_due, step_words, PacedSeek, Settings, heads_steps, seek_steps, pulses_left, steps_left, IsSound, RestsBehind, EndsPace as EndsAt, is_over_pace as is_over, chip_stepped as stepped}
-use Rattle.laws_chip.proofs.FirstSectors.{base_held}
 use Rattle.laws_chip.proofs.HeadsGoing.{none_pending}
 use Rattle.laws_chip.proofs.HeadsTold.{TellsEnd, drained_left, drained_runs, front_nearer, runs_tells}
 use Rattle.laws_chip.proofs.PulsesGoing.{fewer_left}
 use Rattle.laws_chip.proofs.Rests.{front_rests, drained_rests}
 use Rattle.laws_chip.proofs.SeeksBegun.{IsIdleAt, all_taken, idle_takes, seek_sent, drained_rest}
-use Rattle.laws_chip.proofs.Standing.{Stands, heads_stand, stands_idle, status_free}
+use Rattle.laws_chip.proofs.UnderWay.{Stands, heads_stand, stands_idle, status_free, base_held}
 
 -- ---- results that are taken over leave the settings
 

@@ -1,24 +1,20 @@
 -- READ ID over a medium that stays in: what it heard, and the sector ID that it reports.
 use Rattle.std.proofs.Common.{◌≡◌, ◌⊎◌, inl, inr, ℕ, zero, suc, ◌+◌, ◌*◌, ◌<◌, ◌≤◌, Bool, true, false, not, ◌&&◌, ◌||◌, ◌==◌, Option, Some, List, [], ◌∷◌, bit_and, refl, sym, ◌∙◌, ap, subst, arith}
 use Rattle.laws_chip.proofs.Common.{agree_below_at, false≢true, eqb-true, Chrn, IsAddressAt, IsDisk, Becomes, DriveState, at_index, Results, HasAddress, HasIdentified, Past, new_past, heard, Ending, Done, NoMark, NoSector, Late, results_of, phase_told, MayReadIdIn, MayReadIdTask, key_met, stepped, head_of, is_listening, Long, Phase, Execute, Result, Task, DataRate, BeginsData, Works, SeesTask, SeesUnder, SeesWord, after_step, is_executing, MovesIn, MovesTask, let_pass, polled, Fdc, IsHeardFrom, address_heard, address_late, turn_heard, AdapterState, StepsAdapter, drive_at, selected_at, Front, GivesAt, GivesCommand, TakesAt, count_told, results_outside, results_taken, told_if, StepsFront, Read, Transfer, IsAt, TurnsOn, ChipState, with_front, code_of, Obeys, identifying, is_format, EndsAs, EndsSent, MayEnd, is_not_found, looks_for_cylinder, told_results, Follows, StepsChip, ChipOpcode, Order, ChipStage, Busy, IsFreeBehind, Call, Does, is_step, IsIdBegun, StaysUnder, TurnsOnBy, is_read_id, AreAt, ExecutesBehind, IsSound, executes_single, Tells, has_command, ChipTelling as Telling, SentTask as Sent, CommandReadId as ReadId, MediumPlace as Place}
-use Rattle.fdc_phases.specs.declared.phases.Task.TheVariants as phase_task
 use Rattle.laws_chip.specs.Media.{track_at}
-use Rattle.laws_chip.proofs.LateHearing.{hearing_led}
 use Rattle.laws_chip.proofs.Medium.{IsHearingAt, adapter_turns, fresh_hearing, kept_hearing, outset_at}
 use Rattle.laws_chip.proofs.Known.{polled_phase}
+use Rattle.laws_chip.proofs.Channels.{counts_executes, front_gives, front_left, front_takes, gives_executes, keeps_executes, port_executes, takes_executes}
+use Rattle.laws_chip.proofs.CommandsBegun.{begins_sent, judged_other, hearing_led}
+use Rattle.laws_chip.proofs.Rests.{through_step, executes_none, executes_step, id_executes, waits_shown}
+use Rattle.laws_chip.proofs.SoundCalls.{call_sound}
+use Rattle.laws_chip.proofs.UnderWay.{either_way, given_obeyed, stands_free}
+use Rattle.laws_chip.proofs.NextStages.{Makes, call_stays, is_change}
+use Rattle.fdc_phases.specs.declared.phases.Task.TheVariants as phase_task
 use Rattle.fdc_chip.specs.declared.answer.ChipAnswer.TheVariants as answer
 use Rattle.fdc_chip.specs.declared.code.ChipOpcode.TheVariants as code
 use Rattle.laws_chip.specs.Calls as made
-use Rattle.laws_chip.proofs.Tellings.{judged_other}
-use Rattle.laws_chip.proofs.Channels.{counts_executes, front_gives, front_left, front_takes, gives_executes, keeps_executes, port_executes, takes_executes}
-use Rattle.laws_chip.proofs.CommandsBegun.{begins_sent}
-use Rattle.laws_chip.proofs.Rests.{through_step}
-use Rattle.laws_chip.proofs.Singles.{executes_none, executes_step, id_executes, waits_shown}
-use Rattle.laws_chip.proofs.SoundCalls.{call_sound}
-use Rattle.laws_chip.proofs.Standing.{given_obeyed, stands_free}
-use Rattle.laws_chip.proofs.UnderWay.{either_way}
 use Rattle.laws_chip.proofs.NextStages as makes
-use Rattle.laws_chip.proofs.NextStages.{Makes, call_stays, is_change}
 
 -- the head that listens, in the form that it has for a sector
 abbrev id_at : ℕ → Transfer

@@ -2,10 +2,10 @@
 -- port accesses.
 use Rattle.std.proofs.Common.{◌≡◌, ◌⊎◌, inl, inr, ℕ, zero, suc, ◌+◌, ◌≤◌, Bool, true, false, not, ◌&&◌, ◌==◌, if◌then◌else◌, Option, List, [], ◌∷◌, ◌++◌, refl, sym, ◌∙◌, ap, subst, arith}
 use Rattle.laws_chip.proofs.Common.{false≢true, and_parts, eqb-true, DriveState, at_index, Chrn, Fifo, with_polls, Past, Late, is_open, opens, On, WriteStage, byte_out, taken_out, taken_in, told_count, to_memory_of, phase_told, Sent, MayReadIn, MayReadTask, gave, stepped, told_in, SeesTask, SeesUnder, SeesWord, after_step, is_executing, MovesIn, MovesTask, polled, DataRate, head_of, is_listening, is_reading, mark_of_phase, Writes, dor_resets, dsr_resets, resets, rate_chosen, asks, is_gated, is_held, reset, EndsIn, Rests, Stays, Works, StepsNowhere, TaskStepsNowhere, WritesNowhere, WordTime, IsTime, Saw, KeptOut, Wrote, Stopped, after_time, ending_told, mark_of, WritesIn, WritesTask, WriteDoes, after_next, MayWrite, MayWriteIn, MayWriteTask, took, Fdc, Lines, Phase, Execute, Task, ReadTask, WriteTask, Writing, out_reads, told_reads, in_writes, told_writes, writes_on, AdapterState, StepsAdapter, selected_at, IsNowhere, IsTimeOf, MayMove, PassesAt, StopsAtEnd, bytes_moved, Operation, Read, Write, FollowsWord as Follows, Taking as Command, Result as Telling, stages_is_due as is_due}
-use Rattle.fdc_stages.specs.declared.writing.WriteStage.TheVariants as stage
 use Rattle.fdc_core.specs.Courses.{WorksAlone}
 use Rattle.fdc_phases.proofs.AtFirst.{rule_room}
 use Rattle.laws_chip.proofs.Marks.{EndsBadly, MarkStays, mark_then, step_bad, step_stays}
+use Rattle.fdc_stages.specs.declared.writing.WriteStage.TheVariants as stage
 
 pub clash : {A : Type 0} (b : Bool) → b ≡ false → b ≡ true → A
 clash b is other = absurd (false≢true (sym is ∙ other))

@@ -1,32 +1,27 @@
 -- In a chip that isn't busy, a seek that has ended has its result in the inner controller: through all calls.
 use Rattle.std.proofs.Common.{◌≡◌, inl, inr, ℕ, zero, suc, ◌%◌, ◌<◌, Bool, true, false, not, ◌&&◌, ◌==◌, if◌then◌else◌, nat_le, Option, Some, None, option_map, [], bit_and, refl, sym, ◌∙◌, ap, subst}
 use Rattle.laws_chip.proofs.Common.{and_from, and_parts, eqb-true, false≢true, not-true, has_ended_seek, pulses_within, seek_bits, sensed, with_motion, Outward, DriveSeek, Results, recalibrating, given, IsInRange, is_held, is_idle, Fdc, after_result, without_result, Front, GivesCommand, interrupts_outside, is_ready, results_outside, results_taken, with_controller, StepsFront, pending_outside, recalibrated_at, recalibrated_outside, sensed_at, sensed_outside, ChipState, with_front, code_of, AttendsIf, AttendsTo, MovesIf, GivesOn, Obeys, chip_configured, configuring, drained, drained_one, is_moving, moves_heads, moving, needs_heads, relative_target, Ends, EndsAt, EndsAs, MayEnd, is_over, judged, cylinder_of, GoesOnIf, Paces, PulsesIf, is_due, CollectsIf, ComesIf, GivesIf, ReadsAt, ReadsIf, TakesByte, is_whole, may_come, value_behind, with_next, step_words, Follows, FollowsTask, ChipOpcode, PacedSeek, ChipStage, Ready, Held, Busy, ChipTask, Track, Call, Does, WritesByte, is_of_data_port, is_reset, is_step, IsSound, RestsBehind, chip_stepped as stepped, ChipTelling as Telling}
-use Rattle.fdc_commands.specs.declared.command.Command.TheVariants as command
 use Rattle.fdc_chip.specs.Doing.{drained_by}
+use Rattle.laws_chip.proofs.Attended.{free_stands}
+use Rattle.laws_chip.proofs.CommandsBegun.{configured_stands}
+use Rattle.laws_chip.proofs.HeadsLeft.{seek_given}
+use Rattle.laws_chip.proofs.HeadsTold.{HasResult, TellsEnd, front_nearer, runs_tells, sense_tells, taken_seeks}
+use Rattle.laws_chip.proofs.NextStages.{IsAtTask, call_keeps, data_quiet, Comes, ends_come}
+use Rattle.laws_chip.proofs.Rests.{IsResting, drained_rests, front_rests, waits_shown, waits_taken}
+use Rattle.laws_chip.proofs.SeeksBegun.{none_kept}
+use Rattle.laws_chip.proofs.SoundCalls.{byte_stays, code_few, comes_free, front_anew}
+use Rattle.laws_chip.proofs.SoundParts.{IsBasis, at_rest, basis_front, basis_same, busy_at, is_busy, sound_basis, tells_shown, tells_taken}
+use Rattle.laws_chip.proofs.SoundSteps.{IsAtStep, IsStepped, busy_none, front_stepped, set_basis, stepped_rests, swallows_many}
+use Rattle.laws_chip.proofs.UnderWay.{clash, either_way, Stands, given_obeyed, heads_stand, ready_free, stands_idle}
+use Rattle.laws_chip.proofs.WholeTransfers.{kept_front, call_idle, no_port}
+use Rattle.laws_chip.proofs.WorkEnds.{obeys_busy}
+use Rattle.fdc_commands.specs.declared.command.Command.TheVariants as command
 use Rattle.fdc_chip.specs.Paces as paces
 use Rattle.fdc_chip.specs.declared.code.ChipOpcode.TheVariants as code
 use Rattle.fdc_chip.specs.declared.stage.ChipTask.TheVariants as task
 use Rattle.laws_chip.specs.Calls as made
-use Rattle.laws_chip.proofs.Attended.{free_stands}
-use Rattle.laws_chip.proofs.CommandsBegun.{configured_stands}
-use Rattle.laws_chip.proofs.HeadsKept.{call_idle, no_port}
-use Rattle.laws_chip.proofs.HeadsLeft.{seek_given}
-use Rattle.laws_chip.proofs.HeadsTold.{HasResult, TellsEnd, front_nearer, runs_tells, sense_tells, taken_seeks}
-use Rattle.laws_chip.proofs.NextStages.{IsAtTask, call_keeps, data_quiet}
-use Rattle.laws_chip.proofs.Rests.{IsResting, drained_rests, front_rests}
-use Rattle.laws_chip.proofs.SeeksBegun.{none_kept}
-use Rattle.laws_chip.proofs.ServedSteps.{tells_shown, tells_taken}
-use Rattle.laws_chip.proofs.Singles.{waits_shown, waits_taken}
-use Rattle.laws_chip.proofs.SoundCalls.{byte_stays, code_few, comes_free, front_anew}
 use Rattle.laws_chip.proofs.SoundParts as parts
-use Rattle.laws_chip.proofs.SoundParts.{IsBasis, at_rest, basis_front, basis_same, busy_at, is_busy, sound_basis}
-use Rattle.laws_chip.proofs.SoundSteps.{IsAtStep, IsStepped, busy_none, front_stepped, set_basis, stepped_rests, swallows_many}
-use Rattle.laws_chip.proofs.Standing.{Stands, given_obeyed, heads_stand, ready_free, stands_idle}
-use Rattle.laws_chip.proofs.UnderWay.{clash, either_way}
-use Rattle.laws_chip.proofs.WholeTransfers.{kept_front}
-use Rattle.laws_chip.proofs.WorkEnds.{obeys_busy}
-use Rattle.laws_chip.proofs.Silences as outcome
-use Rattle.laws_chip.proofs.Silences.{Comes, ends_come}
+use Rattle.laws_chip.proofs.NextStages as outcome
 
 -- a chip that isn't busy has the result of a seek that has ended
 pub record KnowsEnd (chip : ChipState) : Type 0 where

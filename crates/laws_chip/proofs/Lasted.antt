@@ -2,16 +2,14 @@
 -- fewer.
 use Rattle.std.proofs.Common.{◌≡◌, ℕ, ◌+◌, ◌-◌, ◌*◌, ◌<◌, ◌≤◌, Bool, true, false, not, ◌==◌, if◌then◌else◌, Option, Some, None, List, [], ◌∷◌, refl, sym, ◌∙◌, ap, subst, arith}
 use Rattle.laws_chip.proofs.Common.{eqb-true, false≢true, not-true, and_parts, Seeks, has_ended_seek, is_seeking, seek_bits, is_begun, Results, SeekCommand, new_past, Ending, Done, phase_told, MayReadIn, MayReadTask, Sent, MayWriteIn, MayWriteTask, Phase, Taking, Execute, Result, Task, ReadTask, WriteTask, told_count, is_executing, is_taking, resets, takes_in, IsInRange, is_held, EndsIn, IsCounted, TakesWhole, ending_told, is_idle, mark_of, Fdc, Lines, AdapterState, StepsAdapter, WritesAdapter, lines_at, BeginsSector, Front, ReadsSector, SeeksFirst, Starts, StartsIf, WritesFront, begun_if, count_told, passed_one, told_if, EndsIf, EndsSector, FollowsStep, MovesOn, SeeksOn, goes_on, has_met_other, is_unwanted, judged_if, passed_over_if, results_behind, results_failed, would_go_on, is_last, next_of, Operation, Read, Write, MovingSector, FrontStage, Through, Seeking, Moving, Telling, Transfer, AreWithin, HasByteNumbers, HasByteRecords, HasRecords, HasResults, is_under_way, most_steps, sectors_from, History, MayMove, Serves, ServesAt, nothing_moved, sent_of, ReadyCommand as Ready, core_steps_left as steps_left, front_reset_if as reset_if, SectorCallsBegins as Begins, SectorCallsCall as Call, SectorCallsDoes as Does, chip_steps_in as steps_in}
-use Rattle.laws_chip.specs.SectorCalls as call
 use Rattle.laws_chip.specs.SectorLasting.{steps_of}
 use Rattle.laws_chip.proofs.Called.{call_serves, calls_serve}
-use Rattle.laws_chip.proofs.Given.{given_starts, ignored, served_on}
 use Rattle.laws_chip.proofs.Known.{SameCommand, adapter_ends, clash, either_way, port_same}
-use Rattle.laws_chip.proofs.Started.{begun_busy}
-use Rattle.laws_chip.proofs.Whole.{begins_served}
-use Rattle.laws_chip.proofs.Sectors.{next_bytes, sectors_next, sectors_some}
-use Rattle.laws_chip.proofs.UnderWay.{BytePasses, Own, OfSector, Quiet, gives_pass, takes_pass}
-use Rattle.laws_chip.proofs.Sought.{NearsEnd, adapter_seeks, seek_few, seek_left, seek_some}
+use Rattle.laws_chip.proofs.Started.{begun_busy, next_bytes, sectors_next, sectors_some}
+use Rattle.laws_chip.proofs.UnderWay.{BytePasses, Own, OfSector, Quiet, gives_pass, takes_pass, begins_served}
+use Rattle.laws_chip.proofs.Courses.{given_starts, ignored, served_on}
+use Rattle.laws_chip.proofs.Judged.{NearsEnd, adapter_seeks, seek_few, seek_left, seek_some}
+use Rattle.laws_chip.specs.SectorCalls as call
 
 -- ---- a sector
 

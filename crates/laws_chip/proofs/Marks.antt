@@ -6,9 +6,9 @@ use Rattle.track_model.proofs.Sizes.{content_size_least}
 use Rattle.track_separator.proofs.Lawful.{reads_within}
 use Rattle.fdc_stages.proofs.Lawful.{over_full}
 use Rattle.fdc_stages.specs.Readings.{FailsWell, IsFailure}
-use Rattle.fdc_stages.specs.Readings as given
 use Rattle.fdc_stages.specs.declared.reading.ReadStage.{ReadStage}
 use Rattle.fdc_stages.specs.declared.reading.ReadStage.TheVariants.{Content, Over}
+use Rattle.fdc_stages.specs.Readings as given
 
 -- ---- as the command goes on, and as it ends
 

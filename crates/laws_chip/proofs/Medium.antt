@@ -2,11 +2,10 @@
 use Rattle.std.proofs.Common.{◌≡◌, ◌⊎◌, inl, inr, ℕ, zero, suc, ◌+◌, ◌-◌, ◌*◌, ◌<◌, ◌≤◌, ◌==◌, Bool, true, false, Option, Some, None, List, [], ◌∷◌, ◌++◌, length, if◌then◌else◌, refl, sym, ◌∙◌, ap, subst, arith}
 use Rattle.laws_chip.proofs.Common.{eqb-true, Chrn, IsDisk, BadCrc, NoData, content_at, content_size, HasAddressMark, HasDataField, IsIntact, HasNoClear, IsBetween, last_count, DriveState, Past, new_past, heard, FindsBadCheck, FindsNoField, FindsSector, Ending, Done, Results, gave, stepped, told_in, head_of, took, taken_in, taken_out, is_executing, resets, Closes, WordTime, Saw, IsTime, after_time, ending_told, given_up, mark_of, without_seek, Fdc, has_ended_seek, AdapterState, WritesAdapter, drive_at, selected_at, FollowsDor, FollowsWrite, IsHeardFrom, IsWholeFrom, Outset, IsTurningIn, IsUnheard, led, address_heard, data_mark_heard, field_heard, whole_shifted, led_none, found_late, shifted_bytes_at, AreOfField, PassesOfSector, between_is, turn_heard, Front, GivesAt, TakesAt, WritesFront, begun_if, count_told, moving_of, passed_one, with_controller, EndsIf, EndsSector, FollowsStep, MovesOn, SeeksOn, goes_on, has_met_other, is_unwanted, judged_if, passed_over_if, results_behind, results_failed, next_of, Read, MovingSector, FrontStage, Through, Seeking, Moving, Telling, Transfer, AreWithin, Changes, Counts, Gather, Gives, Grows, Steps, Takes, AreOnMedium, BeginsOnTrack, HasMarkOnTrack, HasOnTrack, IsAt, IsAtWhile, IsClean, IsOnMedium, IsReadFrom, StaysIn, TurnsOn, TurnsOnIn, track_under, AreMoved, FindsField, History, IsMoved, IsOfSector, IsTimeOf, Part, Passes, PassesAt, Serves, ServesAt, history_counted, history_ended, history_given, history_moved, history_passed, history_sought, history_stepped, history_taken, nothing_moved, sector_after, sent_of, front_reset_if as reset_if, MediumPlace as Place, SectorCallsCall as Call, SectorCallsDoes as Does, SectorCallsWrites as Writes}
 use Rattle.sector_map.specs.Met.{HasLook}
-use Rattle.laws_chip.proofs.Given.{ignored}
-use Rattle.laws_chip.proofs.LateHearing.{IsHearingLed, hearing_first, hearing_led, hearing_led_bytes}
 use Rattle.laws_chip.proofs.LateLooks.{bad_check_late, between_late, field_late, no_field_late, of_field_late}
 use Rattle.fdc_core.proofs.drives.Turns.{bad_met, no_field_met}
-use Rattle.laws_chip.proofs.Courses.{sector_more, sector_opcode}
+use Rattle.laws_chip.proofs.Courses.{sector_more, sector_opcode, ignored}
+use Rattle.laws_chip.proofs.CommandsBegun.{IsHearingLed, hearing_first, hearing_led, hearing_led_bytes}
 
 -- ---- what was heard is of the track
 

@@ -1,13 +1,13 @@
 -- While the sequencer serves the command that was sent, each call of the chip is the sequencer's.
 use Rattle.std.proofs.Common.{◌≡◌, ℕ, ◌+◌, Bool, true, false, ◌==◌, Option, Some, None, List, [], ◌∷◌, ◌++◌, refl, sym, ◌∙◌, ap, subst}
 use Rattle.laws_chip.proofs.Common.{option_map, and_from, and_left, and_right, eqb-true, false≢true, Results, Fdc, Front, results_at, results_outside, results_taken, told_front, StepsFront, FrontStage, is_under_way, ChipState, passes_by_channel, passes_by_port, with_front, EndsAs, EndsSent, judged, looks_for_cylinder, results_judged, GivesChipIf, GivesIf, ReadsAt, ReadsChip, ReadsIf, TakesByte, TakesIf, WritesChip, value_behind, Follows, StepsChip, ChipStage, Busy, AreServed, ArePassedOn, Call, Does, IsPassedOn, IsServing, Makes, MakesRead, MakesWrite, is_data_access, only_if, steps_of, chip_count_told as count_told, SentTask as Sent}
+use Rattle.laws_chip.proofs.Called.{both_within}
+use Rattle.laws_chip.proofs.UnderWay.{either_way, ignored_write, not_through, same_under}
+use Rattle.laws_chip.proofs.Started.{steps_both}
 use Rattle.fdc_sequencer.specs.declared.stage.FrontStage.TheVariants as stage
 use Rattle.laws_chip.specs.SectorCalls as behind
 use Rattle.laws_chip.specs.SectorLasting as lasting
-use Rattle.laws_chip.proofs.Called.{both_within}
-use Rattle.laws_chip.proofs.Sectors.{steps_both}
 use Rattle.laws_chip.specs.Calls as made
-use Rattle.laws_chip.proofs.UnderWay.{either_way, ignored_write, not_through, same_under}
 
 -- ---- a device step
 

@@ -2,15 +2,15 @@
 use Rattle.std.proofs.Common.{◌≡◌, inl, inr, ℕ, ◌+◌, ◌-◌, ◌==◌, Bool, true, false, not, ◌&&◌, if◌then◌else◌, [], Option, Some, None, length, bit_and, refl, ◌∙◌, ap, subst}
 use Rattle.laws_chip.proofs.Common.{eqb-true, false≢true, DriveState, at_index, Fifo, has_ended_seek, seek_bits, sensed, with_polls, without_ended, Command, ReadOutcome, SearchOutcome, needs_byte, Ending, Done, Overrun, FormatNext, WriteNext, ending_of, is_listening, Phase, Execute, Task, Format, Formatting, Reading, Writing, BeginsData, ObeysAtRest, TakesAs, sensing_by, told_count, FormatDoes, after_laid, ExecutesIn, ExecutesTask, is_executing, resets, after_heard, after_searched, at_stage, gone_on_reading, is_full, over_or_on, pushed, finished, is_held, RestsIn, polled, FormatsNowhere, StepsNowhere, TaskStepsNowhere, WritesNowhere, WordTime, Wrote, Stopped, ending_told, given_up, given_up_if, looked_at, mark_of, without_seek, WritesIn, WritesTask, WriteDoes, after_next, without_byte, Fdc, Lines, AdapterState, StepsAdapter, lines_at, BeginsSector, Front, GivesFront, StartsIf, TakesFront, WritesFront, begun_if, count_told, told_front, told_if, with_controller, CommandsIf, GivesCommand, GivesTransfer, is_ready, results_taken, taken_at, EndsIf, EndsSector, FollowsStep, MovesOn, SeeksOn, StepsFront, goes_on, has_met_other, is_unwanted, judged_if, passed_over_if, command_of, next_of, MovingSector, FrontStage, Through, Seeking, Moving, Transfer, ReadyCommand as Ready, FdcObeys as Obeys, ReadTask as Read, TaskReadId as ReadId, WriteTask as Write, FrontTransfersIf as TransfersIf}
 use Rattle.fdc_commands.specs.declared.bytes.Accepted.{Accepted}
+use Rattle.fdc_core.specs.Commands.{Begins}
+use Rattle.laws_chip.proofs.Known.{at_drive, polled_phase}
+use Rattle.laws_chip.proofs.Channels.{port_left}
+use Rattle.laws_chip.proofs.UnderWay.{BytePasses, Own, OfSector, Quiet, either_way, gives_pass, takes_pass}
 use Rattle.fdc_commands.specs.declared.command.Command.TheVariants as command
 use Rattle.fdc_stages.specs.Readings as heard
 use Rattle.fdc_stages.specs.Searches as searched
 use Rattle.fdc_stages.specs.declared.formatting.FormatNext.TheVariants as format_next
 use Rattle.fdc_stages.specs.declared.writing.WriteNext.TheVariants as write_next
-use Rattle.fdc_core.specs.Commands.{Begins}
-use Rattle.laws_chip.proofs.Known.{at_drive, polled_phase}
-use Rattle.laws_chip.proofs.Channels.{port_left}
-use Rattle.laws_chip.proofs.UnderWay.{BytePasses, Own, OfSector, Quiet, either_way, gives_pass, takes_pass}
 
 -- ---- a command of the controller's own
 

@@ -3,15 +3,15 @@ use Rattle.std.proofs.Common.{◌≡◌, ℕ, zero, suc, ◌*◌, ◌%◌, ◌==
 use Rattle.laws_chip.proofs.Common.{eqb-true, Seeks, pulses_within, seek_bits, sensed, with_motion, Outward, Results, Command, is_held, is_idle, Fdc, after_result, without_result, Front, interrupts_outside, told_front, GivesCommand, results_taken, pending_outside, recalibrated_at, sensed_at, sensed_outside, size_of, FrontStage, Through, ChipState, is_data, passes_by_channel, passes_by_port, with_front, code_of, AttendsIf, AttendsTo, Begins, BeginsReadId, FormatsIf, MovesIf, Obeys, RemembersIf, TransfersIf, absent_key, begun, configuring, drained, identifying, implies, is_moving, is_size, moving, needs_heads, no_key, reading_one, relative_target, sectors_verified, sought_if, track_begun, verifying, with_keys, with_last, GivesOn, Opens, Refuses, configured, formatting, ready, transfer_sent, MayEnd, results_judged, EndsAs, EndsPace, GoesOnIf, Paces, PulsesIf, is_due, step_words, cylinder_of, is_of_data, CollectsIf, ComesIf, GivesChipIf, GivesIf, ReadsAt, ReadsChip, ReadsIf, TakesByte, TakesIf, counted_if, is_whole, may_come, quieted_if, value_behind, with_next, Follows, FollowsTask, StepsChip, SwallowsAs, ChipOpcode, ReadTrack, Recalibrate, ReadId, FormatTrack, Seek, RelativeSeek, Configure, Verify, PacedSeek, ChipStage, Ready, Held, Busy, ChipTask, Track, Order, Call, Does, is_reset, Chrn, is_over_pace as is_over, chip_stepped as stepped, chip_count_told as count_told, TransferCode as Transfer, ChipTelling as Telling}
 use Rattle.fdc_chip.specs.Doing.{drained_by}
 use Rattle.fdc_chip.specs.Steps.{SwallowsBy}
-use Rattle.fdc_chip.specs.declared.stage.ChipTask.TheVariants as task
-use Rattle.laws_chip.specs.Calls as made
 use Rattle.laws_chip.proofs.PassedOn.{other_read}
 use Rattle.laws_chip.proofs.Polled.{and_true}
 use Rattle.laws_chip.proofs.PollComes.{awaits_poll, command_poll, counts_poll, gives_poll, results_poll, step_poll, transfer_poll, takes_poll, writes_poll}
 use Rattle.laws_chip.proofs.UnderWay.{either_way}
 use Rattle.laws_chip.proofs.WholeTransfers.{kept_front}
-use Rattle.laws_chip.proofs.Silences as outcome
-use Rattle.laws_chip.proofs.Silences.{Comes, ends_come}
+use Rattle.laws_chip.proofs.NextStages.{Comes, ends_come}
+use Rattle.fdc_chip.specs.declared.stage.ChipTask.TheVariants as task
+use Rattle.laws_chip.specs.Calls as made
+use Rattle.laws_chip.proofs.NextStages as outcome
 
 -- whether the poll is to come
 abbrev to_come : ChipState → Bool

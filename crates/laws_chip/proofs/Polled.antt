@@ -1,16 +1,16 @@
 -- A reset, up to the results of its poll.
 use Rattle.std.proofs.Common.{◌≡◌, ◌⊎◌, inl, inr, ℕ, suc, ◌+◌, ◌<◌, Bool, true, false, not, ◌&&◌, ◌||◌, ◌==◌, if◌then◌else◌, nat_lt, Option, Some, None, List, [], ◌∷◌, refl, sym, ◌∙◌, ap, subst, arith}
 use Rattle.laws_chip.proofs.Common.{and_from, and_right, false≢true, eqb-true, is_seeking, with_polls, Phase, Taking, resets, is_gated, is_held, Rests, polled, seek_stepped, Fdc, Dor, Front, asks_outside, interrupts_at, interrupts_outside, StepsFront, FrontStage, Through, ChipState, interrupts_chip, passes, passes_at, shows_behind, with_front, drained, drained_one, sensing, Interrupting, is_format, with_byte, Paces, ComesIf, ReadsAt, ReadsChip, TakesByte, WritesChip, latched_by, reset_if, value_behind, is_by_port, Follows, StepsChip, PacedSeek, ChipStage, Ready, Call, Does, is_step, AwaitsPoll, HasPolls, IsFreshBehind, is_of_data_port, polls_from, telling_poll, IsSound, waits_for_heads, ChipTelling as Telling, Seeks as Seeking, commands_stepped as stepped}
-use Rattle.fdc_commands.specs.Seeking as seeking
 use Rattle.fdc_chip.specs.Doing.{drained_by}
 use Rattle.fdc_chip.specs.Interrupts.{at_rest}
 use Rattle.fdc_chip.specs.Quiet.{rests_at}
 use Rattle.laws_chip.proofs.Known.{adapter_stays, by_rests}
-use Rattle.laws_chip.specs.Calls as made
 use Rattle.laws_chip.proofs.Rests.{taking_stays, through_step}
 use Rattle.laws_chip.proofs.SoundCalls.{front_anew}
 use Rattle.laws_chip.proofs.UnderWay.{either_way}
-use Rattle.laws_chip.proofs.HeadsKept.{KeepsHeads, call_heads}
+use Rattle.laws_chip.proofs.WholeTransfers.{KeepsHeads, call_heads}
+use Rattle.fdc_commands.specs.Seeking as seeking
+use Rattle.laws_chip.specs.Calls as made
 
 -- ---- the controller in a device step
 

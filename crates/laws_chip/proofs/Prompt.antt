@@ -3,21 +3,21 @@ use Rattle.std.proofs.Common.{◌≡◌, ◌⊎◌, inl, inr, ℕ, ◌+◌, ◌-
 use Rattle.laws_chip.proofs.Common.{eqb-true, false≢true, nat_tests, Chrn, IsSizeCode, DriveState, Fifo, emptied, low_level, room_of, wants, worth_fetching, overrun, has_ended_seek, seek_bits, Invalid, Command, ReadData, WriteData, WriteDeleted, Results, Past, Ending, Done, BadCheck, Overrun, NoCount, IsReadingData, phase_asks, phase_told, task_asks, task_told, MayReadIn, Sent, ending_of_phase, is_overrun, is_read, is_reading, moves_bytes, overran, MayWriteIn, Long, Short, Phase, Execute, Result, Task, BeginsData, TakesAs, answered, Works, asking_told, fifo_told, told_count, is_executing, asks, is_gated, FlowsIn, TakesWhole, ending_told, given_up, mark_of, without_seek, Fdc, Lines, AdapterState, StepsAdapter, lines_at, selected_at, st1_of, BeginsSector, Front, StartsIf, asks_at, asks_outside, begun_if, count_told, moving_of, passed_one, told_if, with_controller, EndsIf, EndsSector, FollowsStep, MovesOn, SeeksOn, StepsFront, goes_on, has_failed_other, has_met_other, is_unwanted, judged_if, passed_over_if, results_behind, results_failed, would_go_on, command_for, next_of, results_told, Operation, Read, Write, MovingSector, FrontStage, Through, Seeking, Moving, Telling, Transfer, ChipState, asks_chip, interrupts_chip, passes_by_channel, passes_by_port, shows_behind, StepsChip, SentTask, is_under_way, MayMove, ServesAt, sent_of, IsBegun, Call, Does, IsServing, IsSound, ServesBehind, has_command, ReadyCommand as Ready, FdcObeys as Obeys, phases_is_moving as is_moving, phases_is_over as is_over, front_judged as judged}
 use Rattle.fdc_phases.specs.Waiting.{PhaseWaits, TaskWaits, phase_counted, task_counted}
 use Rattle.fdc_phases.specs.declared.answers.Answer.{Answer}
-use Rattle.fdc_phases.specs.declared.phases.Task.TheVariants as task
 use Rattle.fdc_core.specs.Waiting.{Lasts, LastsIn}
 use Rattle.laws_chip.proofs.Free.{next_size}
-use Rattle.laws_chip.proofs.Given.{given_starts}
 use Rattle.laws_chip.proofs.Known.{port_same, which_drive}
 use Rattle.laws_chip.proofs.Started.{size_some}
-use Rattle.laws_chip.specs.Calls as made
 use Rattle.laws_chip.specs.InTime.{AreInTime, IsPrompt, PromptAt}
 use Rattle.laws_chip.proofs.PassedOn.{step_same}
 use Rattle.laws_chip.proofs.SoundCalls.{call_sound}
-use Rattle.laws_chip.proofs.SoundParts as parts
 use Rattle.laws_chip.proofs.SoundParts.{serves_of, sound_basis}
 use Rattle.laws_chip.proofs.UnderWay.{BytePasses, Own, OfSector, Quiet, clash, either_way, gives_pass, not_through, port_stage, takes_pass}
-use Rattle.laws_chip.proofs.NextStages as makes
 use Rattle.laws_chip.proofs.NextStages.{Makes, call_stays, is_change}
+use Rattle.laws_chip.proofs.Courses.{given_starts}
+use Rattle.fdc_phases.specs.declared.phases.Task.TheVariants as task
+use Rattle.laws_chip.specs.Calls as made
+use Rattle.laws_chip.proofs.SoundParts as parts
+use Rattle.laws_chip.proofs.NextStages as makes
 
 -- ---- while no byte is asked for there is time for one more step
 

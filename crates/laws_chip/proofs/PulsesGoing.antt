@@ -6,7 +6,7 @@ use Rattle.laws_chip.proofs.HeadsGoing.{HasEnded, bare, ended_untold, front_step
 use Rattle.laws_chip.proofs.Known.{adapter_stays}
 use Rattle.laws_chip.proofs.Rests.{taking_stays, through_step}
 use Rattle.laws_chip.proofs.SeeksBegun.{given_seek, given_within, motion_to, seek_sent}
-use Rattle.laws_chip.proofs.Standing.{Stands, stands_idle, stands_ready, status_free}
+use Rattle.laws_chip.proofs.UnderWay.{Stands, stands_idle, stands_ready, status_free}
 
 -- ---- pulses
 

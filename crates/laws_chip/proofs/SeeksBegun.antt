@@ -1,15 +1,15 @@
 -- A seek begins: its last byte comes to a chip whose heads stand, with the strap for the time of step pulses off or on.
 use Rattle.std.proofs.Common.{◌≡◌, inl, inr, ℕ, zero, suc, ◌+◌, ◌*◌, ◌%◌, ◌^◌, ◌<◌, ◌≤◌, Bool, true, false, not, if◌then◌else◌, Option, Some, None, is_some, List, [], ◌∷◌, length, option_map, position, slice_index, slice_set, refl, sym, ◌∙◌, ap, subst, arith, pow_pos}
 use Rattle.laws_chip.proofs.Common.{option_map_or, and_from, and_right, false≢true, or_parts, IsMotion, is_begun, Motion, Outward, Toward, DriveSeek, Taking, recalibrating, seeking_to, is_taking, takes_in, IsInRange, is_held, is_idle, Fdc, after_result, without_result, Front, GivesCommand, with_controller, pending_outside, sensed_at, sensed_outside, Through, ChipState, with_front, AttendsIf, Moves, MovesIf, Obeys, drained, drained_one, is_moving, is_told, kept, moves_heads, moving, needs_heads, pace_begun, relative_target, Interrupting, cylinder_of, with_result, WritesChip, step_words, ChipOpcode, Specify, Recalibrate, SenseInterrupt, DumpRegisters, Seek, RelativeSeek, Version, Perpendicular, Lock, Order, PacedSeek, Ready, Completes, completed, still_moves, HeadsPaced, StandsBehind, most_paced, pulses_left, HeadsGo, IsSoundInRange, SeeksBehind, goal_of, most_of, steps_left, Seeks as Seeking}
-use Rattle.fdc_commands.specs.Seeking as seeking
-use Rattle.fdc_commands.specs.declared.command.Command.TheVariants as command
 use Rattle.fdc_chip.specs.Doing.{drained_by}
 use Rattle.laws_chip.proofs.Attended.{free_stands}
 use Rattle.laws_chip.proofs.Rests.{IsResting, drained_rests}
 use Rattle.laws_chip.proofs.SoundParts.{basis_same}
-use Rattle.laws_chip.proofs.Standing.{Stands, given_obeyed}
 use Rattle.laws_chip.proofs.WholeTransfers.{attending, byte_attends, drained_front, drained_pace, kept_front, same_moves}
 use Rattle.laws_chip.proofs.HeadsGoing.{none_pending}
+use Rattle.laws_chip.proofs.UnderWay.{Stands, given_obeyed}
+use Rattle.fdc_commands.specs.Seeking as seeking
+use Rattle.fdc_commands.specs.declared.command.Command.TheVariants as command
 
 -- ---- results that are taken over
 

@@ -1,23 +1,21 @@
 -- Heads that move come to stand, whatever calls come: each device step leaves fewer, and other calls leave no more.
 use Rattle.std.proofs.Common.{◌≡◌, ℕ, ◌+◌, ◌-◌, ◌*◌, ◌^◌, ◌<◌, ◌≤◌, max, nat_le, Bool, true, false, not, ◌&&◌, ◌||◌, ◌==◌, if◌then◌else◌, Option, Some, None, is_some, List, [], ◌∷◌, length, bit_and, bit_or, refl, sym, ◌∙◌, ap, subst, arith}
 use Rattle.laws_chip.proofs.Common.{option_map_or, eqb-true, false≢true, not-true, or_right, has_ended, is_seeking, Motion, Ended, DriveSeek, IsInRange, Front, interrupts_outside, status_at, StepsFront, answer_bytes, is_of_data, ChipState, with_front, code_of, AttendsIf, AttendsTo, Obeys, drained, is_moving, moves_heads, needs_heads, pace_begun, Paces, CollectsIf, ComesIf, GivesIf, ReadsAt, ReadsIf, TakesByte, byte_told, latched_by, is_whole, may_come, quieted_if, reset_if, value_behind, with_next, step_words, Follows, ChipAnswer, ChipOpcode, PacedSeek, Settings, ChipStage, Ready, Held, Busy, AreSeeking, HeadsGoOn, IsUsed, StaysHeld, heads_go, heads_steps, is_executed, seek_steps, Call, Does, is_of_data_port, is_reset, is_step, steps_in, steps_of, pulses_left, steps_left, IsSound, ChipTelling as Telling, Seeks as Seeking}
-use Rattle.fdc_chip.specs.declared.code.ChipOpcode.TheVariants as code
-use Rattle.laws_chip.specs.Calls as made
-use Rattle.laws_chip.proofs.HeadsKept.{call_idle, no_port}
 use Rattle.laws_chip.proofs.HeadsLeft.{IsFewLater, IsPaced, paces_on}
 use Rattle.laws_chip.proofs.HeadsTold.{TellsEnd, drained_left, drained_same}
-use Rattle.laws_chip.proofs.HeadsWait.{heads_less, range_steps}
 use Rattle.laws_chip.proofs.KnownEnds.{KnowsEnd, call_known}
 use Rattle.laws_chip.proofs.PulsesGoing.{bits_shown}
 use Rattle.laws_chip.proofs.SeeksBegun.{IsIdleAt, all_taken}
 use Rattle.laws_chip.proofs.SoundCalls.{byte_stays, call_sound, front_anew}
 use Rattle.laws_chip.proofs.SoundParts.{at_rest, is_busy}
-use Rattle.laws_chip.proofs.Standing.{status_free}
-use Rattle.laws_chip.proofs.UnderWay.{clash, either_way}
+use Rattle.laws_chip.proofs.UnderWay.{clash, either_way, status_free}
 use Rattle.laws_chip.proofs.UsedWaits.{is_held_at, obeys_free, used_known}
-use Rattle.laws_chip.proofs.WholeTransfers.{drained_pace}
+use Rattle.laws_chip.proofs.WholeTransfers.{drained_pace, call_idle, no_port}
 use Rattle.laws_chip.proofs.TracksLast.{none_of}
 use Rattle.laws_chip.proofs.SinglesLast.{steps_less}
+use Rattle.laws_chip.proofs.SeeksHeld.{heads_less, range_steps}
+use Rattle.fdc_chip.specs.declared.code.ChipOpcode.TheVariants as code
+use Rattle.laws_chip.specs.Calls as made
 
 -- ---- what is left
 

@@ -6,10 +6,9 @@ use Rattle.fdc_core.proofs.Meanings.{read_gives, read_tells}
 use Rattle.laws_chip.proofs.Judged.{judges}
 use Rattle.laws_chip.proofs.Known.{BadGoes, KnownOn, MovedOn, bytes_told, clash, either_way, in_on, out_on, port_busy, port_mark, port_on, steps_on}
 use Rattle.laws_chip.proofs.Free.{free_executes, given_free, next_size, port_free, sector_size, sought_free, step_dma, step_free}
-use Rattle.laws_chip.proofs.Given.{given_starts, no_command, no_transfer, ready_idle, served_on}
 use Rattle.laws_chip.proofs.Marks.{mark_then, then_bad, then_busy}
 use Rattle.laws_chip.proofs.Started.{Begun, answered_idle, begun_busy, begun_carries, seek_answered, size_is, told_carries}
-use Rattle.laws_chip.proofs.Courses.{accounts_on, bytes_more, bytes_next, goes_would, met_then, moved_more, none_more, not_over, one_passed, one_told, other_more, over_told, part_moved, sector_more, sector_opcode, would_uncounted}
+use Rattle.laws_chip.proofs.Courses.{accounts_on, bytes_more, bytes_next, goes_would, met_then, moved_more, none_more, not_over, one_passed, one_told, other_more, over_told, part_moved, sector_more, sector_opcode, would_uncounted, given_starts, no_command, no_transfer, ready_idle, served_on}
 
 -- ---- what stays
 

@@ -1,11 +1,11 @@
 -- After the terminal count no byte passes, and no further sector begins.
 use Rattle.std.proofs.Common.{◌≡◌, inl, inr, ℕ, ◌+◌, ◌-◌, ◌==◌, nat_lt, Bool, true, false, not, ◌&&◌, ◌||◌, Option, Some, None, List, [], ◌∷◌, ◌++◌, length, if◌then◌else◌, refl, sym, ◌∙◌, ap, subst}
 use Rattle.laws_chip.proofs.Common.{and_parts, eqb-true, false≢true, DriveState, at_index, Fifo, wants, Past, ReadOutcome, Ending, Done, Overrun, has_ended_seek, WriteNext, On, needs_byte, phase_told, task_told, MayReadIn, MayReadTask, Sent, ending_of, is_listening, is_read, is_reading, moves_bytes, MayWriteIn, MayWriteTask, Phase, Execute, Result, Task, ReadTask, WriteTask, Format, Reading, Writing, asking_told, fifo_told, to_memory_of, told_count, ExecutesTask, is_executing, resets, after_heard, at_stage, gone_on_reading, is_full, over_or_on, pushed, asks, finished, is_gated, polled, StepsNowhere, TaskStepsNowhere, WordTime, Wrote, Stopped, after_time, ending_told, given_up, mark_of, WritesIn, WritesTask, WriteDoes, after_next, without_byte, Fdc, AdapterState, StepsAdapter, WritesAdapter, lines_at, Front, GivesAt, TakesAt, WritesFront, begun_if, count_told, moving_of, told_front, with_controller, EndsIf, EndsSector, FollowsStep, MovesOn, SeeksOn, is_unwanted, judged_if, passed_over_if, Operation, Read, Write, MovingSector, FrontStage, Through, Seeking, Moving, Telling, Transfer, AreWithin, Changes, Counts, Gather, Gives, Grows, Steps, Takes, passed_in_all, History, MayMove, Serves, ServesAt, history_counted, history_ended, history_given, history_moved, history_sought, history_stepped, history_taken, passed_in, passed_out, FollowsWord as Follows, phases_is_moving as is_moving, phases_is_over as is_over, Taking as Command, TaskReadId as ReadId, front_reset_if as reset_if, WriteNextEnded as Ended, SectorCallsCall as Call, SectorCallsDoes as Does, SectorCallsWrites as Writes, chip_passed_by as passed_by}
-use Rattle.fdc_stages.specs.Readings as heard
 use Rattle.laws_chip.proofs.Called.{call_serves}
-use Rattle.laws_chip.proofs.Given.{ignored, served_on}
 use Rattle.laws_chip.proofs.Served.{counts_serve}
 use Rattle.laws_chip.proofs.Known.{at_drive, clash, polled_by, port_same}
+use Rattle.laws_chip.proofs.Courses.{ignored, served_on}
+use Rattle.fdc_stages.specs.Readings as heard
 
 -- ---- the controller
 

@@ -1,18 +1,17 @@
 -- A READ ID or a FORMAT TRACK of the inner controller ends: each device step leaves fewer.
 use Rattle.std.proofs.Common.{◌≡◌, inl, inr, ℕ, ◌+◌, ◌-◌, ◌<◌, ◌≤◌, Bool, true, false, not, ◌&&◌, ◌==◌, option_map, List, [], ◌∷◌, bit_and, refl, sym, ◌∙◌, ap, subst, arith}
 use Rattle.laws_chip.proofs.Common.{eqb-false, false≢true, missing_mark, Results, phase_told, Phase, Execute, IsCounted, Fdc, Front, GivesFront, front_told, told_if, results_taken, StepsFront, ChipState, with_front, is_size, Ends, EndsAddress, EndsAddressIf, EndsAt, EndsAs, EndsData, EndsIndex, EndsSent, is_over, judged, looks_for_cylinder, verified, without_one, Follows, FollowsTask, Place, Index, Address, Data, ChipStage, Busy, ChipTask, Track, Call, Does, steps_in, steps_of, AreAt, ExecutesBehind, IsSound, executes_single, has_command, core_steps_left as steps_left}
-use Rattle.fdc_chip.specs.declared.stage.ChipTask.TheVariants as task
-use Rattle.laws_chip.specs.Calls as made
 use Rattle.laws_chip.proofs.Channels.{counts_executes, front_gives, front_takes, gives_executes, keeps_executes, port_executes, front_left, takes_executes}
-use Rattle.laws_chip.proofs.FormatsEnd.{FormatsOn, formats, formats_step, told_formats}
-use Rattle.laws_chip.proofs.Rests.{through_step}
+use Rattle.laws_chip.proofs.Rests.{through_step, executes_none, executes_step, single_fewer, waits_shown}
 use Rattle.laws_chip.proofs.Known.{adapter_ends}
-use Rattle.laws_chip.proofs.Singles.{executes_none, executes_step, single_fewer, waits_shown}
 use Rattle.laws_chip.proofs.SoundCalls.{call_sound}
 use Rattle.laws_chip.proofs.SoundParts.{busy_at, is_busy}
 use Rattle.laws_chip.proofs.UnderWay.{not_through}
-use Rattle.laws_chip.proofs.NextStages as makes
 use Rattle.laws_chip.proofs.NextStages.{Makes, call_stays, is_change}
+use Rattle.laws_chip.proofs.VerifiesLast.{FormatsOn, formats, formats_step, told_formats}
+use Rattle.fdc_chip.specs.declared.stage.ChipTask.TheVariants as task
+use Rattle.laws_chip.specs.Calls as made
+use Rattle.laws_chip.proofs.NextStages as makes
 
 -- ---- what is over leaves the stage
 

@@ -1,20 +1,18 @@
 -- A sound chip through each call.
 use Rattle.std.proofs.Common.{◌≡◌, inl, inr, ℕ, ◌+◌, ◌<◌, nat_le, Bool, true, false, not, ◌&&◌, ◌==◌, if◌then◌else◌, Option, List, [], ◌∷◌, length, bit_and, bit_or, refl, sym, ◌∙◌, ap, subst, arith}
-use Rattle.laws_chip.proofs.Common.{agree_below_at, and_parts, eqb-true, false≢true, not-true, or_cases, DriveState, at_rest, rate_chosen, Taking, Writes, dor_resets, dsr_resets, resets, is_gated, is_held, reset, Fdc, Lines, lines_at, Front, KeepsFront, WritesFront, Through, answer_bytes, is_of_data, ChipState, IsNewChip, is_data, passes, passes_by_channel, passes_by_port, with_front, code_of, with_byte, CollectsIf, ComesIf, GivesChipIf, GivesIf, ReadsAt, ReadsChip, ReadsIf, TakesByte, TakesIf, byte_told, counted_if, latched_by, given_one, is_whole, may_come, quieted_if, reset_if, value_behind, with_next, is_by_port, ChipAnswer, Order, ChipStage, Ready, Busy, ChipTask, IsOfFour, AreMade, Call, Does, WritesByte, IsBusyWith, IsSound, IsSoundAt, RestsBehind, chip_count_told as count_told, ChipTelling as Telling, Seeks as Seeking}
-use Rattle.fdc_sequencer.specs.Fronts as fronts
+use Rattle.laws_chip.proofs.Common.{agree_below_at, and_parts, eqb-true, not-true, or_cases, DriveState, at_rest, rate_chosen, Taking, Writes, dor_resets, dsr_resets, resets, is_gated, is_held, reset, Fdc, Lines, lines_at, Front, KeepsFront, WritesFront, Through, answer_bytes, is_of_data, ChipState, IsNewChip, is_data, passes, passes_by_channel, passes_by_port, with_front, code_of, with_byte, CollectsIf, ComesIf, GivesChipIf, GivesIf, ReadsAt, ReadsChip, ReadsIf, TakesByte, TakesIf, byte_told, counted_if, latched_by, given_one, is_whole, may_come, quieted_if, reset_if, value_behind, with_next, is_by_port, ChipAnswer, Order, ChipStage, Ready, Busy, ChipTask, IsOfFour, AreMade, Call, Does, WritesByte, IsBusyWith, IsSound, IsSoundAt, RestsBehind, chip_count_told as count_told, ChipTelling as Telling, Seeks as Seeking}
 use Rattle.fdc_chip.specs.Pins.{ResetsByPin, pin_settings}
-use Rattle.fdc_chip.specs.declared.stage.ChipTask.TheVariants as task
-use Rattle.laws_chip.specs.Calls as made
 use Rattle.laws_chip.proofs.Attended.{attended_sound}
 use Rattle.laws_chip.proofs.Channels.{counts_busy, counts_front_base, front_left, gives_busy, gives_front_base, keeps_busy, port_busy, takes_busy, takes_front_base}
-use Rattle.laws_chip.proofs.FirstSectors.{IsBase}
 use Rattle.laws_chip.proofs.Known.{port_sets}
 use Rattle.laws_chip.proofs.Rests.{base_same}
-use Rattle.laws_chip.proofs.SoundParts as parts
 use Rattle.laws_chip.proofs.SoundParts.{IsBasis, basis_busy, basis_rests, basis_same, basis_set, busy_at, is_busy, keep_sound, passing_of, same_sound, sound_basis, sound_set, stays_sound}
 use Rattle.laws_chip.proofs.SoundSteps.{step_sound}
-use Rattle.laws_chip.proofs.Standing.{ready_free}
-use Rattle.laws_chip.proofs.UnderWay.{clash, either_way, port_stage}
+use Rattle.laws_chip.proofs.UnderWay.{clash, either_way, port_stage, ready_free, IsBase}
+use Rattle.fdc_sequencer.specs.Fronts as fronts
+use Rattle.fdc_chip.specs.declared.stage.ChipTask.TheVariants as task
+use Rattle.laws_chip.specs.Calls as made
+use Rattle.laws_chip.proofs.SoundParts as parts
 
 -- ---- bytes of what is executed
 

@@ -2,17 +2,13 @@
 use Rattle.std.proofs.Common.{◌≡◌, ◌⊎◌, inl, inr, ℕ, zero, suc, nat_le, Bool, true, false, not, ◌&&◌, ◌==◌, if◌then◌else◌, Option, Some, None, [], bit_and, refl, sym, ◌∙◌, ap, subst}
 use Rattle.laws_chip.proofs.Common.{option_map, and_parts, not-true, Chrn, missing_mark, Results, Front, TakesFront, interrupts_outside, is_ready_behind, results_outside, results_taken, told_front, StepsFront, ChipState, asks_chip, interrupts_chip, with_front, code_of, GivesOn, drained, identifying, implies, is_size, moves_heads, moving, Ends, EndsAddress, EndsAddressIf, EndsAs, EndsAt, EndsData, EndsIndex, EndsSent, LooksOn, MayEnd, ReadsOn, is_over, judged, looks_for_cylinder, met_key, sector_met, told_results, track_at, unit_of, verified, without_one, EndsPace, GoesOnIf, Paces, PulsesIf, is_due, is_over_pace, step_words, Follows, FollowsTask, RunsChip, StepsChip, Swallows, SwallowsAs, PacedSeek, Place, Index, Address, Data, ChipStage, Ready, Held, Busy, ChipTask, Track, ExecutesBehind, IsBusyAt, IsBusyWith, IsSound, RestsBehind, ServesBehind, chip_stepped as stepped, ChipTelling as Telling, CommandReadId as ReadId}
 use Rattle.fdc_chip.specs.Steps.{RunsChipWith, SwallowsBy}
-use Rattle.fdc_chip.specs.declared.stage.ChipTask.TheVariants as task
 use Rattle.laws_chip.proofs.Attended.{attended_sound, done_sound, given_moves, recalibrated_rests}
 use Rattle.laws_chip.proofs.Channels.{IsOverBehind, counts_busy, counts_front_base, counts_over, takes_busy, takes_front_base, takes_over}
-use Rattle.laws_chip.proofs.FieldsRead.{field_serves}
-use Rattle.laws_chip.proofs.FirstSectors.{IsBase}
 use Rattle.laws_chip.proofs.PassedOn.{none_wait}
-use Rattle.laws_chip.proofs.Rests.{IsResting, base_on, base_same, drained_rests, front_rests, stands_rests}
-use Rattle.laws_chip.proofs.ServedSteps.{serves_step, tells_shown, tells_taken}
-use Rattle.laws_chip.proofs.Singles.{executes_none, executes_step, id_executes, waits_shown, waits_taken}
-use Rattle.laws_chip.proofs.SoundParts.{IsBasis, at_rest, basis_busy, basis_front, basis_same, basis_set, busy_at, is_busy, is_ready, rests_at, sound_basis, stays_sound}
-use Rattle.laws_chip.proofs.Standing.{Stands, given_obeyed, heads_stand, ready_free}
+use Rattle.laws_chip.proofs.Rests.{IsResting, base_on, base_same, drained_rests, front_rests, stands_rests, executes_none, executes_step, id_executes, waits_shown, waits_taken}
+use Rattle.laws_chip.proofs.SoundParts.{IsBasis, at_rest, basis_busy, basis_front, basis_same, basis_set, busy_at, is_busy, is_ready, rests_at, sound_basis, stays_sound, serves_step, tells_shown, tells_taken}
+use Rattle.laws_chip.proofs.UnderWay.{Stands, given_obeyed, heads_stand, ready_free, IsBase, field_serves}
+use Rattle.fdc_chip.specs.declared.stage.ChipTask.TheVariants as task
 
 -- ---- what comes of results
 

@@ -1,21 +1,18 @@
 -- A READ TRACK ends: it looks for the index, and each sector that it reads leaves one fewer.
 use Rattle.std.proofs.Common.{◌≡◌, inl, inr, ℕ, zero, suc, ◌+◌, ◌-◌, ◌*◌, ◌%◌, ◌<◌, ◌≤◌, Bool, true, false, not, ◌&&◌, ◌||◌, ◌==◌, if◌then◌else◌, Option, Some, None, is_some, option_map, List, [], ◌∷◌, bit_and, refl, sym, ◌∙◌, ap, subst, arith}
 use Rattle.laws_chip.proofs.Common.{eqb-false, false≢true, Chrn, missing_mark, overrun, Results, IsInRange, Front, GivesTransfer, ReadsSector, results_outside, results_taken, sector_alone, StepsFront, is_last, transfer_with, Read, Transfer, HasRecords, most_steps, ChipState, with_front, Obeys, TransfersIf, absent_key, implies, is_size, reading_one, track_begun, transfer_sent, with_last, EndsAddress, EndsAddressIf, EndsAt, EndsAs, EndsData, EndsIndex, LooksOn, ReadsOn, is_over, judged, met_key, sector_met, without_one, Follows, StepsChip, ReadTrack, Order, Place, Index, Address, Data, Busy, ChipTask, Track, IsFreeBehind, Call, Does, is_step, steps_in, steps_of, AreTracked, most_track_steps, IsBusyAt, IsSound, ServesBehind, has_command, core_steps_left as steps_left}
-use Rattle.laws_chip.specs.SectorCalls as behind
-use Rattle.laws_chip.specs.SectorLasting as lasting
 use Rattle.laws_chip.proofs.Lasted.{Lasts, call_lasts, calls_last, field_lasts, first_lasts, lasts_some}
-use Rattle.fdc_chip.specs.declared.stage.ChipTask.TheVariants as task
-use Rattle.laws_chip.specs.Calls as made
 use Rattle.laws_chip.proofs.CommandsBegun.{sought_sent}
-use Rattle.laws_chip.proofs.FirstSectors.{first_begins}
-use Rattle.laws_chip.proofs.ServedSteps.{serves_step, tells_shown}
 use Rattle.laws_chip.proofs.SinglesLast.{left_most, left_some, step_fewer, makes_single, steps_less}
 use Rattle.laws_chip.proofs.SoundCalls.{call_sound}
-use Rattle.laws_chip.proofs.SoundParts.{busy_at}
-use Rattle.laws_chip.proofs.Standing.{Stands, stands_free}
-use Rattle.laws_chip.proofs.UnderWay.{clash, either_way, not_through}
+use Rattle.laws_chip.proofs.SoundParts.{busy_at, serves_step, tells_shown}
+use Rattle.laws_chip.proofs.UnderWay.{clash, either_way, not_through, Stands, stands_free, first_begins}
 use Rattle.laws_chip.proofs.VerifiesLast.{IsWithin, makes_within}
 use Rattle.laws_chip.proofs.NextStages.{Makes, call_stays, is_change}
+use Rattle.laws_chip.specs.SectorCalls as behind
+use Rattle.laws_chip.specs.SectorLasting as lasting
+use Rattle.fdc_chip.specs.declared.stage.ChipTask.TheVariants as task
+use Rattle.laws_chip.specs.Calls as made
 
 -- ---- how many device steps are left
 

@@ -2,10 +2,7 @@
 -- steps.
 use Rattle.std.proofs.Common.{◌≡◌, ℕ, ◌<◌, ◌≤◌, Bool, true, false, ◌==◌, Option, Some, None, List, [], ◌∷◌, refl, sym, ◌∙◌, ap, subst, arith}
 use Rattle.laws_chip.proofs.Common.{and_from, false≢true, DriveState, Fdc, ChipState, IsNewChip, AttendsIf, MovesIf, Obeys, drained, is_moving, needs_heads, relative_target, cylinder_of, WritesChip, step_words, ChipOpcode, PacedSeek, ChipStage, Ready, Held, Completes, still_moves, AreUses, HasRanges, HeadsMove, IsGiven, IsUsed, IsWorking, WaitsFor, heads_of, heads_steps, wait_of, wait_at, Call, IsSound}
-use Rattle.fdc_chip.specs.declared.code.ChipOpcode.TheVariants as code
-use Rattle.laws_chip.specs.Bounds as bounds
 use Rattle.laws_chip.proofs.HeadsTold.{TellsEnd, drained_runs}
-use Rattle.laws_chip.proofs.HeadsWait.{heads_some, range_steps, taken_idle}
 use Rattle.laws_chip.proofs.KnownEnds.{KnowsEnd, call_known}
 use Rattle.laws_chip.proofs.SeeksBegun.{IsIdleAt}
 use Rattle.laws_chip.proofs.SoundCalls.{call_sound, new_sound}
@@ -13,6 +10,9 @@ use Rattle.laws_chip.proofs.SoundParts.{is_busy}
 use Rattle.laws_chip.proofs.UnderWay.{clash, either_way}
 use Rattle.laws_chip.proofs.WholeTransfers.{attending, byte_attends, byte_free, last_bytes, same_moves}
 use Rattle.laws_chip.proofs.WorkEnds.{obeys_busy}
+use Rattle.laws_chip.proofs.SeeksHeld.{heads_some, range_steps, taken_idle}
+use Rattle.fdc_chip.specs.declared.code.ChipOpcode.TheVariants as code
+use Rattle.laws_chip.specs.Bounds as bounds
 
 -- ---- what is true of a chip that was used
 

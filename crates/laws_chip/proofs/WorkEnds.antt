@@ -1,16 +1,15 @@
 -- A command that was given is over after its bound: its results are told with INT.
 use Rattle.std.proofs.Common.{◌≡◌, inl, inr, ℕ, ◌+◌, ◌-◌, ◌<◌, ◌≤◌, Bool, true, false, ◌&&◌, Some, List, [], ◌∷◌, refl, ◌∙◌, ap, arith}
 use Rattle.laws_chip.proofs.Common.{false≢true, Results, ChipState, code_of, AttendsIf, Begins, BeginsReadId, FormatsIf, Obeys, RemembersIf, TransfersIf, begun, drained, implies, is_moving, is_size, needs_heads, sought_if, with_keys, with_last, ChipOpcode, Order, ChipTask, IsHeldFor, completed, AreWithoutReset, EndsAmong, IsGiven, IsWorking, has_command, most_steps_of, Call, Does, is_reset, is_step, steps_in, steps_of, IsSound, Tells, Front}
-use Rattle.fdc_chip.specs.declared.code.ChipOpcode.TheVariants as code
-use Rattle.laws_chip.specs.Calls as made
-use Rattle.laws_chip.proofs.Silences.{call_goes}
 use Rattle.laws_chip.proofs.SoundCalls.{call_sound}
 use Rattle.laws_chip.proofs.SoundParts.{is_busy}
 use Rattle.laws_chip.proofs.UnderWay.{clash, either_way}
 use Rattle.laws_chip.proofs.WholeTransfers.{call_held, follows_held, step_attends, step_rests}
-use Rattle.laws_chip.proofs.WorkBegins.{is_data}
-use Rattle.laws_chip.proofs.WorkLasts.{WorkLeft, given_left, work_call, work_some}
+use Rattle.laws_chip.proofs.WorkBegins.{is_data, WorkLeft, given_left, work_call, work_some}
 use Rattle.laws_chip.proofs.SinglesLast.{busy_works}
+use Rattle.laws_chip.proofs.NextStages.{call_goes}
+use Rattle.fdc_chip.specs.declared.code.ChipOpcode.TheVariants as code
+use Rattle.laws_chip.specs.Calls as made
 
 -- ---- a command that begins is executed
 

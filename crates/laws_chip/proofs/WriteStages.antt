@@ -1,9 +1,9 @@
 -- The stages of a command that writes, as word times pass.
 use Rattle.std.proofs.Common.{◌≡◌, ◌⊎◌, inl, inr, ℕ, zero, ◌+◌, ◌≤◌, Bool, true, false, List, [], ◌∷◌, ◌++◌, length, refl, sym, ap, arith, length-append}
 use Rattle.laws_chip.proofs.Common.{false≢true, Chrn, IsAddressAt, Fifo, Past, wrote, HasTurned, IsAtStage, IsWriting, opens, WriteNext, WriteStage, Sent, stepped, MayWriteIn, MayWriteTask, Phase, Execute, Result, Task, Writing, is_executing, WordTime, Stopped, after_next, Fdc, Taking as Command, WriteTask as Write, stages_is_due as is_due}
+use Rattle.fdc_phases.specs.Writing.{is_ended}
 use Rattle.fdc_stages.specs.declared.writing.WriteNext.TheVariants as next
 use Rattle.fdc_stages.specs.declared.writing.WriteStage.TheVariants as stage
-use Rattle.fdc_phases.specs.Writing.{is_ended}
 
 -- ---- stages
 

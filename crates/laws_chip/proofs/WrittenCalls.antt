@@ -1,11 +1,9 @@
 -- A write over a medium that stays in, through all calls from its beginning on.
 use Rattle.std.proofs.Common.{◌≡◌, ◌⊎◌, inl, inr, ℕ, ◌+◌, ◌-◌, ◌==◌, Bool, true, false, if◌then◌else◌, Option, Some, None, List, [], ◌∷◌, ◌++◌, length, replicate, refl, sym, ◌∙◌, ap, subst, arith}
 use Rattle.laws_chip.proofs.Common.{eqb-true, false≢true, append-nil, length-replicate, DriveState, Results, Past, WritesWhole, Ending, Done, NoCount, Chrn, Disk, content_size, st1_of, gave, told_in, took, taken_in, taken_out, is_executing, resets, Closes, is_idle, Fdc, FollowsDor, FollowsWrite, AdapterState, WritesAdapter, drive_at, lines_at, Front, GivesAt, SeeksFirst, StartsIf, TakesAt, WritesFront, begun_if, count_told, moving_of, passed_one, results_told, Write, MovingSector, FrontStage, Through, Seeking, Moving, Telling, Transfer, AreWithin, Changes, Counts, Gather, Gives, Steps, Takes, EndsSo, IsFailure, History, Part, Serves, has_other, history_counted, history_given, history_passed, history_taken, nothing_moved, AreWritten, HasFirst, HasWindow, IsDone, IsOverCylinderWhile, IsWrittenTo, KeepsIn, KeepsSpeed, KeepsSpeedWhile, LeavesPut, StaysPut, TellsDone, front_reset_if as reset_if, MediumPlace as Place, SectorCallsBegins as Begins, SectorCallsCall as Call, SectorCallsDoes as Does, SectorCallsWrites as Writes}
-use Rattle.laws_chip.proofs.Called.{call_serves}
-use Rattle.laws_chip.proofs.Courses.{written_whole}
-use Rattle.laws_chip.proofs.Given.{given_starts, ignored, served_on}
+use Rattle.laws_chip.proofs.Called.{call_serves, results_say}
+use Rattle.laws_chip.proofs.Courses.{written_whole, given_starts, ignored, served_on}
 use Rattle.laws_chip.proofs.Known.{port_same}
-use Rattle.laws_chip.proofs.Outcome.{results_say}
 use Rattle.laws_chip.proofs.WrittenAlike.{alike_self, alike_written, calls_alike}
 use Rattle.laws_chip.proofs.WrittenSteps.{IsOver, IsUnderway, NowWritten, OneWritten, at_new, here_of, idle_phase, over_rests, step_writes, to_moving, to_telling}
 use Rattle.laws_chip.proofs.WrittenWords.{IsAtSector, IsLike, sector_begins, sector_moves, sector_stays, sector_told}

@@ -2,11 +2,10 @@
 -- begins, or results are given.
 use Rattle.std.proofs.Common.{◌≡◌, inl, inr, ℕ, zero, suc, ◌≤◌, ◌==◌, Bool, true, false, not, ◌&&◌, if◌then◌else◌, Option, Some, None, List, [], ◌∷◌, ◌++◌, length, refl, sym, ◌∙◌, ap, subst, arith}
 use Rattle.laws_chip.proofs.Common.{and_parts, false≢true, Disk, IsSizeCode, has_ended_seek, is_begun, Results, Past, new_past, Ending, Done, told_in, head_of, Phase, Execute, Result, Works, is_executing, is_taking, takes_in, is_held, polled, WordTime, IsTime, after_time, ending_told, given_up, given_up_if, is_idle, mark_of, without_seek, MayWrite, Fdc, AdapterState, StepsAdapter, drive_at, selected_at, Front, begun_if, moving_of, told_if, with_controller, EndsIf, EndsSector, FollowsStep, MovesOn, SeeksOn, StepsFront, goes_on, has_met_other, is_unwanted, judged_if, passed_over_if, results_behind, results_failed, is_other, is_skipping, next_of, size_of, Operation, Write, MovingSector, FrontStage, Through, Seeking, Moving, Telling, Transfer, Grows, Steps, IsClean, AreMoved, History, IsMoved, IsTimeOf, MayMove, Part, Passes, PassesAt, Serves, ServesAt, StopsAtEnd, bytes_moved, history_ended, history_moved, history_sought, history_stepped, sector_after, sent_of, AreWritten, HasWindow, IsOverCylinder, IsOverCylinderWhile, Taking as Command, front_judged as judged, MediumPlace as Place, SectorCallsCall as Call, SectorCallsDoes as Does}
-use Rattle.laws_chip.proofs.Called.{call_serves}
+use Rattle.laws_chip.proofs.Called.{call_serves, idle_medium, idle_rests}
 use Rattle.laws_chip.proofs.Courses.{sector_more, sector_opcode, written_whole}
 use Rattle.laws_chip.proofs.Known.{BadGoes, KnownOn, MarkGoes, polled_rate, time_counted, time_taken, which_drive}
 use Rattle.laws_chip.proofs.Marks.{mark_then}
-use Rattle.laws_chip.proofs.Resting.{idle_medium, idle_rests}
 use Rattle.laws_chip.proofs.Served.{known_moves, still_busy}
 use Rattle.laws_chip.proofs.WrittenWords.{HasLeft, IsAtSector, IsCleanAt, IsLike, SectorOver, ended_has, ended_idle, sector_begins, sector_over, sector_told, timed_in}
 

@@ -3,11 +3,9 @@ use Rattle.std.proofs.Common.{arith, ◌≡◌, ◌∙◌, ◌+◌, ◌≤◌, �
 use Rattle.std.specs.Prelude.{◌&&◌, not, MatchOption, MatchBool, if◌then◌else◌}
 use Rattle.laws_program.proofs.Common.{leb-true, and_parts, length-take, length-drop, gap_at, standard_fill, Chrn, Code, BadRequest, Page, Changed, Protected, Rate, GoesOn, IsUndisturbed, user_bytes, bytes_from, content_size, Reply, StationState, Bay, bay_of, set_bay, met, is_bay, is_place, is_sector_request, crosses_page, is_acknowledged, is_protected, read_refusal, write_refusal, most_format_gap, format_refusal, rate_refusal, IsRefusedAtOnce, Acks, AcksDrive, RatesTo, SetsRate, Reads, ReadsDrive, WritesTo, WritesDrive, written_from, FormatsTo, FormatsDrive, reply_of, read_reply, IsRegularIn}
 use Rattle.sector_map.specs.LaidDisks.{format_at}
-use Rattle.laws_program.proofs.AlikeDisks.{AlikeBays, AlikeStations, bays_in, set_same, memory_same, becomes_same, protected_same, met_bays, regular_met, regular_in_too}
-use Rattle.laws_program.proofs.Sees.{drive_sees, one_seen, sees_on, read_remembers}
-use Rattle.laws_program.proofs.WritesAgree.{writes_agree, ok_reply}
-use Rattle.laws_program.proofs.FormatsAgree.{formats_media, formats_reply}
-use Rattle.laws_program.proofs.AcksAgree.{acks_agree}
+use Rattle.laws_program.proofs.AlikeDisks.{AlikeBays, AlikeStations, bays_in, set_same, memory_same, becomes_same, protected_same, met_bays, regular_met, regular_in_too, acks_agree}
+use Rattle.laws_program.proofs.FormatsAgree.{formats_media, formats_reply, drive_sees, one_seen, sees_on, read_remembers}
+use Rattle.laws_program.proofs.Completed.{writes_agree, ok_reply}
 
 -- the replies are the same, and the stations alike
 pub record CallsAgree (reply reply_too : Reply) (one_new two_new : StationState) : Type 0 where

@@ -9,8 +9,8 @@ use Rattle.track_model.proofs.Cuts.{IsOverlay, fits, behind_end, kept_look}
 use Rattle.track_model.proofs.Frames.{AreSame, same_back, same_address_at}
 use Rattle.track_model.proofs.OwnField.{data_overlay}
 use Rattle.track_model.proofs.Parted.{IsParted, spaced_parted}
-use Rattle.track_model.proofs.Splices
 use Rattle.laws_program.proofs.Shown.{Shows, ShowSame, show_answer}
+use Rattle.track_model.proofs.Splices
 
 module _ (track : List ℕ) (c h p : ℕ) (key : Chrn) (deleted : Bool) (content : List ℕ) (k : ℕ) (regular : IsRegular track c h) (field : IsFieldFor track p key content) (most : k ≤ length (window deleted content)) where
   abbrev after : List ℕ

@@ -2,10 +2,10 @@
 use Rattle.std.proofs.Common.{◌≡◌, ◌∙◌, ℕ, Bool, true, false, List, [], ◌∷◌, Option, Some, None, refl, ap, sym, subst, inl, inr}
 use Rattle.std.specs.Prelude.{is_some, MatchOption, if◌then◌else◌}
 use Rattle.laws_program.proofs.Common.{put_in, blank_valid, list_all, leb-true, Files, stored, Rate, R500, R250, Disk, IsDisk, file_of, Two, in_bay, with_bay, Request, Reply, StationState, Bay, Becomes, Stays, bay_of, set_bay, fresh_bay, State, IsSame, is_bay, Step, IsImageOf, refusal_of, spare_refusal, is_loaded, is_blank_request, blank_of, Taken, Run, requests_of, and_both, IsDiskFile, Names, named_by, IsStoredBy, HoldsBy, InsertsDisk, unless_bad, IsRefused}
-use Rattle.floppy_jobs.specs.declared.request.Request.TheVariants as request
-use Rattle.sector_model.specs.declared.reply.Reason.TheVariants as reason
 use Rattle.laws_program.proofs.Stepping.{either_is, keeps_media, Alters, Leaves, Turns, Overwrites, calm_step}
 use Rattle.laws_program.proofs.Inserting.{IsHeld, AreHeld, IsKept, held_in, held_with, held_still, held_none, held_is, named_loaded, stored_last, stored_still, inserted_disk, choose, choose_out, both_free, not_loaded}
+use Rattle.floppy_jobs.specs.declared.request.Request.TheVariants as request
+use Rattle.sector_model.specs.declared.reply.Reason.TheVariants as reason
 
 module _ (Holds : List ℕ → Type 0) (names : Names) (old : State) (told : Option Files) (kept : IsKept Holds names old told) where
   -- the bays of the new state are these, which have the names

@@ -2,19 +2,19 @@
 use Rattle.std.proofs.Common.{◌≡◌, ◌∙◌, ℕ, Bool, List, [], ◌∷◌, ◌++◌, length, refl, sym, ap, subst, append-nil, append_assoc, Option, Some, None, Result, Ok, Err, inl, inr, arith}
 use Rattle.std.specs.Prelude.{◌⊎◌, ◌||◌, MatchBool, nat_lt}
 use Rattle.laws_program.proofs.Common.{lt-ltb, le-ltb, length-replicate, Files, file_at, grown, Status, Two, both, user_bytes, job_of, Request, Reply, Stop, Bay, fresh_bay, State, StopsAt, StopCause, IsAbsent, IsLonger, is_refusal, stop_lines, stop_status, bad_line_text, absent_text, Taken, Run, requests_of, course_lines, has_refusal, IsEndStop, World, IsPutFault, Prints, whole_status, PlaysRequests, TellsAlone, PlaysParsed, IsText, most_job_bytes, Plays, run_more, requests_more, AreUndisturbed, BeginAlike, AreRegularBefore, AnswerAlike, AnswersAgree, IsFreeEnd, EndAlikeUnlessFree}
-use Rattle.flop_base.specs.declared.answers.Status.TheVariants as status
 use Rattle.flop_base.specs.Memory.{zeroes}
+use Rattle.laws_program.proofs.CallsAgree.{both_tests}
+use Rattle.sector_model.proofs.PlayTies.{play_ties}
+use Rattle.laws_program.proofs.AlikeDisks.{AlikeBays}
+use Rattle.laws_program.proofs.StepsAgree.{AlikeStages}
+use Rattle.laws_program.proofs.RunsAgree.{AllAgree, while_agree, Parted, Together, FirstOn, SecondOn, IsPassed, passed_free, runs_agree}
+use Rattle.laws_program.proofs.OfForms.{put_as, stop_as}
+use Rattle.laws_program.proofs.Inserting.{AlikeTold, held_at, held_alike, stop_by, stop_cases, same_stop}
+use Rattle.laws_program.proofs.Courses.{IsThere, IsTooLong}
+use Rattle.flop_base.specs.declared.answers.Status.TheVariants as status
 use Rattle.floppy_jobs.specs.declared.request.Request.TheVariants as request
 use Rattle.sector_model.specs.declared.reply.Reply.TheVariants as reply
 use Rattle.sector_model.specs.Plays as plays
-use Rattle.laws_program.proofs.Plays.{IsThere, IsTooLong}
-use Rattle.laws_program.proofs.CallsAgree.{both_tests}
-use Rattle.laws_program.proofs.Telling.{put_as, stop_as}
-use Rattle.sector_model.proofs.PlayTies.{play_ties}
-use Rattle.laws_program.proofs.AlikeDisks.{AlikeBays}
-use Rattle.laws_program.proofs.AlikeFiles.{AlikeTold, held_at, held_alike, stop_by, stop_cases, same_stop}
-use Rattle.laws_program.proofs.StepsAgree.{AlikeStages}
-use Rattle.laws_program.proofs.RunsAgree.{AllAgree, while_agree, Parted, Together, FirstOn, SecondOn, IsPassed, passed_free, runs_agree}
 
 -- ---- the beginning
 

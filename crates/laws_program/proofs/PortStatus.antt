@@ -2,16 +2,16 @@
 use Rattle.std.proofs.Common.{◌≡◌, ◌∙◌, ℕ, Bool, true, false, List, [], ◌∷◌, ◌++◌, Option, Some, None, Result, Ok, refl, ap, sym, subst, inl, inr}
 use Rattle.std.specs.Prelude.{◌==◌, is_some, IfSome, MatchOption, if◌then◌else◌}
 use Rattle.laws_program.proofs.Common.{Files, stored, both, in_bay, with_bay, DriveCounts, Status, Disk, IsDisk, file_of, Request, ports_of, PortLine, Board, IsInRange, drive_in, Reason, Stop, is_bay, StopCause, IsEndStop, IsText, ports_file_of, Stand, Performed, ports_world, LineAnswer, Bench, no_names, PortRun, DoesLine, KeepsMedia, LoadsMedium, StoresMedium, insert_refusal, eject_refusal, PlaysLines, EndsByReplies, IsDiskFile, Names, named_by, is_free, IsStoredBy, HoldsBy, InsertsDisks, media_among}
-use Rattle.floppy_jobs.specs.declared.request.Request.TheVariants as request
-use Rattle.floppy_jobs.specs.declared.ports.PortLine.TheVariants as port
-use Rattle.text_commands.specs.declared.ports.answer.LineAnswer.TheVariants as answer
 use Rattle.text_commands.specs.PortCourses.{Taken, lines_of, has_refusal}
 use Rattle.text_commands.specs.PortLines.{StopsAt, IsRefused}
 use Rattle.text_commands.specs.PortPlays.{World, Played, Stopped, BrokenOff, EndStopped, PlaysParsed, Plays, There, Missing, TooLong, Faulty, Starved}
-use Rattle.laws_program.proofs.Telling.{EndsBy, SaysRefused, whole_as, put_as, prints_as, stop_as, ends_so}
 use Rattle.laws_program.proofs.Inserting.{stored_last, stored_still, choose, choose_out, goes_in}
 use Rattle.laws_program.proofs.Protected.{not_named}
-use Rattle.laws_program.proofs.PlayStatus.{disks_stop, same_text, not_absent, not_long}
+use Rattle.laws_program.proofs.OfForms.{EndsBy, SaysRefused, whole_as, put_as, prints_as, stop_as, ends_so}
+use Rattle.laws_program.proofs.FormTimes.{disks_stop, same_text, not_absent, not_long}
+use Rattle.floppy_jobs.specs.declared.request.Request.TheVariants as request
+use Rattle.floppy_jobs.specs.declared.ports.PortLine.TheVariants as port
+use Rattle.text_commands.specs.declared.ports.answer.LineAnswer.TheVariants as answer
 
 -- ---- what stands in the bays and under their names
 

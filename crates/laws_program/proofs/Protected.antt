@@ -1,17 +1,18 @@
 -- A protected disk that stands under a name before a run stands there after it.
-use Rattle.std.proofs.Common.{[], ◌≡◌, ◌∙◌, ℕ, Bool, true, false, true≢false, cond, List, ◌∷◌, length, Option, Some, None, Ok, refl, ap, sym, subst, inr}
+use Rattle.std.proofs.Common.{[], ◌≡◌, ◌∙◌, ℕ, Bool, true, false, true≢false, cond, List, ◌∷◌, length, Option, Some, None, Ok, refl, ap, sym, subst, inr, ◌++◌}
 use Rattle.std.specs.Prelude.{◌≤◌, ◌-◌, is_some, IsSomeAnd}
-use Rattle.laws_program.proofs.Common.{option_map_or, nat_cmp, eq_by_cmp, slice_cmp, Files, file_at, after_store, stored, Status, Disk, IsDisk, image_of, file_of, image_again, both, in_bay, DriveCounts, Board, Request, Reply, Bay, bay_of, set_bay, fresh_bay, State, IsSame, ChangesMedium, is_bay, Step, IsImageOf, refusal_of, spare_refusal, is_loaded, most_image_bytes, Taken, Run, requests_of, EndsBay, Stored, Left, EndStopsAt, AtFirst, AtSecond, World, Outside, world, Form, DoesForm, RunsOver, one_image, Names, is_same_bay, exchanges, IsGuarded, BlanksUnder, BlanksNone}
-use Rattle.std.specs.FinMap as fin
+use Rattle.laws_program.proofs.Common.{option_map_or, nat_cmp, eq_by_cmp, slice_cmp, Files, file_at, after_store, stored, Status, Disk, IsDisk, image_of, file_of, image_again, both, in_bay, DriveCounts, Board, Request, Reply, Bay, bay_of, set_bay, fresh_bay, State, IsSame, ChangesMedium, is_bay, Step, IsImageOf, refusal_of, spare_refusal, is_loaded, most_image_bytes, Taken, Run, requests_of, EndsBay, Stored, Left, EndStopsAt, AtFirst, AtSecond, World, Outside, world, Form, DoesForm, RunsOver, one_image, Names, is_same_bay, exchanges, IsGuarded, BlanksUnder, BlanksNone, IsJob}
 use Rattle.std.proofs.lemmas.Map.Views.{tells_apart}
-use Rattle.floppy_jobs.specs.declared.request.Request.TheVariants as request
 use Rattle.sector_model.specs.Steps.{StoresMedium}
 use Rattle.sector_model.specs.Runs.{Ends}
-use Rattle.floppy_words.specs.declared.form.Form.TheVariants as form
 use Rattle.laws_program.proofs.Courses.{Rests, Still, AtRequest, AtEnd, AtStore, Went, went_play, went_calls, went_or_starved}
 use Rattle.laws_program.proofs.Stepping.{either, either_is, becomes_medium, calm_step, step_keeps}
-use Rattle.laws_program.proofs.Bays.{sorted, each_bay, same_bay, other_bay, in_same}
 use Rattle.laws_program.proofs.Inserting.{file_text, file_stored, not_loaded}
+use Rattle.laws_program.proofs.AlikeDisks.{sorted, each_bay, same_bay, other_bay, in_same}
+use Rattle.laws_program.proofs.JobRuns.{first_asked}
+use Rattle.std.specs.FinMap as fin
+use Rattle.floppy_jobs.specs.declared.request.Request.TheVariants as request
+use Rattle.floppy_words.specs.declared.form.Form.TheVariants as form
 
 -- ---- files
 
@@ -238,3 +239,19 @@ module _ (name file : List ℕ) (spares : List DriveCounts) (old new : Board) (b
 
   pub calls_stay : (over : RunsOver (Some (form.Int13 file)) old spares before new after ended) → KeepsDisk (form.Int13 file) over
   calls_stay over = form_stays (form.Int13 file) over (λ one two course does. went_calls one course two file ended does)
+
+-- ---- which requests a batch job runs, by its text
+
+front : (name : List ℕ) (one two : List Request) → BlanksNone name (one ++ two) → BlanksNone name one
+front name [] two none = tt
+front name (asked ∷ one) two none = (none.0, front name one two none.1)
+
+pub job_stays : (name job : List ℕ) (spares : List DriveCounts) (old new : Board) (before after : Outside) (ended : Status) (requests : List Request)
+    (disk : Disk) → RunsOver (Some (form.Play job)) old spares before new after ended → IsJob before.files job requests
+    → IsImageOf before.files name disk → IsDisk disk → disk.protected ≡ true → BlanksNone name requests → HasImage name disk after.files
+job_stays name job spares old new before after ended requests disk over spelled image valid guarded none =
+    let first = first_asked job requests (world over.start before.files before.report) (world over.last after.files after.report) over.runs.course ended
+    spelled over.runs.does in
+    play_stays name job spares old new before after ended spelled.files disk over spelled.tells
+    (subst (λ (f : Option Files). IsImageOf f name disk) spelled.tells image) valid guarded
+    (front name (requests_of over.runs.course) first.0 (subst (λ (row : List Request). BlanksNone name row) first.1 none))

@@ -1,16 +1,88 @@
--- The status of a rescue without a log, by whether some reply was a refusal.
-use Rattle.std.proofs.Common.{arith, ◌≡◌, ◌≤◌, ◌-◌, ◌∙◌, ℕ, Bool, true, false, List, [], ◌∷◌, ◌++◌, length, Option, Some, None, refl, ap, sym, subst, if◌then◌else◌}
-use Rattle.std.specs.Prelude.{◌||◌, nat_lt}
-use Rattle.laws_program.proofs.Common.{or-false, or-true, lt-ltb, le-ltb, ltb-false, ltb-true, length-append, Files, file_at, sectors_at, Code, Status, Chrn, Disk, Reply, IsImageOf, is_refusal, Taken, has_refusal, World, whole_status, blank_request, Shape, Script, carries, formats, write_of, LogLine, IsFound, asked_keys, outcome_of, rescue_rest, Rescues, outcome_status, by_absent}
-use Rattle.flop_base.specs.declared.answers.Code.TheVariants as code
+-- Two runs of one batch job over machines where nothing is left that could go wrong.
+use Rattle.std.proofs.Common.{◌≡◌, ◌∙◌, ℕ, List, length, Some, ap, sym, inl, inr, arith, ◌≤◌, ◌-◌, Bool, true, false, [], ◌∷◌, ◌++◌, Option, None, refl, subst, if◌then◌else◌, Result, Ok, Err}
+use Rattle.std.specs.Prelude.{◌⊎◌, ◌||◌, nat_lt}
+use Rattle.laws_program.proofs.Common.{Files, DriveCounts, Status, Blames, World, AreBytes, BeginAlike, AreRegularBefore, AnswersAgree, IsFreeEnd, EndAlike, world, Stand, RanOver, IsSound, EndsOutside, or-false, or-true, lt-ltb, le-ltb, ltb-false, ltb-true, length-append, file_at, sectors_at, Code, Chrn, Disk, Reply, IsImageOf, is_refusal, Taken, has_refusal, whole_status, blank_request, Shape, Script, carries, formats, write_of, LogLine, IsFound, asked_keys, outcome_of, rescue_rest, Rescues, outcome_status, by_absent, stored, R500, R250, blank_disk, image_of, file_of, ImageError, imd_of, Board, State, Stopped, Outside, Halt, Makes, HasNoDisk, IsImdFile, HasNoImd, IsRemasterFile, HasNoRemaster, Form, DoesForm, AsAsked, StarvesWords, Does, RunsOver, StoresFirst, end_stores, StoresRun, StoresDiskAlone, StoresFileAlone, stores_in_order, nothing_first, all_first, ends_store, end_stops, run_then, no_run}
+use Rattle.laws_program.proofs.PlaysAgree.{answers_determined}
+use Rattle.laws_program.proofs.Courses.{as_play, Rests, Still, AtRequest, AtEnd, AtStore, Went, went_play, went_calls}
+use Rattle.laws_program.proofs.OfForms.{nothing_left, ends_so, EndsBy, NeverInserts, IsFaithful, PartTells, opens_tells, carries_tells, carries_tells_at, acknowledges_tells, tracks_tell, some_whole}
+use Rattle.commands.specs.Parts.{asks, may_starve, through}
+use Rattle.disk_commands.specs.Rescue.{does_next, follows, rescues, acknowledges_both, prepares_new, prepares, rescues_all, stores_log, rescue_found}
+use Rattle.laws_program.proofs.Completed.{blank_never, format_never}
+use Rattle.archive_commands.specs.Making.{IsDiskFile}
+use Rattle.laws_commands.proofs.ScriptStores.{verify_stores, exercise_stores, format_stores, copy_stores, import_stores, export_stores}
+use Rattle.laws_program.specs.StoresMade.{StoresFor, StoresAsked}
 use Rattle.flop_base.specs.declared.answers.Status.TheVariants as status
+use Rattle.floppy_words.specs.declared.form.Form.TheVariants as form
+use Rattle.flop_base.specs.declared.answers.Code.TheVariants as code
 use Rattle.floppy_jobs.specs.declared.request.Request.TheVariants as request
 use Rattle.sector_model.specs.declared.reply.Reply.TheVariants as reply
 use Rattle.sector_model.specs.declared.reply.Reason.TheVariants as reason
-use Rattle.commands.specs.Parts.{asks, may_starve, through}
-use Rattle.disk_commands.specs.Rescue.{does_next, follows, rescues, acknowledges_both, prepares_new, prepares, rescues_all, stores_log, rescue_found}
-use Rattle.laws_program.proofs.Telling.{EndsBy, NeverInserts, IsFaithful, PartTells, opens_tells, carries_tells, carries_tells_at, acknowledges_tells, tracks_tell, some_whole}
-use Rattle.laws_program.proofs.Completed.{blank_never, format_never}
+use Rattle.archive_commands.specs.declared.halt.Halt.TheVariants as halt
+
+-- if the outside ended the program, the fault was counted
+free_counted : (old new : Stand) (ended : Status) → Blames (ended ≡ status.FileFault) old.outside.shelf_faults new.outside.shelf_faults
+    → Blames (ended ≡ status.SinkFault) old.outside.sink_faults new.outside.sink_faults → IsFreeEnd ended → EndsOutside old new ended
+free_counted old new ended shelf sink free = ends_so (λ flag. ⊥) (EndsOutside old new) ended (λ e. e) (λ e. e) tt shelf.rose sink.rose free
+
+module _ (job : List ℕ) (spares other_spares : List DriveCounts) (old new other_old other_new : Stand) (ended other_ended : Status) (files others : Files)
+    (one : RanOver (Some (form.Play job)) spares old new ended) (two : RanOver (Some (form.Play job)) other_spares other_old other_new other_ended) where
+  abbrev first : World
+  first = world one.runs.start old.outside.outside.files old.outside.outside.report
+
+  abbrev second : World
+  second = world two.runs.start other_old.outside.outside.files other_old.outside.outside.report
+
+  abbrev first_after : World
+  first_after = world one.runs.last new.outside.outside.files new.outside.outside.report
+
+  abbrev second_after : World
+  second_after = world two.runs.last other_new.outside.outside.files other_new.outside.outside.report
+
+  -- both runs have as many spare drives
+  same_spares : length other_spares ≡ length spares → two.runs.start.station.spares ≡ one.runs.start.station.spares
+  same_spares many =
+      sym two.runs.set_up.fresh.spares ∙ ap (λ (d : List DriveCounts). length d) two.runs.set_up.starts.spares_are ∙ many
+      ∙ sym (ap (λ (d : List DriveCounts). length d) one.runs.set_up.starts.spares_are) ∙ one.runs.set_up.fresh.spares
+
+  pub job_settled : IsSound old.board spares → IsSound other_old.board other_spares → length other_spares ≡ length spares
+      → old.outside.outside.files ≡ Some files → other_old.outside.outside.files ≡ Some others → others.held ≡ files.held → AreBytes files
+      → AnswersAgree one.runs.start one.runs.runs.course two.runs.runs.course
+      × (AreRegularBefore one.runs.start one.runs.runs.course
+      → EndsOutside old new ended ⊎ EndsOutside other_old other_new other_ended
+      ⊎ EndAlike first second one.runs.runs.course two.runs.runs.course first_after second_after ended other_ended)
+  job_settled sound other_sound many told told_too same bytes =
+      let set_up = one.runs.set_up in
+      let other_set_up = two.runs.set_up in
+      let begins : BeginAlike first second = record {
+        first = record {
+          fresh = set_up.fresh;
+          nothing_left = nothing_left old.board spares one.runs.start.station set_up.fresh set_up.starts sound;
+        };
+        second = record {
+          fresh = other_set_up.fresh;
+          nothing_left = nothing_left other_old.board other_spares two.runs.start.station other_set_up.fresh other_set_up.starts other_sound;
+        };
+        spares = same_spares many;
+        names = other_set_up.names ∙ sym set_up.names;
+        files = files;
+        others = others;
+        told = told;
+        told_too = told_too;
+        same = same;
+        bytes = bytes;
+      } in
+      let both = answers_determined job first first_after second second_after one.runs.runs.course two.runs.runs.course ended other_ended begins
+      (as_play first one.runs.runs.course first_after job ended one.runs.runs.does)
+      (as_play second two.runs.runs.course second_after job other_ended two.runs.runs.does) in (
+        both.0,
+        λ regular. elim (both.1 regular) [
+          | inl free ↦ inl (free_counted old new ended one.shelf_faults one.sink_faults free)
+          | inr (inl free) ↦ inr (inl (free_counted other_old other_new other_ended two.shelf_faults two.sink_faults free))
+          | inr (inr alike) ↦ inr (inr alike)
+        ],
+      )
+
+-- ---- the status of a rescue without a log, by whether some reply was a refusal
 
 -- some record was logged
 abbrev some_line : List LogLine → Bool
@@ -112,3 +184,95 @@ rescue_by from to log files disk old new course ended told image absent (answers
     opens_tells from (λ shape. rescue_rest to log shape (answers shape.rate)) files disk old new course ended told image
     (λ shape. by_absent files to log shape (IsFaithful false) absent (new_by to log shape) tt tt (answers shape.rate)
     (subst (λ (f : Option Files). IsFound f log (sectors_at shape.rate) (answers shape.rate)) told (are shape.rate))) runs
+
+-- ---- which stores each subcommand (form) makes
+
+-- ---- jobs, and calls of INT 13h
+
+rests_store : (mid new : State) (files after : Option Files) → Rests mid files new after → StoresFirst (end_stores mid) files after
+rests_store mid new files after (Still state same) = nothing_first (end_stores mid) files after same
+rests_store mid new files after (AtRequest asked cause stops) = nothing_first (end_stores mid) files after stops.files
+rests_store mid new files after (AtEnd ends) = all_first (end_stores mid) files after (ends_store mid new files after ends)
+rests_store mid new files after (AtStore stops) = end_stops mid new files after stops
+
+went_stores : (old : World) (course : List Taken) (new : World) → Went old course new → StoresRun old.state course old.files new.files
+went_stores old course new went =
+    run_then old.state went.mid old.files went.files new.files course went.run (rests_store went.mid new.state went.files new.files went.rests)
+
+-- ---- subcommands that make a file of another
+
+no_disk : Disk
+no_disk = blank_disk 1 1 1 R500
+
+no_disk_stored : (name : List ℕ) (told after : Option Files) → after ≡ told → StoresDiskAlone name told after
+no_disk_stored name told after same = (no_disk, nothing_first _ told after same)
+
+no_file_stored : (name : List ℕ) (told after : Option Files) → after ≡ told → StoresFileAlone name told after
+no_file_stored name told after same = ([], nothing_first _ told after same)
+
+makes_disk : {T : Type 0} (reading : List ℕ → Result T ImageError) (Becomes : T → List ℕ → ℕ → Type 0) (IsUnfit : T → ℕ → ℕ → Type 0)
+    → ((source : T) (file : List ℕ) (count : ℕ) → Becomes source file count → (disk : Disk) × (file ≡ file_of disk))
+    → (from to : List ℕ) (told : Option Files) (outcome : Result ℕ Halt) (after : Option Files) → Makes reading Becomes IsUnfit from to told outcome after
+    → StoresDiskAlone to told after
+makes_disk reading Becomes IsUnfit disk from to told (Ok count) after makes =
+    let made = disk makes.0 makes.1 count makes.3 in
+    (made.0, all_first _ told after (makes.4 ∙ ap (λ (file : List ℕ). stored told to file) made.1))
+makes_disk reading Becomes IsUnfit disk from to told (Err (halt.Unfit c h)) after makes = no_disk_stored to told after makes.1
+makes_disk reading Becomes IsUnfit disk from to told (Err (halt.Stopped cause)) after makes = no_disk_stored to told after makes.1
+
+makes_file : {T : Type 0} (reading : List ℕ → Result T ImageError) (Becomes : T → List ℕ → ℕ → Type 0) (IsUnfit : T → ℕ → ℕ → Type 0)
+    (from to : List ℕ) (told : Option Files) (outcome : Result ℕ Halt) (after : Option Files) → Makes reading Becomes IsUnfit from to told outcome after
+    → StoresFileAlone to told after
+makes_file reading Becomes IsUnfit from to told (Ok count) after makes = (makes.1, all_first _ told after makes.4)
+makes_file reading Becomes IsUnfit from to told (Err (halt.Unfit c h)) after makes = no_file_stored to told after makes.1
+makes_file reading Becomes IsUnfit from to told (Err (halt.Stopped cause)) after makes = no_file_stored to told after makes.1
+
+-- ---- each subcommand
+
+form_stores : (asked : Form) (old : World) (course : List Taken) (new : World) (ended : Status) → DoesForm asked old course new ended
+    → StoresFor asked old.state course old.files new.files
+form_stores (form.Play job) old course new ended does = went_stores old course new (went_play old course new job ended does)
+form_stores (form.Int13 file) old course new ended does = went_stores old course new (went_calls old course new file ended does)
+form_stores (form.Format name count) old course new ended does = format_stores name count R500 old course new ended does
+form_stores (form.FormatDd name count) old course new ended does = format_stores name count R250 old course new ended does
+form_stores (form.Copy from to) old course new ended does = copy_stores from to old course new ended does
+form_stores (form.Verify name) old course new ended does = verify_stores name old course new ended does
+form_stores (form.Exercise seed count) old course new ended does = exercise_stores seed count old course new ended does
+form_stores (form.Import flat name) old course new ended does = import_stores flat name old course new ended does
+form_stores (form.Export name flat) old course new ended does = export_stores name flat old course new ended does
+form_stores (form.Rescue from to log) old course new ended does = stores_in_order from to log old new course ended does
+form_stores (form.Survey name) old course new ended on = on.does.2
+form_stores (form.FromImd imd name) old course new ended on =
+    makes_disk imd_of IsDiskFile HasNoDisk (λ source file count becomes. (becomes.0, becomes.3)) imd name old.files on.does.0 new.files on.does.1
+form_stores (form.ToImd name imd) old course new ended on =
+    makes_file image_of IsImdFile HasNoImd name imd old.files on.does.0 new.files on.does.1
+form_stores (form.Remaster from to) old course new ended on =
+    makes_disk image_of IsRemasterFile HasNoRemaster (λ source file count becomes. (becomes.0, becomes.2)) from to old.files on.does.0 new.files on.does.1
+
+-- the stores of a subcommand that did nothing
+starved_stores : (asked : Form) (start : State) (course : List Taken) (told after : Option Files) → course ≡ [] → after ≡ told
+    → StoresFor asked start course told after
+starved_stores (form.Play job) start course told after nothing same = no_run start told after course nothing same
+starved_stores (form.Int13 file) start course told after nothing same = no_run start told after course nothing same
+starved_stores (form.Format name count) start course told after nothing same = no_disk_stored name told after same
+starved_stores (form.FormatDd name count) start course told after nothing same = no_disk_stored name told after same
+starved_stores (form.Copy from to) start course told after nothing same = no_disk_stored to told after same
+starved_stores (form.Import flat name) start course told after nothing same = no_disk_stored name told after same
+starved_stores (form.Export name flat) start course told after nothing same = no_file_stored flat told after same
+starved_stores (form.Rescue from to log) start course told after nothing same = (no_disk, nothing_first _ told after same)
+starved_stores (form.FromImd imd name) start course told after nothing same = no_disk_stored name told after same
+starved_stores (form.ToImd name imd) start course told after nothing same = no_file_stored imd told after same
+starved_stores (form.Remaster from to) start course told after nothing same = no_disk_stored to told after same
+starved_stores _ start course told after nothing same = same
+
+asked_stores : (asked : Option Form) (old : World) (course : List Taken) (new : World) (ended : Status) → Does asked old course new ended
+    → StoresAsked asked old.state course old.files new.files
+asked_stores (Some asked) old course new ended (AsAsked does) = form_stores asked old course new ended does
+asked_stores (Some asked) old course new ended (StarvesWords nothing idle) =
+    starved_stores asked old.state course old.files new.files nothing (ap (λ (w : World). w.files) idle.same)
+asked_stores None old course new ended tells = tells.tells.files
+
+pub each_form_stores : (asked : Option Form) (spares : List DriveCounts) (old new : Board) (before after : Outside) (ended : Status)
+    (over : RunsOver asked old spares before new after ended) → StoresAsked asked over.start over.runs.course before.files after.files
+each_form_stores asked spares old new before after ended over =
+    asked_stores asked (world over.start before.files before.report) over.runs.course (world over.last after.files after.report) ended over.runs.does

@@ -1,12 +1,11 @@
 -- What a rescue stores, and in which order.
 use Rattle.std.proofs.Common.{ℕ, List, [], Some, ap, ◌≡◌, Option, subst}
 use Rattle.laws_program.proofs.Common.{of_one, Status, DriveCounts, Board, Taken, World, Outside, world, DoesOrStarves, AsAsked, StarvesWords, RunsOver, LogLine, log_of, StoresDiskThenLog, nothing_first, blank_disk, R500, stores_in_order, IsRegularDisk, fresh_memory, sectors_at, State, IsLogFound, BringsUpNoMark, HasTarget, IsTarget, IsRescue, Files, file_at, Disk, IsImageOf, log_text, LogsNotFound, IsUnmistaken, IsEndStatus, HadNoFault, HadNoStall, StoresLogOf, IsNotToldStopped, IsNotStopped, Rescues}
-use Rattle.floppy_words.specs.declared.form.Form.TheVariants as form
-use Rattle.laws_program.proofs.OfForms.{asked_whole}
+use Rattle.laws_program.proofs.OfForms.{asked_whole, undisturbed_first, faultless_second}
 use Rattle.laws_commands.proofs.Whole.{rescue_logs, rescue_stores}
 use Rattle.std.specs.Prelude.{◌≢◌, None, IfSome}
-use Rattle.laws_program.proofs.OnBoards.{undisturbed_first, faultless_second}
-use Rattle.laws_program.proofs.Unstopped.{rescue_unstopped}
+use Rattle.laws_program.proofs.RunsAgree.{rescue_unstopped}
+use Rattle.floppy_words.specs.declared.form.Form.TheVariants as form
 
 in_order : (from to log : List ℕ) (old new : World) (course : List Taken) (ended : Status) → DoesOrStarves (form.Rescue from to log) old course new ended
     → (lines : List LogLine) × StoresDiskThenLog to log lines old.files new.files

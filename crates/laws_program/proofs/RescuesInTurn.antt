@@ -2,12 +2,12 @@
 use Rattle.std.proofs.Common.{arith, ◌≡◌, ◌≢◌, ◌∙◌, ◌+◌, ◌≤◌, ℕ, zero, suc, Bool, true, false, List, [], ◌∷◌, ◌++◌, length, append-nil, append_assoc, lit<, Option, Some, None, refl, sym, ap, subst, inl, inr}
 use Rattle.std.specs.Prelude.{◌⊎◌, Contains, IfSome, nat_lt, if◌then◌else◌}
 use Rattle.laws_program.proofs.Common.{Contains-tail, nil_from_length, of_one, cases_eq, ltb-false, All-contains, All-weaker, recursion_from_All, Files, file_at, after_store, stored, sectors_at, Status, Chrn, Disk, IsDisk, file_of, IsRegularDisk, Taken, World, IsAbsent, shape_of, logged_keys, outcome_status, IsLogLine, IsLog, log_text, LogLine, IsLogFound, asked_keys, world, IsFieldOf, IsSettled, GivesFields, StoresRescue, TellsRescue, IsNotFound, count_writes, outcome_in, log_of, entry_at, IsStandardKey, image_there, each_standard}
-use Rattle.flop_base.specs.declared.answers.Status.TheVariants as status
 use Rattle.rescue.proofs.LawLemmas.{one_spelling}
 use Rattle.laws_commands.specs.LaidFields.{HasLaidFields}
 use Rattle.laws_commands.proofs.Sectors.{few_sectors}
 use Rattle.laws_program.specs.InTurn.{RescueRun, IsRescueRun, StandAsLeft, AreInTurn, last_run, SomeRun, IsSavedFrom, CouldBeRead, LeavesRescued}
 use Rattle.laws_program.proofs.Rescues.{rescue_settles, rescue_settles_again, rescue_loses}
+use Rattle.flop_base.specs.declared.answers.Status.TheVariants as status
 
 -- ---- records among others
 

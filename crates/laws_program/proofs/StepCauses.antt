@@ -1,11 +1,11 @@
 -- Each step of a run: what a format did, why a request was refused, and how many data commands were sent.
 use Rattle.std.proofs.Common.{arith, ◌≡◌, ◌+◌, ◌*◌, ◌≤◌, ◌∙◌, ℕ, Bool, true, false, true≢false, List, [], Option, Some, None, Result, Ok, Err, refl, ap, sym, subst}
 use Rattle.std.specs.Prelude.{option_map, MatchOption, MatchBool, IfErr, if◌then◌else◌}
-use Rattle.laws_program.proofs.Common.{All-nil, Files, gap_at, standard_fill, sectors_at, Counters, IsDriven, Code, BadRequest, Chrn, Disk, Request, Format, Laying, Reply, Reason, StationState, bay_of, State, IsSame, is_bay, read_refusal, write_refusal, format_refusal, rate_refusal, IsRefusedAtOnce, ChangesMedium, Disk, Acks, AcksDrive, WritesTo, WritesDrive, written_from, Lays, FormatsTo, Step, IsDriverCall, IsRefused, refusal_of, read_reply, reply_of, is_refusal, same_within, ok_taken, format_in, IsFormat, FormatsTrack, by_driver, refusal_at_once, IsWriteRefused, IsDriveCause, TellsCause, most_commands, Sends, SendsFew}
+use Rattle.laws_program.proofs.Common.{All-nil, Files, gap_at, standard_fill, sectors_at, Counters, IsDriven, Code, BadRequest, Chrn, Disk, Request, Format, Laying, Reply, Reason, StationState, bay_of, State, IsSame, is_bay, read_refusal, write_refusal, format_refusal, rate_refusal, IsRefusedAtOnce, ChangesMedium, Acks, AcksDrive, WritesTo, WritesDrive, written_from, Lays, FormatsTo, Step, IsDriverCall, IsRefused, refusal_of, read_reply, reply_of, is_refusal, same_within, ok_taken, format_in, IsFormat, FormatsTrack, by_driver, refusal_at_once, IsWriteRefused, IsDriveCause, TellsCause, most_commands, Sends, SendsFew}
+use Rattle.laws_program.proofs.Stepping.{AlongRuns, each_step, becomes_medium, either, driven_less, fine_call, ok_not}
 use Rattle.floppy_jobs.specs.declared.request.Request.TheVariants as request
 use Rattle.sector_model.specs.declared.reply.Reply.TheVariants as reply
 use Rattle.sector_model.specs.declared.reply.Reason.TheVariants as reason
-use Rattle.laws_program.proofs.Stepping.{AlongRuns, each_step, becomes_medium, either, driven_less, fine_call, ok_not}
 
 -- ---- formats
 

@@ -2,12 +2,12 @@
 use Rattle.std.proofs.Common.{arith, ◌≡◌, ◌≤◌, ◌∙◌, ℕ, Bool, true, false, true≢false, List, [], ◌∷◌, length, Option, Some, None, Result, Ok, Err, refl, ap, sym, subst, inl, inr, ◌⊎◌}
 use Rattle.std.specs.Prelude.{◌&&◌, not, if◌then◌else◌, MatchOption, MatchBool, IsOk, is_some, ◌-◌}
 use Rattle.laws_program.proofs.Common.{Two, in_bay, with_bay, option_map_or, Files, Code, Chrn, Disk, Request, Counters, IsDriven, Change, Written, Reply, StationState, Bay, bay_of, set_bay, fresh_bay, Becomes, Stays, State, is_acknowledged, is_protected, write_refusal, format_refusal, rate_refusal, is_bay, is_sector_request, is_format_request, crosses_page, read_refusal, IsRefusedAtOnce, Acks, AcksDrive, Reads, ReadsDrive, IsRead, WritesTo, Reaches, IsWritten, written_from, FormatsTo, Step, refusal_of, read_reply, reply_of, is_refusal, Taken, Run, content_size, EachStep, is_same_bay, exchanges, has_exchanged, IsGuarded, KeepsGuarded, ReadsField, IsWrite, WritesField, WritesAlone, KeepsOtherFields, IsRegularDisk, Format}
+use Rattle.laws_program.specs.StoredAgain.{only_reads}
+use Rattle.laws_program.proofs.Inserting.{IsHeld, reach_held, lays_held}
+use Rattle.laws_program.proofs.AlikeDisks.{sorted, same_bay, other_bay, kept_medium}
 use Rattle.flop_base.specs.declared.answers.Code.TheVariants as code
 use Rattle.floppy_jobs.specs.declared.request.Request.TheVariants as request
 use Rattle.sector_model.specs.declared.reply.Reply.TheVariants as reply
-use Rattle.laws_program.specs.StoredAgain.{only_reads}
-use Rattle.laws_program.proofs.Inserting.{IsHeld, reach_held, lays_held}
-use Rattle.laws_program.proofs.Bays.{sorted, same_bay, other_bay, kept_medium}
 
 -- ---- steps
 

@@ -2,15 +2,13 @@
 use Rattle.std.proofs.Common.{arith, ◌≡◌, ◌∙◌, ◌+◌, ◌-◌, ◌≤◌, ℕ, nat_le, Bool, true, false, List, length, replicate, refl, sym, ap, subst, Option, Some, None}
 use Rattle.std.specs.Prelude.{◌==◌, if◌then◌else◌}
 use Rattle.laws_program.proofs.Common.{blank_valid, leb-true, and_parts, length-replicate, Files, stored, Rate, R500, R250, Disk, file_of, Two, in_bay, with_bay, Counters, IsUndisturbed, with_items, user_bytes, bytes_from, Request, Reply, Reason, bay_of, set_bay, fresh_bay, dump_port_accesses, is_bay, State, IsSame, ChangesMedium, Step, Fills, IsDriverCall, IsRefused, refusal_of, is_loaded, unless_bad, is_blank_request, spare_refusal, blank_of, reply_of, read_reply, entered_by, HasRegularDisks, AnswerAlike, length-with_items}
+use Rattle.sector_model.specs.Steps.{Does}
+use Rattle.laws_program.proofs.AlikeDisks.{AlikeDisks, AlikeMedia, AlikeBays, AlikeStations, disk_itself, loaded_same, bays_in, set_same, memory_same, becomes_same, regular_bay, calm_bay, in_both}
+use Rattle.laws_program.proofs.CallsAgree.{CallsAgree, both_ways, length-bytes_from, read_call, write_call, format_call, rate_call, ack_call}
+use Rattle.laws_program.proofs.Inserting.{AlikeTold, images_alike, disk_files, stored_same}
 use Rattle.floppy_jobs.specs.declared.request.Request.TheVariants as request
 use Rattle.sector_model.specs.declared.reply.Reply.TheVariants as reply
 use Rattle.sector_model.specs.declared.reply.Reason.TheVariants as reason
-use Rattle.sector_model.specs.Steps.{Does}
-use Rattle.laws_program.proofs.AlikeDisks.{AlikeDisks, AlikeMedia, AlikeBays, AlikeStations, disk_itself, loaded_same, bays_in, set_same, memory_same, becomes_same, regular_bay}
-use Rattle.laws_program.proofs.AfterDisks.{in_both}
-use Rattle.laws_program.proofs.AlikeFiles.{AlikeTold, images_alike, disk_files, stored_same}
-use Rattle.laws_program.proofs.Calm.{calm_bay}
-use Rattle.laws_program.proofs.CallsAgree.{CallsAgree, both_ways, length-bytes_from, read_call, write_call, format_call, rate_call, ack_call}
 
 -- two states with their told files that differ only in contents
 pub record AlikeStages (one : State) (told : Option Files) (two : State) (other : Option Files) : Type 0 where

@@ -1,11 +1,9 @@
 -- What a write to a regular disk does where nothing disturbs it, by what the track shows.
 use Rattle.std.proofs.Common.{arith, ◌≡◌, ◌∙◌, ℕ, List, [], ◌∷◌, ◌++◌, length, refl, sym, ap, subst, inl, inr, Option, Some, None, Result, Ok, Err, IsOk, length-append}
 use Rattle.laws_program.proofs.Common.{Chrn, Code, Rate, Disk, HasTrack, track_of, GoesOn, IsUndisturbed, IsAddressAt, HasAddressMark, IsRegular, plain_clear, Change, Written, IsChange, met_in, MeetsTrack, met_track, nothing_there, cases_rate, key_cylinder, StationState, Bay, bay_of, met, Reaches, IsWritten, IsWriteCause, ChangesAlone, WritesDrive, IsRegularIn}
-use Rattle.flop_base.specs.declared.answers.Code.TheVariants as code
-use Rattle.laws_program.proofs.AlikeDisks.{regular_met}
-use Rattle.laws_program.proofs.Bays.{in_with}
-use Rattle.laws_program.proofs.Calm.{no_faults, no_overrun, no_loss, disturbed_less}
+use Rattle.laws_program.proofs.AlikeDisks.{regular_met, no_faults, no_overrun, no_loss, disturbed_less, in_with}
 use Rattle.laws_program.proofs.Shown.{ShowSame}
+use Rattle.flop_base.specs.declared.answers.Code.TheVariants as code
 
 -- the refusals of a write, by what the track shows: no address mark, or no field of the key
 pub data Refuses (track : List ℕ) (key : Chrn) (c : Code) : Type 0 where

@@ -1,7 +1,7 @@
 use Rattle.std.proofs.Common.{refl}
 use Rattle.laws_chip.proofs.Common.{FormatTrack, ReadId, ReadTrack, Verify}
 use Rattle.fdc_chip.specs.declared.code.ChipOpcode.TheVariants.{Transfer}
-use Rattle.laws_chip.proofs.WorkLasts.{given_lasts}
+use Rattle.laws_chip.proofs.WorkBegins.{given_lasts}
 use Rattle.laws_chip.proofs.lasting.a_command_that_comes_ends.Goals as goal
 
 pub returns-clause-read_id : goal.returns-clause-read_id

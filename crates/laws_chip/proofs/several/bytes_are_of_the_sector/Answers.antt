@@ -1,4 +1,4 @@
-use Rattle.laws_chip.proofs.Outcome.{passes_of}
+use Rattle.laws_chip.proofs.Called.{passes_of}
 use Rattle.laws_chip.proofs.several.bytes_are_of_the_sector.Goals as goal
 
 pub returns : goal.returns

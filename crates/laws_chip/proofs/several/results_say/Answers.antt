@@ -1,4 +1,4 @@
-use Rattle.laws_chip.proofs.Outcome as lemmas
+use Rattle.laws_chip.proofs.Called as lemmas
 use Rattle.laws_chip.proofs.several.results_say.Goals as goal
 
 pub returns : goal.returns

@@ -1,4 +1,4 @@
-use Rattle.laws_chip.proofs.Outcome.{has_field, passed_whole}
+use Rattle.laws_chip.proofs.Called.{has_field, passed_whole}
 use Rattle.laws_chip.proofs.several.sectors_are_whole.Goals as goal
 
 pub returns-clause-parts : goal.returns-clause-parts

@@ -1,5 +1,5 @@
 use Rattle.laws_chip.proofs.Medium.{read_from}
-use Rattle.laws_chip.proofs.Whole.{begins_served}
+use Rattle.laws_chip.proofs.UnderWay.{begins_served}
 use Rattle.laws_chip.proofs.several.what_is_read_stands_on_the_medium.Goals as goal
 
 pub returns : goal.returns

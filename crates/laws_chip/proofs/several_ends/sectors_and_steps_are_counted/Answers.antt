@@ -1,4 +1,4 @@
-use Rattle.laws_chip.proofs.Sectors.{sectors_few, sectors_next, steps_both, steps_run}
+use Rattle.laws_chip.proofs.Started.{sectors_few, sectors_next, steps_both, steps_run}
 use Rattle.laws_chip.proofs.several_ends.sectors_and_steps_are_counted.Goals as goal
 
 pub returns-clause-most : goal.returns-clause-most

@@ -1,4 +1,4 @@
-use Rattle.laws_chip.proofs.Whole.{begins_served}
+use Rattle.laws_chip.proofs.UnderWay.{begins_served}
 use Rattle.laws_chip.proofs.WrittenCalls.{written_to}
 use Rattle.laws_chip.proofs.several_written.what_is_written_stands_on_the_medium.Goals as goal
 

@@ -1,4 +1,4 @@
-use Rattle.laws_chip.proofs.Tellings.{cylinder_told, sent_looks, sent_told, told_asks, told_interrupts}
+use Rattle.laws_chip.proofs.CommandsBegun.{cylinder_told, sent_looks, sent_told, told_asks, told_interrupts}
 use Rattle.laws_chip.proofs.transfers.what_the_sequencer_tells_is_told.Goals as goal
 
 pub returns-clause-told : goal.returns-clause-told

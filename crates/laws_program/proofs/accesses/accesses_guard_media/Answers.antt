@@ -1,6 +1,6 @@
 use Rattle.laws_program.proofs.Common.{waits_of, course_passes, passes_rise}
 use Rattle.text_commands.proofs.GuardingPorts.{course_guards}
-use Rattle.laws_program.proofs.ChangedWords.{read_changes, write_changes, wait_changes, wait_irq_changes}
+use Rattle.laws_program.proofs.SeekOrData.{read_changes, write_changes, wait_changes, wait_irq_changes}
 use Rattle.laws_program.proofs.accesses.accesses_guard_media.Goals as goal
 
 pub returns-clause-read : goal.returns-clause-read

@@ -1,4 +1,4 @@
-use Rattle.laws_program.proofs.Copies.{copy_target}
+use Rattle.laws_program.proofs.Endings.{copy_target}
 use Rattle.laws_program.proofs.copy.copied_disk_is_a_target.Goals as goal
 
 pub returns : goal.returns

@@ -1,4 +1,4 @@
-use Rattle.laws_program.proofs.Copies.{copies_well}
+use Rattle.laws_program.proofs.Endings.{copies_well}
 use Rattle.laws_program.proofs.copy.copy_of_a_disk.Goals as goal
 
 pub returns : goal.returns

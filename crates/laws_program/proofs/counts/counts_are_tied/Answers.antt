@@ -1,4 +1,4 @@
-use Rattle.laws_program.proofs.OnCounts.{over_ties}
+use Rattle.laws_program.proofs.Archives.{over_ties}
 use Rattle.laws_program.proofs.counts.counts_are_tied.Goals as goal
 
 pub returns : goal.returns

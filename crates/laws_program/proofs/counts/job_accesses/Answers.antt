@@ -1,4 +1,4 @@
-use Rattle.laws_program.proofs.OnCounts.{machine_accesses}
+use Rattle.laws_program.proofs.Archives.{machine_accesses}
 use Rattle.laws_program.proofs.counts.job_accesses.Goals as goal
 
 pub returns : goal.returns

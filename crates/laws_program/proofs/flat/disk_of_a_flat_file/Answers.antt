@@ -1,4 +1,4 @@
-use Rattle.laws_program.proofs.FlatFiles.{imports_well}
+use Rattle.laws_program.proofs.Endings.{imports_well}
 use Rattle.laws_program.proofs.flat.disk_of_a_flat_file.Goals as goal
 
 pub returns : goal.returns

@@ -1,4 +1,4 @@
-use Rattle.laws_program.proofs.FlatFiles.{exports_well}
+use Rattle.laws_program.proofs.Endings.{exports_well}
 use Rattle.laws_program.proofs.flat.flat_file_of_a_disk.Goals as goal
 
 pub returns : goal.returns

@@ -1,4 +1,4 @@
-use Rattle.laws_program.proofs.Formats.{formats_well}
+use Rattle.laws_program.proofs.Endings.{formats_well}
 use Rattle.laws_program.proofs.format.format_of_a_disk.Goals as goal
 
 pub returns : goal.returns

@@ -1,4 +1,4 @@
-use Rattle.laws_program.proofs.Formats.{formats_dd_well}
+use Rattle.laws_program.proofs.Endings.{formats_dd_well}
 use Rattle.laws_program.proofs.format.formatdd_of_a_disk.Goals as goal
 
 pub returns : goal.returns

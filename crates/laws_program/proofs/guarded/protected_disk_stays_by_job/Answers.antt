@@ -1,4 +1,4 @@
-use Rattle.laws_program.proofs.ProtectedJobs.{job_stays}
+use Rattle.laws_program.proofs.Protected.{job_stays}
 use Rattle.laws_program.proofs.guarded.protected_disk_stays_by_job.Goals as goal
 
 pub returns : goal.returns

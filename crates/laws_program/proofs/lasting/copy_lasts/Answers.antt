@@ -1,4 +1,4 @@
-use Rattle.laws_program.proofs.WholeCommands.{copy_run}
+use Rattle.laws_program.proofs.Endings.{copy_run}
 use Rattle.laws_program.proofs.lasting.copy_lasts.Goals as goal
 
 pub returns : goal.returns

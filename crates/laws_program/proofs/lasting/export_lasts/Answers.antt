@@ -1,4 +1,4 @@
-use Rattle.laws_program.proofs.WholeCommands.{export_run}
+use Rattle.laws_program.proofs.Endings.{export_run}
 use Rattle.laws_program.proofs.lasting.export_lasts.Goals as goal
 
 pub returns : goal.returns

@@ -1,4 +1,4 @@
-use Rattle.laws_program.proofs.WholeCommands.{format_run}
+use Rattle.laws_program.proofs.Endings.{format_run}
 use Rattle.laws_program.proofs.lasting.format_lasts.Goals as goal
 
 pub returns : goal.returns

@@ -1,4 +1,4 @@
-use Rattle.laws_program.proofs.WholeCommands.{formatdd_run}
+use Rattle.laws_program.proofs.Endings.{formatdd_run}
 use Rattle.laws_program.proofs.lasting.formatdd_lasts.Goals as goal
 
 pub returns : goal.returns

@@ -1,4 +1,4 @@
-use Rattle.laws_program.proofs.WholeCommands.{further_run}
+use Rattle.laws_program.proofs.Endings.{further_run}
 use Rattle.laws_program.proofs.lasting.further_rescue_lasts.Goals as goal
 
 pub returns : goal.returns

@@ -1,4 +1,4 @@
-use Rattle.laws_program.proofs.WholeCommands.{import_run}
+use Rattle.laws_program.proofs.Endings.{import_run}
 use Rattle.laws_program.proofs.lasting.import_lasts.Goals as goal
 
 pub returns : goal.returns

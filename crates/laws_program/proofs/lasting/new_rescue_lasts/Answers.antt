@@ -1,4 +1,4 @@
-use Rattle.laws_program.proofs.WholeCommands.{rescue_run}
+use Rattle.laws_program.proofs.Endings.{rescue_run}
 use Rattle.laws_program.proofs.lasting.new_rescue_lasts.Goals as goal
 
 pub returns : goal.returns

@@ -1,4 +1,4 @@
-use Rattle.laws_program.proofs.WholeCommands.{verify_run}
+use Rattle.laws_program.proofs.Endings.{verify_run}
 use Rattle.laws_program.proofs.lasting.verify_lasts.Goals as goal
 
 pub returns : goal.returns

@@ -1,4 +1,4 @@
-use Rattle.laws_program.proofs.Calls.{int13_answers}
+use Rattle.laws_program.proofs.Archives.{int13_answers}
 use Rattle.laws_program.proofs.play.calls_are_answered.Goals as goal
 
 pub returns : goal.returns

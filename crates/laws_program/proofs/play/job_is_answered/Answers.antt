@@ -1,4 +1,4 @@
-use Rattle.laws_program.proofs.Plays.{play_answers}
+use Rattle.laws_program.proofs.Courses.{play_answers}
 use Rattle.laws_program.proofs.play.job_is_answered.Goals as goal
 
 pub returns : goal.returns

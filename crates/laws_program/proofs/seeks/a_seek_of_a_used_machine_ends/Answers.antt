@@ -1,4 +1,4 @@
-use Rattle.laws_program.proofs.UsedMachines.{used_seek_ends, used_seek_in_time, used_recalibrate}
+use Rattle.laws_program.proofs.Fits.{used_seek_ends, used_seek_in_time, used_recalibrate}
 use Rattle.laws_program.proofs.seeks.a_seek_of_a_used_machine_ends.Goals as goal
 
 pub returns-clause-ends : goal.returns-clause-ends

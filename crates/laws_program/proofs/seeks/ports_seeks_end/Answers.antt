@@ -1,4 +1,4 @@
-use Rattle.laws_program.proofs.UsedMachines.{ports_seeks}
+use Rattle.laws_program.proofs.Fits.{ports_seeks}
 use Rattle.laws_program.proofs.seeks.ports_seeks_end.Goals as goal
 
 pub returns : goal.returns

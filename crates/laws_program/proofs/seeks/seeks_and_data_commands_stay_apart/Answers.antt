@@ -1,5 +1,5 @@
 use Rattle.laws_program.proofs.SeekOrData.{goes_apart}
-use Rattle.laws_program.proofs.UsedMachines.{used_apart, idle_apart}
+use Rattle.laws_program.proofs.Fits.{used_apart, idle_apart}
 use Rattle.laws_program.proofs.seeks.seeks_and_data_commands_stay_apart.Goals as goal
 
 pub returns-clause-used : goal.returns-clause-used

@@ -1,4 +1,4 @@
-use Rattle.laws_program.proofs.JobSettled.{job_settled}
+use Rattle.laws_program.proofs.RescueStatus.{job_settled}
 use Rattle.laws_program.proofs.settled.job_answers_are_settled.Goals as goal
 
 pub returns : goal.returns

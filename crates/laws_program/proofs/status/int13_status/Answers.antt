@@ -1,4 +1,4 @@
-use Rattle.laws_program.proofs.CallStatus.{int13_ends}
+use Rattle.laws_program.proofs.Archives.{int13_ends}
 use Rattle.laws_program.proofs.status.int13_status.Goals as goal
 
 pub returns : goal.returns

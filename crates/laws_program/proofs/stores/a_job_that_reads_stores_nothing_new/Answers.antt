@@ -1,4 +1,4 @@
-use Rattle.laws_program.proofs.ReadJobs.{reading_stores}
+use Rattle.laws_program.proofs.JobRuns.{reading_stores}
 use Rattle.laws_program.proofs.stores.a_job_that_reads_stores_nothing_new.Goals as goal
 
 pub returns : goal.returns

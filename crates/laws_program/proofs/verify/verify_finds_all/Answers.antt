@@ -1,4 +1,4 @@
-use Rattle.laws_program.proofs.Verifies.{verifies_all}
+use Rattle.laws_program.proofs.Fits.{verifies_all}
 use Rattle.laws_program.proofs.verify.verify_finds_all.Goals as goal
 
 pub returns : goal.returns
