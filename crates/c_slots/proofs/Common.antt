@@ -4,7 +4,7 @@ pub use Rattle.std.specs.Prelude.{None, Option, Some}
 pub use base.Fml.{flft, fsep, ftrue}
 pub use base.Logic.{SProp, emp, ent}
 pub use contract.Monad.{Fun, fact}
-pub use contract.Running.{tables, tables_of}
+pub use contract.Running.{tables}
 pub use denote.Exit.{no, yes}
 pub use denote.Param.{bounded, layout, param}
 pub use denote.Param.Laws.{param_laws}

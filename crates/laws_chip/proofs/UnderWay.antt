@@ -1,4 +1,5 @@
 -- A command from its beginning to its results.
+pub use Rattle.laws_chip.proofs.Known.{clash, either_way}
 use Rattle.std.proofs.Common.{◌≡◌, inl, inr, ℕ, false, List, ◌++◌, refl, sym, ◌∙◌, Bool, true, ◌==◌, Option, Some, None, ap, subst, suc, ◌<◌, ◌^◌, not, if◌then◌else◌, [], ◌∷◌, bit_and, bit_or, arith, nat_le, ◌&&◌}
 use Rattle.laws_chip.proofs.Common.{AreWithin, Served, Front, Serves, all_bytes, nothing_moved, Operation, Read, Write, Telling, Transfer, Results, SectorCallsBegins as Begins, SectorCallsCall as Call, false≢true, eqb-true, phase_asks, taken_in, taken_out, resets, with_controller, passed_one, Fdc, MovingSector, GivesAt, TakesAt, WritesFront, count_told, told_front, FrontStage, Through, Seeking, Moving, is_under_way, front_reset_if as reset_if, option_map_or, and_parts, and_from, not-false, not-true, seek_bits, is_begun, whole, Invalid, Command, Phase, Taking, TakesAs, is_taking, main_status, phase_bits, takes_in, is_held, is_idle, Lines, lines_at, Commands, CommandsIf, GivesCommand, is_ready, is_ready_at, status_at, is_size, moves_heads, IsFreeBehind, IsOfFour, ReadyCommand as Ready, CommandFormatTrack as FormatTrack, DriveSeek as Seek, FdcObeys as Obeys, Chrn, IsSizeCode, Dor, ReadData, WriteData, WriteDeleted, BeginsData, seeking, is_gated, TakesWhole, AdapterState, BeginsSector, GivesTransfer, Starts, StartsIf, begun_if, moving_of, told_if, command_for, IsFree, BeginsBehind, WaitsForHeads, FrontTransfersIf as TransfersIf, address_words, heard_words, ReadsSector, sector_alone, History, ServesBehind}
 use Rattle.laws_chip.proofs.Called.{calls_serve, passes_of, results_say}
@@ -32,8 +33,6 @@ command_served first start begun end calls results begins are tells =
     }
 
 -- ---- A front whose command is under way, through the calls that don't end it
-
-pub use Rattle.laws_chip.proofs.Known.{clash, either_way}
 
 pub not_through : (front : Front) → is_under_way front.stage ≡ true → front.stage ≡ Through → ⊥
 not_through front under is = false≢true (sym (ap is_under_way is) ∙ under)

@@ -1,9 +1,10 @@
 -- `of_loose` moves two fields, and what they own goes with them.
-use Rattle.c_slots.proofs.Common.{Some, Ura, Val, SProp, ent, emp, ftrue, fsep, Memory, Routine, WpFn, Tables, Logic, Fun, tables, tables_of, WpFn-mono, Item, raw, qed, by, move, drop, use1, join, split, fsplit, fjoin, suffices, done, whole, sub, agg, stop, fld, no_more, and_then, of_opd, returns, enter, alloc_all, pass_all, free_all, look_at, get, get_in, sets, yes, Slot, plain, type_at, nothing, triple_of, entered, says, Stays, stay_dropped, walk_of, ends_at, Goes-dropped, walk_Meets, D, B, word, box_typed, box_out, box_in, controller_row, ghosts}
+use Rattle.c_slots.proofs.Common.{Some, Ura, Val, SProp, ent, emp, ftrue, fsep, Memory, Routine, WpFn, Tables, Logic, Fun, tables, WpFn-mono, Item, raw, qed, by, move, drop, use1, join, split, fsplit, fjoin, suffices, done, whole, sub, agg, stop, fld, no_more, and_then, of_opd, returns, enter, alloc_all, pass_all, free_all, look_at, get, get_in, sets, yes, Slot, plain, type_at, nothing, triple_of, entered, says, Stays, stay_dropped, walk_of, ends_at, Goes-dropped, walk_Meets, D, B, word, box_typed, box_out, box_in, controller_row, ghosts}
 use mathlib.Core.Path.{refl, sym, subst}
 use mathlib.Core.List.{List, [], ◌∷◌, ◌++◌}
 use base.Logic.{id⊢}
 use types.Kit.{‵, ◌⊛◌, ◌$◌, ◌∵◌, ! }
+use contract.Running.{tables_of}
 use Rattle.c_slots.proofs.Rows.{controller_box as E}
 use Rattle.c_slots.specs.contracts.loose.Loose as loose
 use Rattle.std.specs.contracts.alloc.Global as Heap

@@ -1,11 +1,12 @@
 -- Written by tools/slots. Change proofs/controller/held/Held/empty/Proof.antt, of which this is a copy.
 -- `empty` owns nothing beside the handle.
-use Rattle.c_slots.proofs.Common.{None, Ura, w64, Val, vint, vstruct, vcons, vnil, SProp, ent, emp, ftrue, fsep, Memory, Routine, WpFn, Tables, Logic, Fun, tables, tables_of, WpFn-mono, Item, raw, qed, by, move, keep, drop, join, split, fsplit, fjoin, fpack, feq_i, suffices, done, agg, lit, no_more, and_then, returns, enter, alloc_all, pass_all, free_all, look_at, get, sets, yes, RattleType, Valss, null_ptr, plain, nothing, within, shape, to, triple_of, entered, says, Stays, stay_dropped, walk_of, ends_at, Goes-dropped, walk_Meets, α, handle_tells, and_tt}
+use Rattle.c_slots.proofs.Common.{None, Ura, w64, Val, vint, vstruct, vcons, vnil, SProp, ent, emp, ftrue, fsep, Memory, Routine, WpFn, Tables, Logic, Fun, tables, WpFn-mono, Item, raw, qed, by, move, keep, drop, join, split, fsplit, fjoin, fpack, feq_i, suffices, done, agg, lit, no_more, and_then, returns, enter, alloc_all, pass_all, free_all, look_at, get, sets, yes, RattleType, Valss, null_ptr, plain, nothing, within, shape, to, triple_of, entered, says, Stays, stay_dropped, walk_of, ends_at, Goes-dropped, walk_Meets, α, handle_tells, and_tt}
 use mathlib.Core.Path.{refl, sym, subst}
 use mathlib.Core.List.{List, [], ◌∷◌, ◌++◌}
 use lib.Dec.{lit<}
 use types.Kit.{‵, ◌⊛◌, ◌$◌, ◌∵◌, ! }
 use Rattle.std.specs.contracts.alloc.Global as Heap
+use contract.Running.{tables_of}
 use Rattle.c_slots.proofs.Rows.{shelf_box as E}
 use Rattle.c_slots.specs.contracts.shelf.held.Held as held
 use Rattle.c_slots.specs.contracts.shelf.held.Held.empty as F

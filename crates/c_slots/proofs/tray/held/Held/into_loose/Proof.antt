@@ -1,12 +1,13 @@
 -- Written by tools/slots. Change proofs/controller/held/Held/into_loose/Proof.antt, of which this is a copy.
 -- `into_loose` moves two fields, and what they own goes with them.
-use Rattle.c_slots.proofs.Common.{Option, Some, TrayValue, D, word, box_typed, box_out, box_in, Ura, Val, SProp, ent, ftrue, fsep, Memory, Routine, WpFn, Tables, Logic, Fun, fact, tables, tables_of, WpFn-mono, Item, rewrite, raw, qed, by, move, drop, use1, join, split, fsplit, fjoin, suffices, done, whole, sub, agg, stop, fld, no_more, and_then, of_opd, returns, enter, alloc_all, pass_all, free_all, look_at, get, get_in, sets, yes, Slot, plain, type_at, heard, nothing, triple_of, entered, says, Stays, stay_dropped, walk_of, ends_at, Goes-dropped, walk_Meets}
+use Rattle.c_slots.proofs.Common.{Option, Some, TrayValue, D, word, box_typed, box_out, box_in, Ura, Val, SProp, ent, ftrue, fsep, Memory, Routine, WpFn, Tables, Logic, Fun, fact, tables, WpFn-mono, Item, rewrite, raw, qed, by, move, drop, use1, join, split, fsplit, fjoin, suffices, done, whole, sub, agg, stop, fld, no_more, and_then, of_opd, returns, enter, alloc_all, pass_all, free_all, look_at, get, get_in, sets, yes, Slot, plain, type_at, heard, nothing, triple_of, entered, says, Stays, stay_dropped, walk_of, ends_at, Goes-dropped, walk_Meets}
 use Rattle.std.specs.Prelude.{◌≡◌}
 use Rattle.c_slots.specs.contracts.tray.held.Held as held
 use mathlib.Core.Path.{refl, sym, subst}
 use mathlib.Core.List.{List, [], ◌∷◌, ◌++◌}
 use base.Logic.{id⊢}
 use types.Kit.{‵, ◌⊛◌, ◌$◌, ◌∵◌, ! }
+use contract.Running.{tables_of}
 use Rattle.c_slots.proofs.Rows.{tray_box as E}
 use Rattle.c_slots.specs.contracts.tray.held.Held.into_loose as F
 use Rattle.c_slots.specs.contracts.tray.held.Held.into_loose.Key.{name as #self}
