@@ -2,7 +2,6 @@
 files under the same paths."""
 from __future__ import annotations
 
-import asyncio
 import importlib
 import logging
 from collections.abc import Callable, Iterator, Sequence
@@ -76,6 +75,8 @@ def client_of(distributed: Any, scheduler: str) -> Any:
 
 def check_workers(client: Any, scheduler: str) -> None:
     """Refuses a cluster without workers, and one whose workers don't have this package and its library."""
+    # What needs no cluster does without this module, which takes long to load.
+    import asyncio
     try:
         found = client.run(version_there, callback_timeout=WORKERS_TIMEOUT)
     except ModuleNotFoundError as fault:

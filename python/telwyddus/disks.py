@@ -215,16 +215,11 @@ class Disk(Desk):
 
     def verify(self) -> Verification:
         """Reads every sector of its geometry, and says which of them can't be read."""
-        return self.verify_as(self.geometry)
-
-    def verify_as(self, geometry: Geometry) -> Verification:
-        """Reads every sector of a geometry, which may be another one than the diskette's, and says which of them can't be
-        read."""
-        bad = []
+        geometry, bad = self.geometry, []
         for key, refused in zip(geometry.keys(), self.tried(BAY, geometry.keys(), geometry.n)):
             if refused is not None:
                 bad.append(Sector(*key, b"", False, self._state_of(refused)))
-        return Verification(geometry, geometry.length // geometry.size - len(bad), tuple(bad))
+        return Verification(geometry, len(self) - len(bad), tuple(bad))
 
     @staticmethod
     def _state_of(refused: type[Refused]) -> State:

@@ -1,80 +1,85 @@
 """The verify of an image file.
 
-The driver reads the sectors one after the other, and a survey, which finds the geometry of a raw image, takes even longer.
-Both are mostly spared. The export of a flat file reads a whole diskette at once, and refuses one that isn't whole. The
-geometry of a raw image can be told by the marks on its tracks.
+To find the geometry of a raw image by a survey takes longer than to read all its sectors. So the marks on its tracks are
+counted first. If each track has as many as one of the standard geometry, the program `floppy` reads the sectors of this
+geometry. Mostly that is all.
 """
 from __future__ import annotations
 
 from collections.abc import Iterator
 from pathlib import Path
 
-from .codes import OutOfRange, Unfit
-from .disks import Disk, State, Verification
-from .geometry import NAMED, Geometry
-from .images import Image, load
-from .media import Shape, Tray
+from . import files
+from .disks import Disk, Sector, State, Verification
+from .geometry import Geometry
+from .images import CELLS, format_of_bytes, load
+from .machines import Shelf
 
 # Each address field and each data field begins with three marks A1: these cells, at any cell of a track.
 RUN, RUN_BYTES = 0x448944894489, 6
 # How long the header of a raw image is.
 HEADER = 14
+# The sectors of a standard track, by the data rate.
+SECTORS = {500: 18, 250: 9}
+# The exit statuses of `floppy verify`, if it could read the image.
+DONE, SOME_REFUSED = 0, 1
 
 
 def verified(path: Path, named: Geometry | None = None) -> Verification:
     """Reads every sector of an image's geometry, and says which of them can't be read."""
+    if named is None:
+        found = verified_by_program(files.read(path))
+        if found is not None:
+            return found
     image = load(path, named)
-    is_raw = image.geometry is None and bool(image.cells)
-    guess = geometry_by_first_track(image) if is_raw else image.geometry
-    if guess is not None and is_whole(image.tray, guess):
-        return Verification(guess, guess.length // guess.size, ())
-    by_marks = geometry_by_marks(image) if is_raw else None
     with Disk.of(image.tray, image.geometry) as disk:
-        if by_marks is not None:
-            found = disk.verify_as(by_marks)
-            if all(sector.state is State.DAMAGED for sector in found.bad):
-                return found
         return disk.verify()
 
 
-def is_whole(tray: Tray, geometry: Geometry) -> bool:
-    """Whether a medium has all sectors of a geometry, all of them good, and no other sector. If it has, a flat file can
-    hold it."""
-    try:
-        tray.flat_as(*geometry)
-    except (Unfit, OutOfRange):
-        return False
-    return True
-
-
-def geometry_by_first_track(image: Image) -> Geometry | None:
-    """The named geometry for whose sectors the first track of a raw image has two runs of marks, one before the address
-    and one before the data."""
-    shape = image.tray.shape()
-    runs = count_runs(next(tracks_of(shape, image.cells)))
-    for geometry, _ in NAMED.values():
-        is_like = (geometry.cylinders, geometry.heads, geometry.kilobits) == (shape.cylinders, shape.heads, shape.kilobits)
-        if is_like and 2 * geometry.sectors == runs:
-            return geometry
-    return None
-
-
-def geometry_by_marks(image: Image) -> Geometry | None:
-    """The named geometry for whose sectors each track of a raw image has so many runs of marks.
+def verified_by_program(data: bytes) -> Verification | None:
+    """The verify of a raw image of the standard geometry by the program `floppy`; None if it is no such image.
 
     If each sector of this geometry is there, although its data may be damaged, it is the geometry that a survey finds:
-    each run belongs to one of these sectors, so the tracks have no other address field."""
-    guess = geometry_by_first_track(image)
-    if guess is None:
+    each run of marks belongs to one of these sectors, so the tracks have no other address field."""
+    geometry = geometry_by_marks(data)
+    if geometry is None:
         return None
-    is_like = all(count_runs(track) == 2 * guess.sectors for track in tracks_of(image.tray.shape(), image.cells))
-    return guess if is_like else None
+    with Shelf() as shelf:
+        shelf.put("image.rt", data)
+        if shelf.run("verify", "image.rt") not in (DONE, SOME_REFUSED):
+            return None
+        lines = shelf.report().splitlines()
+    bad = tuple(map(sector_of, lines[:-1]))
+    if any(sector.state is not State.DAMAGED for sector in bad):
+        return None
+    return Verification(geometry, geometry.length // geometry.size - len(bad), bad)
 
 
-def tracks_of(shape: Shape, image: bytes) -> Iterator[bytes]:
-    """The cells of each track of a raw image, and once more its first ones, since a run may lie across the index."""
-    length = 2 * shape.words
-    for begin in range(HEADER, HEADER + length * shape.cylinders * shape.heads, length):
+def sector_of(line: str) -> Sector:
+    """The sector of a line that `floppy verify` prints: cylinder, head, number and code of a sector that can't be read."""
+    cylinder, head, number, code = line.split()
+    return Sector(int(cylinder), int(head), int(number), b"", False, State(int(code, 16)))
+
+
+def geometry_by_marks(image: bytes) -> Geometry | None:
+    """The standard geometry of a raw image. It is None if not every track has two runs of marks for each of its sectors,
+    one before the address and one before the data."""
+    if format_of_bytes(image) is not CELLS or len(image) < HEADER:
+        return None
+    _, cylinders, heads, rate = image[8:12]
+    kilobits = 250 if rate == 2 else 500
+    length = 2 * int.from_bytes(image[12:HEADER], "big")
+    if length == 0 or len(image) != HEADER + length * cylinders * heads:
+        return None
+    geometry = Geometry(cylinders, heads, SECTORS[kilobits], 2, kilobits)
+    is_like = all(count_runs(track) == 2 * geometry.sectors for track in tracks_of(image, length))
+    return geometry if is_like else None
+
+
+def tracks_of(image: bytes, length: int) -> Iterator[bytes]:
+    """The cells of each track of a raw image, whose tracks have so many bytes. The first cells come once more at the end,
+    since a run may lie across the index."""
+    for begin in range(HEADER, len(image), length):
         yield image[begin:begin + length] + image[begin:begin + RUN_BYTES]
 
 
