@@ -8,7 +8,7 @@ mod Ranges
 mod DiskRecords
 pub mod Sectors
 pub mod Steps
-mod TrackParts
+pub mod TrackParts
 pub mod Verified
 pub mod VerifyRun
 mod Written
